@@ -1,0 +1,37 @@
+-- One name that opens every rule of this layer and of those below it, for a claim that holds by computation.
+use Rattle.terms.proofs.Opened.{opened as terms-opened}
+use Rattle.lengths.proofs.Opened.{opened as lengths-opened}
+use Rattle.codes.proofs.Opened.{opened as codes-opened}
+use Rattle.points.proofs.Opened.{opened as points-opened}
+use Rattle.records.proofs.Opened.{opened as records-opened}
+use Rattle.arcs.specs.Arcs.{distance², radius², roundEnough, arcHolds, notAbove, notBelow, extremesInside, leftWay, rightWay, arcStays, pathStays, centreFits}
+use Rattle.arcs.specs.Root.{nextRoot, rootBelow}
+use Rattle.arcs.specs.Turning.{direction, cross, dot, left, onLeftWay}
+
+unfoldable pub opened : Unit {0}
+unfolding
+    terms-opened
+    lengths-opened
+    codes-opened
+    points-opened
+    records-opened
+    distance²
+    radius²
+    roundEnough
+    arcHolds
+    notAbove
+    notBelow
+    extremesInside
+    leftWay
+    rightWay
+    arcStays
+    pathStays
+    centreFits
+    nextRoot
+    rootBelow
+    direction
+    cross
+    dot
+    left
+    onLeftWay
+opened = tt

@@ -1,0 +1,85 @@
+-- Document 01, "G02, G03": the radius, the end's tolerance, and the path of an arc in the travel.
+use Prim.Native.Nat.{ℕ, _+_, _-_, _*_}
+use mathlib.Core.Bool.{Bool, true, not, _&&_, _||_}
+use lib.Dec.{leb}
+use lib.IntN.{ℤ, pos, negsuc, _-ℤ_}
+use lib.Signed.{leZ}
+use Rattle.lengths.specs.Units.{len, sq, fitsFour}
+use Rattle.lengths.specs.declared.Len.{Len}
+use Rattle.points.specs.declared.Point.{Point}
+use Rattle.points.specs.declared.Flat.{Flat}
+use Rattle.points.specs.declared.Travel.{Travel}
+use Rattle.points.specs.Points.{flat, inside}
+use Rattle.records.specs.declared.Arc.{Arc}
+use Rattle.records.specs.Path.{Path, straight, clockwise, counter, still}
+use Rattle.arcs.specs.Root.{root}
+use Rattle.arcs.specs.Turning.{direction, onLeftWay}
+
+-- the squared distance of two points of a plane
+unfoldable pub distance² : Flat → Flat → ℕ
+distance² a b = sq (b .first .v -ℤ a .first .v) + sq (b .second .v -ℤ a .second .v)
+
+abbrev pub centreOf : Arc → Flat
+centreOf a = record { first = a .first; second = a .second }
+
+-- the squared start radius of an arc that begins at a point
+unfoldable pub radius² : Point → Arc → ℕ
+radius² from a = distance² (centreOf a) (flat (a .plane) from)
+
+-- "r under 2,000 is refused (H), and so is an end whose squared distance from the centre is under (r − 1,000)² or over
+-- (r + 1,000)² (H)."
+unfoldable pub roundEnough : ℕ → ℕ → Bool
+roundEnough r end² = leb 2_000 r && leb ((r - 1_000) * (r - 1_000)) end² && leb end² ((r + 1_000) * (r + 1_000))
+
+unfoldable pub arcHolds : Point → Arc → Bool
+arcHolds from a = roundEnough (root (radius² from a)) (distance² (centreOf a) (flat (a .plane) (a .end)))
+
+-- The circle's extreme on an axis is its centre plus or minus the root of the squared radius. It is inside where that
+-- is not past the travel's end on its side: compared exactly, by squares.
+unfoldable pub notAbove : Len → ℕ → Len → Bool
+notAbove centre q high = leZ (centre .v) (high .v) && leb q (sq (high .v -ℤ centre .v))
+
+unfoldable pub notBelow : Len → ℕ → Len → Bool
+notBelow centre q low = leZ (low .v) (centre .v) && leb q (sq (centre .v -ℤ low .v))
+
+-- the four axis directions
+abbrev pub towards : ℤ → ℤ → Flat
+towards a b = record { first = len a; second = len b }
+
+-- "each of the four axis extremes whose direction lies on the path, ends counted, is inside": `on` tells the directions
+unfoldable pub extremesInside : (Flat → Bool) → Flat → ℕ → Flat → Flat → Bool
+extremesInside on centre q low high =
+    (not (on (towards (pos 1) (pos 0))) || notAbove (centre .first) q (high .first))
+    && (not (on (towards (pos 0) (pos 1))) || notAbove (centre .second) q (high .second))
+    && (not (on (towards (negsuc 0) (pos 0))) || notBelow (centre .first) q (low .first))
+    && (not (on (towards (pos 0) (negsuc 0))) || notBelow (centre .second) q (low .second))
+
+-- The directions of the path: "G03 turns from the plane's first axis to its second, G02 the other way." "The path is the
+-- start's circle from the start's direction to the end's".
+unfoldable pub leftWay : Point → Arc → Flat → Bool
+leftWay from a =
+    onLeftWay (direction (centreOf a) (flat (a .plane) from)) (direction (centreOf a) (flat (a .plane) (a .end)))
+
+unfoldable pub rightWay : Point → Arc → Flat → Bool
+rightWay from a =
+    onLeftWay (direction (centreOf a) (flat (a .plane) (a .end))) (direction (centreOf a) (flat (a .plane) from))
+
+-- "In the travel means: the end is inside, and each of the four axis extremes .. is inside."
+unfoldable pub arcStays : (Point → Arc → Flat → Bool) → Travel → Point → Arc → Bool
+arcStays path t from a =
+    inside t (a .end)
+    && extremesInside (path from a) (centreOf a) (radius² from a) (flat (a .plane) (t .low)) (flat (a .plane) (t .high))
+
+-- A path that begins at a point stays in the travel.
+unfoldable pub pathStays : Travel → Point → Path → Bool
+pathStays t from (straight p) = inside t p
+pathStays t from (clockwise a) = arcStays rightWay t from a
+pathStays t from (counter a) = arcStays leftWay t from a
+pathStays t from still = true
+
+-- "Arc centre does not fit four signed bytes", where the path is in machine units
+unfoldable pub centreFits : Path → Bool
+centreFits (straight p) = true
+centreFits (clockwise a) = fitsFour (a .first .v) && fitsFour (a .second .v)
+centreFits (counter a) = fitsFour (a .first .v) && fitsFour (a .second .v)
+centreFits still = true

@@ -1,0 +1,86 @@
+-- One name that opens every rule of this layer and of those below it, for a claim that holds by computation.
+use Rattle.terms.proofs.Opened.{opened as terms-opened}
+use Rattle.lengths.proofs.Opened.{opened as lengths-opened}
+use Rattle.codes.proofs.Opened.{opened as codes-opened}
+use Rattle.words.proofs.Opened.{opened as words-opened}
+use Rattle.points.proofs.Opened.{opened as points-opened}
+use Rattle.records.proofs.Opened.{opened as records-opened}
+use Rattle.settings.proofs.Opened.{opened as settings-opened}
+use Rattle.arcs.proofs.Opened.{opened as arcs-opened}
+use Rattle.cycles.proofs.Opened.{opened as cycles-opened}
+use Rattle.blocks.specs.Exec.{saidBy, set, spindleRecords, movesIn, lastRecords, madeBy, settled, controlOf, atWord, lacksCentre, lacksParameter, isG17, drills, cannotDrill, pathStaysIn, allFit, callTo, unknownCall, tooDeep, blames, unless, judged, execWords, exec}
+use Rattle.blocks.specs.Letters.{isKnown, codeIn, miscIn, standsAlone, wrongProgram, repeats, badG, badM, mayNotStand, firstThatMayNot, miscOrOther, miscOfBlock, modesIn, namesGroupA, namesG04, blockCode, arcLetters, motionLetters, lettersOf, useOf, isNothing, firstUnused, wordValue, isBad, firstBadValue, givenBy, givenIn, valuesOf}
+use Rattle.blocks.specs.Motions.{given, centreWords, arcFor, arcMoves, cycleDone, cycleMoves, motionOf, movesOf}
+
+unfoldable pub opened : Unit {0}
+unfolding
+    terms-opened
+    lengths-opened
+    codes-opened
+    words-opened
+    points-opened
+    records-opened
+    settings-opened
+    arcs-opened
+    cycles-opened
+    saidBy
+    set
+    spindleRecords
+    movesIn
+    lastRecords
+    madeBy
+    settled
+    controlOf
+    atWord
+    lacksCentre
+    lacksParameter
+    isG17
+    drills
+    cannotDrill
+    pathStaysIn
+    allFit
+    callTo
+    unknownCall
+    tooDeep
+    blames
+    unless
+    judged
+    execWords
+    exec
+    isKnown
+    codeIn
+    miscIn
+    standsAlone
+    wrongProgram
+    repeats
+    badG
+    badM
+    mayNotStand
+    firstThatMayNot
+    miscOrOther
+    miscOfBlock
+    modesIn
+    namesGroupA
+    namesG04
+    blockCode
+    arcLetters
+    motionLetters
+    lettersOf
+    useOf
+    isNothing
+    firstUnused
+    wordValue
+    isBad
+    firstBadValue
+    givenBy
+    givenIn
+    valuesOf
+    given
+    centreWords
+    arcFor
+    arcMoves
+    cycleDone
+    cycleMoves
+    motionOf
+    movesOf
+opened = tt

@@ -1,0 +1,241 @@
+-- What one block does: the order of its refusals, and its effects in their order.
+use Prim.Native.Nat.{ℕ}
+use mathlib.Core.Bool.{Bool, true, false, not, _&&_, _||_}
+use mathlib.Core.Option.{Option, none, some}
+use mathlib.Core.List.{List, [], _∷_, _++_}
+use lib.Dec.{eqb, ltb}
+use lib.IntN.{natAbs}
+use Rattle.terms.specs.Terms.{if_then_else_, firstOf, when}
+use Rattle.refusals.specs.declared.Refusal.{Refusal}
+use Rattle.refusals.specs.declared.Refusal.the-variants.{
+  BadParameter,
+  AddressUndefined,
+  ParameterUndefined,
+  CannotExecute,
+  NumberNotFound,
+  NestOver,
+  LeavesTravel,
+  NoRoom,
+  Unreadable,
+  CentreTooFar,
+}
+use Rattle.codes.specs.declared.Misc.{Misc}
+use Rattle.codes.specs.declared.Motion.{Motion}
+use Rattle.codes.specs.declared.Motion.the-variants.{Off, G00, G01, G02, G03, Drilling}
+use Rattle.codes.specs.declared.Plane.{Plane}
+use Rattle.codes.specs.declared.Plane.the-variants.{G17, G18, G19}
+use Rattle.codes.specs.Codes.{isM, endsProgram}
+use Rattle.words.specs.declared.Word.{Word}
+use Rattle.words.specs.declared.Values.{Values}
+use Rattle.words.specs.Words.{Words, these, badAt, wordsOf}
+use Rattle.points.specs.declared.Point.{Point}
+use Rattle.records.specs.declared.Record.{Record}
+use Rattle.records.specs.declared.Record.the-variants.{SP, SO, PA, EN}
+use Rattle.records.specs.Layout.{roomOf}
+use Rattle.records.specs.Path.{pathOf, pathEnd, endOf}
+use Rattle.settings.specs.declared.Modes.{Modes}
+use Rattle.settings.specs.declared.State.{State}
+use Rattle.settings.specs.Settings.{orElse}
+use Rattle.blocks.specs.Machine.{Machine}
+use Rattle.blocks.specs.Letters.{
+  firstThatMayNot,
+  firstUnused,
+  firstBadValue,
+  miscOfBlock,
+  modesIn,
+  namesGroupA,
+  blockCode,
+  valuesOf,
+}
+use Rattle.blocks.specs.Motions.{Moves, given, endStands, centreStands, cycleDone, zeroElse, movesOf}
+use Rattle.blocks.specs.declared.BlockCode.{BlockCode}
+use Rattle.blocks.specs.declared.BlockCode.the-variants.{Calling, Returning, Dwelling, Moving}
+use Rattle.blocks.specs.declared.Control.{Control}
+use Rattle.blocks.specs.declared.Control.the-variants.{On, Call, Back, Stop}
+
+-- A block that reads as words, with all that they say: the modes that hold in it, its code, M code and values.
+pub record Said : Type 0 where
+  pub words : List Word
+  pub modes : Modes
+  pub code : BlockCode
+  pub misc : Misc
+  pub named : Bool
+  pub values : Values
+
+unfoldable pub saidBy : Machine → Modes → List Word → Said
+saidBy machine before ws =
+    let m = modesIn before ws in
+    record {
+      words = ws;
+      modes = m;
+      code = blockCode m ws;
+      misc = miscOfBlock ws;
+      named = namesGroupA ws;
+      values = valuesOf machine m (blockCode m ws) ws;
+    }
+
+-- "Effects in order: groups B to F, the F word, S, M03, motion or dwell, M05, M00, M02 or M30."
+
+-- the settings in which the block moves: after groups A to F, the F word, S and M03
+unfoldable pub set : State → Said → State
+set s b =
+    record {
+      at = s .at;
+      modes = b .modes;
+      feed = orElse (b .values .f) (s .feed);
+      speed = orElse (b .values .s) (s .speed);
+      turning = s .turning || isM 3 (b .misc);
+    }
+
+-- "S with the spindle turning, or M03, writes one spindle record"
+unfoldable pub spindleRecords : State → Said → List Record
+spindleRecords s b =
+    if s .turning && given (b .values .s) || isM 3 (b .misc) then SP (set s b .speed) ∷ [] else []
+
+unfoldable pub movesIn : Machine → State → Said → Moves
+movesIn machine s b = movesOf (b .code) (b .named) (set s b) (machine .origin (b .modes .origin)) (b .values)
+
+-- "M05 always writes `SO`"
+unfoldable pub lastRecords : Misc → List Record
+lastRecords m =
+    if isM 5 m then SO ∷ []
+    else if isM 0 m then PA ∷ []
+    else if endsProgram m then EN ∷ []
+    else []
+
+unfoldable pub madeBy : Machine → State → Said → List Record
+madeBy machine s b = spindleRecords s b ++ movesIn machine s b .records ++ lastRecords (b .misc)
+
+-- the settings after the block: the tool is where its records end
+unfoldable pub settled : Machine → State → Said → State
+settled machine s b =
+    record {
+      at = endOf (s .at) (madeBy machine s b);
+      modes = b .modes;
+      feed = set s b .feed;
+      speed = set s b .speed;
+      turning = set s b .turning && not (isM 5 (b .misc));
+    }
+
+unfoldable pub controlOf : Said → Control
+controlOf b =
+    if isM 98 (b .misc) then Call (natAbs (zeroElse (b .values .p) .v))
+    else if isM 99 (b .misc) then Back
+    else if endsProgram (b .misc) then Stop
+    else On
+
+-- "Order: .. 15 leftmost; 4 leftmost ..; 2 leftmost; 1 leftmost by value; 3; 5; 6; 4 for a cycle ..; 1 by geometry; 16;
+-- 9; 10." Each names a word's letter, else the block's first byte.
+pub record Blame : Type 0 where
+  pub refusal : Refusal
+  pub byte : ℕ
+
+unfoldable pub atWord : Refusal → Option Word → Option Blame
+atWord refusal none = none
+atWord refusal (some w) = some (record { refusal = refusal; byte = w .at })
+
+-- "3: G04 or M98 without P; an arc with an end but no centre word"
+unfoldable pub lacksCentre : Motion → Values → Bool
+lacksCentre Off v = false
+lacksCentre G00 v = false
+lacksCentre G01 v = false
+lacksCentre G02 v = endStands v && not (centreStands v)
+lacksCentre G03 v = endStands v && not (centreStands v)
+lacksCentre (Drilling cycle) v = false
+
+unfoldable pub lacksParameter : BlockCode → Values → Bool
+lacksParameter Calling v = not (given (v .p))
+lacksParameter Returning v = false
+lacksParameter Dwelling v = not (given (v .p))
+lacksParameter (Moving motion) v = lacksCentre motion v
+
+-- "4 for a cycle outside G17 or with the spindle off (K0 too; the block's M03 counts)"
+unfoldable pub isG17 : Plane → Bool
+isG17 G17 = true
+isG17 G18 = false
+isG17 G19 = false
+
+unfoldable pub drills : BlockCode → Bool → Values → Bool
+drills Calling named v = false
+drills Returning named v = false
+drills Dwelling named v = false
+drills (Moving Off) named v = false
+drills (Moving G00) named v = false
+drills (Moving G01) named v = false
+drills (Moving G02) named v = false
+drills (Moving G03) named v = false
+drills (Moving (Drilling cycle)) named v = cycleDone named v
+
+unfoldable pub cannotDrill : State → Said → Bool
+cannotDrill s b = drills (b .code) (b .named) (b .values) && (not (isG17 (b .modes .plane)) || not (set s b .turning))
+
+-- "9: Path leaves the travel": the records' path begins where the tool is
+unfoldable pub pathStaysIn : (Point → Record → Bool) → Point → List Record → Bool
+pathStaysIn stays from [] = true
+pathStaysIn stays from (r ∷ rs) = stays from r && pathStaysIn stays (pathEnd from (pathOf r)) rs
+
+unfoldable pub allFit : (Record → Bool) → List Record → Bool
+allFit fits [] = true
+allFit fits (r ∷ rs) = fits r && allFit fits rs
+
+-- What the block is in: the levels left for calls, of which the main has four, and the numbers that can be called.
+pub record Calls : Type 0 where
+  pub left : ℕ
+  pub known : ℕ → Bool
+
+abbrev pub inMain : Calls → Bool
+inMain calls = eqb (calls .left) 4
+
+unfoldable pub callTo : Control → Option ℕ
+callTo On = none
+callTo (Call n) = some n
+callTo Back = none
+callTo Stop = none
+
+unfoldable pub unknownCall : Calls → Option ℕ → Bool
+unknownCall calls none = false
+unknownCall calls (some n) = not (calls .known n)
+
+unfoldable pub tooDeep : Calls → Option ℕ → Bool
+tooDeep calls none = false
+tooDeep calls (some n) = eqb (calls .left) 0
+
+unfoldable pub blames : Machine → Calls → ℕ → State → ℕ → Said → List (Option Blame)
+blames machine calls room s start b =
+    let here : Refusal → Bool → Option Blame =
+    λ refusal test. when test (record { refusal = refusal; byte = start }) in
+    atWord CannotExecute (firstThatMayNot (inMain calls) [] (b .words))
+    ∷ atWord AddressUndefined (firstUnused (b .code) (b .modes .plane) (b .words))
+    ∷ atWord BadParameter (firstBadValue machine (b .modes) (b .code) (b .words))
+    ∷ here ParameterUndefined (lacksParameter (b .code) (b .values))
+    ∷ here NumberNotFound (unknownCall calls (callTo (controlOf b)))
+    ∷ here NestOver (tooDeep calls (callTo (controlOf b)))
+    ∷ here CannotExecute (cannotDrill s b)
+    ∷ here BadParameter (not (movesIn machine s b .sound))
+    ∷ here CentreTooFar (not (allFit (machine .fits) (madeBy machine s b)))
+    ∷ here LeavesTravel (not (pathStaysIn (machine .stays) (s .at) (madeBy machine s b)))
+    ∷ here NoRoom (ltb room (roomOf (madeBy machine s b)))
+    ∷ []
+
+-- The verdict on a block: refused, which changes nothing and adds nothing, or accepted with its next settings, where the
+-- run goes, and its records.
+pub data Verdict : Type 0 where
+  refused : Blame → Verdict
+  accepted : State → Control → List Record → Verdict
+
+unfoldable pub unless : Option Blame → Verdict → Verdict
+unless none verdict = verdict
+unless (some blame) verdict = refused blame
+
+unfoldable pub judged : Machine → Calls → ℕ → State → ℕ → Said → Verdict
+judged machine calls room s start b =
+    unless (firstOf (blames machine calls room s start b))
+    (accepted (settled machine s b) (controlOf b) (madeBy machine s b))
+
+unfoldable pub execWords : Machine → Calls → ℕ → State → ℕ → Words → Verdict
+execWords machine calls room s start (badAt at) = refused (record { refusal = Unreadable; byte = at })
+execWords machine calls room s start (these ws) = judged machine calls room s start (saidBy machine (s .modes) ws)
+
+-- A block whose first byte is at `start` and whose words begin at the byte `at` with the bytes of `text`.
+unfoldable pub exec : Machine → Calls → ℕ → State → ℕ → ℕ → List ℕ → Verdict
+exec machine calls room s start at text = execWords machine calls room s start (wordsOf at text)

@@ -1,0 +1,201 @@
+-- Document 01, "Codes" and "The sixteen refusals": which words may stand in a block, what they mean there, and the
+-- refusals 4, 2 and 1 that name a word.
+use Prim.Native.Nat.{ℕ}
+use mathlib.Core.Bool.{Bool, true, false, not, _&&_, _||_}
+use mathlib.Core.Option.{Option, none, some}
+use mathlib.Core.List.{List, [], _∷_, _++_, map}
+use lib.Dec.{eqb}
+use Rattle.terms.specs.Terms.{if_then_else_, byte, bytes, any, first, lookup}
+use Rattle.codes.specs.declared.Cycle.the-variants.{G81, G82, G85, G89}
+use Rattle.codes.specs.declared.Motion.{Motion}
+use Rattle.codes.specs.declared.Motion.the-variants.{Off, G00, G01, G02, G03, Drilling}
+use Rattle.codes.specs.declared.Plane.{Plane}
+use Rattle.codes.specs.declared.Plane.the-variants.{G17, G18, G19}
+use Rattle.codes.specs.declared.Code.{Code}
+use Rattle.codes.specs.declared.Code.the-variants.{Unknown}
+use Rattle.codes.specs.declared.Misc.{Misc}
+use Rattle.codes.specs.declared.Misc.the-variants.{Other}
+use Rattle.codes.specs.Codes.{codeOf, miscOf, groupOf, isGroupA, isG04, clash, isM, isNoM, endsProgram}
+use Rattle.words.specs.declared.Word.{Word}
+use Rattle.words.specs.declared.Use.{Use}
+use Rattle.words.specs.declared.Use.the-variants.{Nothing, Codes, Label, Program, Length, Feed, Speed, Dwell, Count}
+use Rattle.words.specs.declared.Value.{Value}
+use Rattle.words.specs.declared.Value.the-variants.{Fit, Bad}
+use Rattle.words.specs.declared.Given.{Given}
+use Rattle.words.specs.declared.Given.the-variants.{Is, Missing}
+use Rattle.words.specs.declared.Values.{Values}
+use Rattle.words.specs.Values.{isPlain, valueOf}
+use Rattle.settings.specs.declared.Modes.{Modes}
+use Rattle.settings.specs.Settings.{switched}
+use Rattle.blocks.specs.Machine.{Machine}
+use Rattle.blocks.specs.declared.BlockCode.{BlockCode}
+use Rattle.blocks.specs.declared.BlockCode.the-variants.{Calling, Returning, Dwelling, Moving}
+
+-- the letters that words are made of, all others being unknown
+unfoldable pub isKnown : ℕ → Bool
+isKnown letter = any (eqb letter) (bytes "FGIJKMNPRSXYZ")
+
+abbrev pub isG : Word → Bool
+isG w = eqb (w .letter) (byte "G")
+
+abbrev pub isMisc : Word → Bool
+isMisc w = eqb (w .letter) (byte "M")
+
+-- "A G or M that breaks this is an unknown code (4)"; "`G1` is `G01`": the code is the number's value
+unfoldable pub codeIn : Word → Code
+codeIn w = if isPlain (w .number) then codeOf (w .number .digits) else Unknown
+
+unfoldable pub miscIn : Word → Misc
+miscIn w = if isPlain (w .number) then miscOf (w .number .digits) else Other
+
+-- "M98 P: .. its block has only N and P besides. M99: returns; only N besides."
+unfoldable pub standsAlone : Misc → Bool
+standsAlone m = isM 98 m || isM 99 m
+
+-- "M99 in the main, M02 or M30 in a subprogram: refusal 4."
+unfoldable pub wrongProgram : Bool → Misc → Bool
+wrongProgram inMain m = if inMain then isM 99 m else endsProgram m
+
+-- "4 leftmost for unknown or repeated letters (not G) and codes that may not stand", "the later of two that clash": what
+-- is wrong with a word, given the words before it
+unfoldable pub repeats : List Word → Word → Bool
+repeats before w = not (isG w) && any (λ e. eqb (e .letter) (w .letter)) before
+
+unfoldable pub badG : List Word → Word → Bool
+badG before w =
+    eqb (groupOf (codeIn w)) 0
+    || any (λ e. isG e && clash (codeIn e) (codeIn w)) before
+    || any (λ e. isMisc e && standsAlone (miscIn e)) before
+
+unfoldable pub badM : Bool → List Word → Word → Bool
+badM inMain before w =
+    isNoM (miscIn w) || wrongProgram inMain (miscIn w) || standsAlone (miscIn w) && any isG before
+
+unfoldable pub mayNotStand : Bool → List Word → Word → Bool
+mayNotStand inMain before w =
+    not (isKnown (w .letter)) || repeats before w || isG w && badG before w || isMisc w && badM inMain before w
+
+unfoldable pub firstThatMayNot : Bool → List Word → List Word → Option Word
+firstThatMayNot inMain before [] = none
+firstThatMayNot inMain before (w ∷ ws) =
+    if mayNotStand inMain before w then some w else firstThatMayNot inMain (w ∷ before) ws
+
+-- the M code of a block, Other where it has none
+unfoldable pub miscOrOther : Option Word → Misc
+miscOrOther none = Other
+miscOrOther (some w) = miscIn w
+
+unfoldable pub miscOfBlock : List Word → Misc
+miscOfBlock ws = miscOrOther (first isMisc ws)
+
+-- the codes of groups A to F that the block names are on in it
+unfoldable pub modesIn : Modes → List Word → Modes
+modesIn m [] = m
+modesIn m (w ∷ ws) = modesIn (if isG w then switched m (codeIn w) else m) ws
+
+unfoldable pub namesGroupA : List Word → Bool
+namesGroupA ws = any (λ w. isG w && isGroupA (codeIn w)) ws
+
+unfoldable pub namesG04 : List Word → Bool
+namesG04 ws = any (λ w. isG w && isG04 (codeIn w)) ws
+
+-- "A block's code, which decides its letters, is M98, M99 or G04, else the group A code named or on"
+unfoldable pub blockCode : Modes → List Word → BlockCode
+blockCode m ws =
+    if isM 98 (miscOfBlock ws) then Calling
+    else if isM 99 (miscOfBlock ws) then Returning
+    else if namesG04 ws then Dwelling
+    else Moving (m .motion)
+
+-- letters with one use
+abbrev pub each : List ℕ → Use → List (ℕ × Use)
+each letters use′ = map (λ letter. (letter, use′)) letters
+
+-- "end as in G01 on the plane's two axes, centre by its distance from the start in the plane's letters (I J for G17, K I
+-- for G18 as Z then X, J K for G19)"
+unfoldable pub arcLetters : Plane → List (ℕ × Use)
+arcLetters G17 = each (bytes "XYIJ") Length
+arcLetters G18 = each (bytes "ZXKI") Length
+arcLetters G19 = each (bytes "YZJK") Length
+
+-- "Cycles use X Y Z R K, and P in G82 and G89 only."
+abbrev pub cycleLetters : List (ℕ × Use)
+cycleLetters = (byte "K", Count) ∷ each (bytes "XYZR") Length
+
+unfoldable pub motionLetters : Motion → Plane → List (ℕ × Use)
+motionLetters Off plane = []
+motionLetters G00 plane = each (bytes "XYZ") Length
+motionLetters G01 plane = each (bytes "XYZ") Length
+motionLetters G02 plane = arcLetters plane
+motionLetters G03 plane = arcLetters plane
+motionLetters (Drilling G81) plane = cycleLetters
+motionLetters (Drilling G82) plane = (byte "P", Dwell) ∷ cycleLetters
+motionLetters (Drilling G85) plane = cycleLetters
+motionLetters (Drilling G89) plane = (byte "P", Dwell) ∷ cycleLetters
+
+-- "F and S go with all but M98 and M99."
+abbrev pub feedAndSpeed : List (ℕ × Use)
+feedAndSpeed = (byte "F", Feed) ∷ (byte "S", Speed) ∷ []
+
+unfoldable pub lettersOf : BlockCode → Plane → List (ℕ × Use)
+lettersOf Calling plane = (byte "P", Program) ∷ []
+lettersOf Returning plane = []
+lettersOf Dwelling plane = (byte "P", Dwell) ∷ feedAndSpeed
+lettersOf (Moving motion) plane = feedAndSpeed ++ motionLetters motion plane
+
+-- what a letter means in a block; N goes with every block, and G and M are the codes themselves
+unfoldable pub useOf : BlockCode → Plane → ℕ → Use
+useOf code plane letter =
+    lookup letter ((byte "N", Label) ∷ (byte "G", Codes) ∷ (byte "M", Codes) ∷ lettersOf code plane) Nothing
+
+unfoldable pub isNothing : Use → Bool
+isNothing Nothing = true
+isNothing Codes = false
+isNothing Label = false
+isNothing Program = false
+isNothing Length = false
+isNothing Feed = false
+isNothing Speed = false
+isNothing Dwell = false
+isNothing Count = false
+
+-- "2 leftmost"
+unfoldable pub firstUnused : BlockCode → Plane → List Word → Option Word
+firstUnused code plane ws = first (λ w. isNothing (useOf code plane (w .letter))) ws
+
+-- "1 leftmost by value"
+unfoldable pub wordValue : Machine → Modes → BlockCode → Word → Value
+wordValue machine m code w =
+    valueOf (m .unit) (machine .lowest) (machine .highest) (useOf code (m .plane) (w .letter)) (w .number)
+
+unfoldable pub isBad : Value → Bool
+isBad (Fit v) = false
+isBad Bad = true
+
+unfoldable pub firstBadValue : Machine → Modes → BlockCode → List Word → Option Word
+firstBadValue machine m code ws = first (λ w. isBad (wordValue machine m code w)) ws
+
+-- the values of the block's words
+unfoldable pub givenBy : Value → Given
+givenBy (Fit v) = Is v
+givenBy Bad = Missing
+
+unfoldable pub givenIn : Machine → Modes → BlockCode → Option Word → Given
+givenIn machine m code none = Missing
+givenIn machine m code (some w) = givenBy (wordValue machine m code w)
+
+unfoldable pub valuesOf : Machine → Modes → BlockCode → List Word → Values
+valuesOf machine m code ws =
+    let given : ℕ → Given = λ letter. givenIn machine m code (first (λ w. eqb (w .letter) letter) ws) in
+    record {
+      x = given (byte "X");
+      y = given (byte "Y");
+      z = given (byte "Z");
+      i = given (byte "I");
+      j = given (byte "J");
+      k = given (byte "K");
+      r = given (byte "R");
+      p = given (byte "P");
+      f = given (byte "F");
+      s = given (byte "S");
+    }

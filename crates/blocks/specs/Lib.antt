@@ -1,0 +1,4 @@
+pub mod Machine
+pub mod Letters
+pub mod Motions
+pub mod Exec

@@ -1,0 +1,34 @@
+-- One name that opens every rule of this layer and of those below it, for a claim that holds by computation.
+use Rattle.terms.proofs.Opened.{opened as terms-opened}
+use Rattle.lengths.proofs.Opened.{opened as lengths-opened}
+use Rattle.codes.proofs.Opened.{opened as codes-opened}
+use Rattle.words.proofs.Opened.{opened as words-opened}
+use Rattle.points.proofs.Opened.{opened as points-opened}
+use Rattle.records.proofs.Opened.{opened as records-opened}
+use Rattle.settings.proofs.Opened.{opened as settings-opened}
+use Rattle.cycles.specs.Cycles.{levelR, levelZ, holeOf, notOver, levelsHold, levelFor, returnLevel, dwelling, upUnder, leaving, passTo, passesAt, passCount, passes}
+
+unfoldable pub opened : Unit {0}
+unfolding
+    terms-opened
+    lengths-opened
+    codes-opened
+    words-opened
+    points-opened
+    records-opened
+    settings-opened
+    levelR
+    levelZ
+    holeOf
+    notOver
+    levelsHold
+    levelFor
+    returnLevel
+    dwelling
+    upUnder
+    leaving
+    passTo
+    passesAt
+    passCount
+    passes
+opened = tt

@@ -1,0 +1,100 @@
+-- Document 01, "Cycles": the levels and the passes.
+use Prim.Native.Nat.{ℕ, zero, suc}
+use mathlib.Core.Bool.{Bool, true, _&&_}
+use mathlib.Core.List.{List, [], _∷_, _++_}
+use lib.IntN.{natAbs}
+use lib.Signed.{leZ}
+use Rattle.lengths.specs.declared.Len.{Len}
+use Rattle.codes.specs.declared.Cycle.{Cycle}
+use Rattle.codes.specs.declared.Cycle.the-variants.{G81, G82, G85, G89}
+use Rattle.codes.specs.declared.Return.{Return}
+use Rattle.codes.specs.declared.Return.the-variants.{ToInitial, ToR}
+use Rattle.codes.specs.declared.Distance.{Distance}
+use Rattle.words.specs.declared.Given.{Given}
+use Rattle.words.specs.declared.Given.the-variants.{Is, Missing}
+use Rattle.words.specs.declared.Values.{Values}
+use Rattle.points.specs.declared.Point.{Point}
+use Rattle.points.specs.Points.{atHeight}
+use Rattle.records.specs.declared.Record.{Record}
+use Rattle.records.specs.declared.Record.the-variants.{RP, LN, DW}
+use Rattle.settings.specs.declared.State.{State}
+use Rattle.settings.specs.Target.{aimed, target}
+use Rattle.cycles.specs.declared.Hole.{Hole}
+
+-- "The initial level is Z at the block's start". "Missing R is the initial level. In G91, R counts from the initial level,
+-- Z from R": R leads from the initial level, and Z from R, as a word of a straight move does.
+unfoldable pub levelR : Distance → Point → Point → Values → Len
+levelR d origin now v = aimed d (origin .z) (now .z) (v .r)
+
+unfoldable pub levelZ : Distance → Point → Len → Given → Given
+levelZ d origin r Missing = Missing
+levelZ d origin r (Is z) = Is (aimed d (origin .z) r (Is z))
+
+unfoldable pub holeOf : Cycle → State → Point → Values → Hole
+holeOf cycle s origin v =
+    let r = levelR (s .modes .distance) origin (s .at) v in
+    record {
+      cycle = cycle;
+      back = s .modes .back;
+      initial = s .at .z;
+      r = r;
+      z = levelZ (s .modes .distance) origin r (v .z);
+      dwell = v .p;
+      feed = s .feed;
+    }
+
+-- "Z above R or R above the initial level is refused."
+unfoldable pub notOver : Given → Len → Bool
+notOver Missing r = true
+notOver (Is z) r = leZ (z .v) (r .v)
+
+unfoldable pub levelsHold : Hole → Bool
+levelsHold h = notOver (h .z) (h .r) && leZ (h .r .v) (h .initial .v)
+
+-- "the return level is that (G98) or R (G99)."
+unfoldable pub levelFor : Return → Hole → Len
+levelFor ToInitial h = h .initial
+levelFor ToR h = h .r
+
+unfoldable pub returnLevel : Hole → Len
+returnLevel h = levelFor (h .back) h
+
+-- "dwell for G82 and G89 where P stands": the other cycles do not take a P
+unfoldable pub dwelling : Given → List Record
+dwelling Missing = []
+dwelling (Is ms) = DW ms ∷ []
+
+-- "and, under G98, rapid to the initial level"
+unfoldable pub upUnder : Return → Hole → Point → List Record
+upUnder ToInitial h p = RP (atHeight p (h .initial)) ∷ []
+upUnder ToR h p = []
+
+-- "then G81 and G82 rapid to the return level, G85 and G89 cut to R and, under G98, rapid to the initial level."
+unfoldable pub leaving : Cycle → Hole → Point → List Record
+leaving G81 h p = RP (atHeight p (returnLevel h)) ∷ []
+leaving G82 h p = RP (atHeight p (returnLevel h)) ∷ []
+leaving G85 h p = LN (atHeight p (h .r)) (h .feed) ∷ upUnder (h .back) h p
+leaving G89 h p = LN (atHeight p (h .r)) (h .feed) ∷ upUnder (h .back) h p
+
+-- One pass at X, Y of a point, which comes at a level. "Without Z each pass is a rapid to X, Y at the initial level."
+-- "With Z each pass: rapid to X, Y ..; then rapid to R, cut to Z, dwell .., then .."
+unfoldable pub passTo : Given → Hole → Len → Point → List Record
+passTo Missing h level p = RP (atHeight p (h .initial)) ∷ []
+passTo (Is z) h level p =
+    RP (atHeight p level) ∷ RP (atHeight p (h .r)) ∷ LN (atHeight p z) (h .feed) ∷ dwelling (h .dwell)
+    ++ leaving (h .cycle) h p
+
+-- "X, Y are added at each pass": each pass leads on from X, Y of the one before. "rapid to X, Y at the initial level in
+-- the first pass, at the return level after".
+unfoldable pub passesAt : ℕ → Hole → (Point → Point) → Len → Point → List Record
+passesAt zero h next level p = []
+passesAt (suc k) h next level p =
+    passTo (h .z) h level (next p) ++ passesAt k h next (returnLevel h) (next p)
+
+-- "K: missing 1"
+unfoldable pub passCount : Given → ℕ
+passCount Missing = 1
+passCount (Is k) = natAbs (k .v)
+
+unfoldable pub passes : Hole → Distance → Point → Point → Values → List Record
+passes h d origin now v = passesAt (passCount (v .k)) h (λ p. target d origin p v) (h .initial) now

@@ -1,0 +1,57 @@
+-- One name that opens every rule of this layer and of those below it, for a claim that holds by computation.
+use Rattle.terms.proofs.Opened.{opened as terms-opened}
+use Rattle.lengths.proofs.Opened.{opened as lengths-opened}
+use Rattle.codes.proofs.Opened.{opened as codes-opened}
+use Rattle.words.proofs.Opened.{opened as words-opened}
+use Rattle.points.proofs.Opened.{opened as points-opened}
+use Rattle.setup.proofs.Opened.{opened as setup-opened}
+use Rattle.records.proofs.Opened.{opened as records-opened}
+use Rattle.settings.proofs.Opened.{opened as settings-opened}
+use Rattle.arcs.proofs.Opened.{opened as arcs-opened}
+use Rattle.cycles.proofs.Opened.{opened as cycles-opened}
+use Rattle.blocks.proofs.Opened.{opened as blocks-opened}
+use Rattle.programs.proofs.Opened.{opened as programs-opened}
+use Rattle.interpreter.specs.Run.{machineOf, firstOf, finishOf, runTable, runBlocks, outcome, recordsOf, answerBy, answerOf}
+use Rattle.interpreter.specs.Walk.{isSpent, oneLess, after, goingOn, thenRest, follow, obey, known, callsFrom, isSkipped, slashLength, verdictOn, runBlock, reached, walk, blocksFor, callees}
+
+unfoldable pub opened : Unit {0}
+unfolding
+    terms-opened
+    lengths-opened
+    codes-opened
+    words-opened
+    points-opened
+    setup-opened
+    records-opened
+    settings-opened
+    arcs-opened
+    cycles-opened
+    blocks-opened
+    programs-opened
+    machineOf
+    firstOf
+    finishOf
+    runTable
+    runBlocks
+    outcome
+    recordsOf
+    answerBy
+    answerOf
+    isSpent
+    oneLess
+    after
+    goingOn
+    thenRest
+    follow
+    obey
+    known
+    callsFrom
+    isSkipped
+    slashLength
+    verdictOn
+    runBlock
+    reached
+    walk
+    blocksFor
+    callees
+opened = tt

@@ -1,0 +1,31 @@
+-- `lengths::Len::apart` meets its contract: the distance of two keys is that of the numbers. Assumes nothing.
+use native.Mathlib.Omega.{arith}
+use borrow.Author.Needs.{needs}
+use lib.IntN.{_-ℤ_}
+use Rattle.lengths.proofs.Laws.{abs-sum, diff-bal}
+use Rattle.lengths.proofs.Len.apart.Statement.{statement}
+use Rattle.lengths.proofs.Len.apart.Tie as tie
+
+key-requires : tie.Need-key-requires
+key-requires c κs = search needs
+
+key-requires-2 : tie.Need-key-requires-2
+key-requires-2 c κs = search needs
+
+sub-result : tie.Need-sub-result
+sub-result c = search needs
+
+returns : tie.Need-returns
+returns c =
+    let a = c .before .before .before .args .self .v in
+    let b = c .before .before .before .args .b .v in
+    omega (arith, abs-sum (a -ℤ b), diff-bal a b)
+
+returns-2 : tie.Need-returns-2
+returns-2 c =
+    let a = c .before .before .before .args .self .v in
+    let b = c .before .before .before .args .b .v in
+    omega (arith, abs-sum (a -ℤ b), diff-bal a b)
+
+pub apart-spec : {M : Type 1} → statement M
+apart-spec = tie.close (tie.spec key-requires key-requires-2 sub-result returns returns-2)

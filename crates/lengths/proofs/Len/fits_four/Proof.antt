@@ -1,0 +1,16 @@
+-- `lengths::Len::fits_four` meets its contract: the two tests are the definition's one. Assumes nothing.
+use borrow.Author.Needs.{needs}
+use mir.Syntax.{w64}
+use mir.Val.{SFits}
+use mir.Facts.{toZ-ofZ}
+use Rattle.lengths.proofs.Four.{four-between}
+use Rattle.lengths.proofs.Len.fits_four.Statement.{statement}
+use Rattle.lengths.proofs.Len.fits_four.Tie as tie
+
+returns : tie.Need-returns
+returns c =
+    let f : SFits w64 (c .before .args .self .v) = search needs in
+    rw (toZ-ofZ f) (four-between (c .before .args .self .v))
+
+pub fits-four-spec : {M : Type 1} → statement M
+fits-four-spec = tie.close (tie.spec returns)

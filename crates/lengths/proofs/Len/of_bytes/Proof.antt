@@ -1,0 +1,75 @@
+-- `lengths::Len::of_bytes` meets its contract: the sum of the bytes is a word of 32 bits, and the machine reads it as the definition
+-- does. Assumes nothing.
+use native.Mathlib.Omega.{arith}
+use borrow.Author.Needs.{needs}
+use lib.IntN.{pos, _-ℤ_}
+use mir.Syntax.{w64}
+use mir.Facts.{toZ-ofZ}
+use mir.ValLaws.{toZ-pos}
+use Rattle.lengths.specs.Units.{ofFour}
+use Rattle.lengths.proofs.Laws.{room-fits, diff-bal}
+use Rattle.lengths.proofs.Four.{word, of-low, of-high, four-read}
+use Rattle.lengths.proofs.Len.of_bytes.Statement.{statement}
+use Rattle.lengths.proofs.Len.of_bytes.Tie as tie
+
+mul-n : tie.Need-mul-n
+mul-n c = search needs
+
+add-n : tie.Need-add-n
+add-n c = search needs
+
+mul-n-2 : tie.Need-mul-n-2
+mul-n-2 c = search needs
+
+add-n-2 : tie.Need-add-n-2
+add-n-2 c = search needs
+
+mul-n-3 : tie.Need-mul-n-3
+mul-n-3 c = search needs
+
+add-n-3 : tie.Need-add-n-3
+add-n-3 c = search needs
+
+cast-t17 : tie.Need-cast-t17
+cast-t17 c = search needs
+
+cast-t18 : tie.Need-cast-t18
+cast-t18 c = search needs
+
+sub-t19 : tie.Need-sub-t19
+sub-t19 c =
+    let x = c .before .args in
+    let n = word (x .a) (x .b) (x .c) (x .d) in
+    rw (toZ-pos w64 n (omega arith)) (room-fits (pos n -ℤ pos 4294967296) (omega (arith, diff-bal (pos n) (pos 4294967296))))
+
+returns : tie.Need-returns
+unfolding ofFour
+returns c =
+    let x = c .before .args in
+    let n = word (x .a) (x .b) (x .c) (x .d) in
+    rw (toZ-pos w64 n (omega arith), ← of-low n (omega arith))
+    (four-read (x .a) (x .b) (x .c) (x .d) (omega arith) (omega arith) (omega arith) (omega arith))
+
+returns-2 : tie.Need-returns-2
+unfolding ofFour
+returns-2 c =
+    let x = c .before .args in
+    let n = word (x .a) (x .b) (x .c) (x .d) in
+    rw (toZ-ofZ (sub-t19 c), toZ-pos w64 n (omega arith), ← of-high n (omega arith) (omega arith))
+    (four-read (x .a) (x .b) (x .c) (x .d) (omega arith) (omega arith) (omega arith) (omega arith))
+
+pub of-bytes-spec : {M : Type 1} → statement M
+of-bytes-spec =
+    tie.close
+    (tie.spec
+    mul-n
+    add-n
+    mul-n-2
+    add-n-2
+    mul-n-3
+    add-n-3
+    cast-t17
+    cast-t18
+    sub-t19
+    returns
+    returns-2)

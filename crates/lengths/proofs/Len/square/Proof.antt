@@ -1,0 +1,29 @@
+-- `lengths::Len::square` meets its contract: the distance from 0 is at most 2 ^ 32 − 1, so its square fits. Assumes nothing.
+use Prim.Native.Nat.{_≤_}
+use mathlib.Core.Path.{_≡_}
+use native.Mathlib.Nat.{mul-le-mul}
+use native.Mathlib.Omega.{arith}
+use borrow.Author.Needs.{needs}
+use lib.IntN.{natAbs}
+use Rattle.lengths.proofs.Laws.{abs-sum}
+use Rattle.lengths.proofs.Len.square.Statement.{statement}
+use Rattle.lengths.proofs.Len.square.Tie as tie
+
+zero-requires : tie.Need-zero-requires
+zero-requires c κs = search needs
+
+apart-requires : tie.Need-apart-requires
+apart-requires c κs = search needs
+
+mul-result : tie.Need-mul-result
+mul-result c =
+    let h : c .apart .result ≤ 4294967295 = omega arith in
+    omega (arith, mul-le-mul h h)
+
+returns : tie.Need-returns
+returns c =
+    let e : c .apart .result ≡ natAbs (c .before .before .args .self .v) = omega (arith, abs-sum (c .before .before .args .self .v)) in
+    rw e
+
+pub square-spec : {M : Type 1} → statement M
+square-spec = tie.close (tie.spec zero-requires apart-requires mul-result returns)

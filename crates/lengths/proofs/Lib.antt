@@ -1,0 +1,5 @@
+pub mod Four
+pub mod Laws
+pub mod Ring
+pub mod Tests
+pub mod Opened

@@ -1,0 +1,80 @@
+-- Document 01, "Data set and blocks": the openings, the main program and the subprograms.
+use Prim.Native.Nat.{ℕ, _+_, _-_}
+use mathlib.Core.Bool.{Bool, true, false, _&&_}
+use mathlib.Core.Option.{Option, none, some}
+use mathlib.Core.List.{List, [], _∷_, _++_}
+use lib.Dec.{eqb, leb}
+use lib.ListN.{length, drop}
+use Rattle.terms.specs.Terms.{if_then_else_, any, fromTo, when}
+use Rattle.refusals.specs.declared.Refusal.{Refusal}
+use Rattle.refusals.specs.declared.Refusal.the-variants.{BadParameter, DuplicateNumber, TableOver}
+use Rattle.refusals.specs.declared.Place.{Place}
+use Rattle.words.specs.Numbers.{isDigit, run, digitsAfter}
+use Rattle.words.specs.Words.{Words, these, badAt, wordsOf}
+use Rattle.programs.specs.Blocks.{Block, closes, opens}
+use Rattle.programs.specs.declared.Program.{Program}
+
+-- "then only blanks and comments": the rest reads as no word at all
+unfoldable pub noWords : Words → Bool
+noWords (these []) = true
+noWords (these (w ∷ ws)) = false
+noWords (badAt at) = false
+
+-- "`O`, one to eight digits, value 1 to 9999, then only blanks and comments": the number that follows the `O`
+unfoldable pub numberAfterO : List ℕ → Option ℕ
+numberAfterO bs =
+    let figures = run isDigit bs in
+    let value = digitsAfter 0 figures in
+    when (fromTo 1 8 (length figures) && fromTo 1 9_999 value && noWords (wordsOf 0 (drop (length figures) bs))) value
+
+unfoldable pub openingNumber : Block → Option ℕ
+openingNumber b = numberAfterO (drop 1 (b .text))
+
+abbrev pub placeOf : Block → Place
+placeOf b = record { block = b .number; byte = b .start }
+
+-- the program that begins after a block
+abbrev pub programAfter : ℕ → Block → Program
+programAfter number b = record { number = number; block = b .number + 1; byte = b .next }
+
+-- What the openings give: the place where the main program begins, with the subprograms; or the first refusal.
+pub data Table : Type 0 where
+  table : Program → List Program → Table
+  refusedAt : Refusal → Place → Table
+
+-- "All others are subprograms, ten at most."
+abbrev pub most : ℕ
+most = 10
+
+-- "Numbers compare by value: `O1` and `O0001` are the same." `taken` has the numbers before, the main's among them: "The
+-- main number counts for duplicates". "per opening 1, 8, 7"
+unfoldable pub openingAs : Option ℕ → Program → List ℕ → List Program → Block → (List ℕ → List Program → Table) → Table
+openingAs none main taken subs b rest = refusedAt BadParameter (placeOf b)
+openingAs (some n) main taken subs b rest =
+    if any (eqb n) taken then refusedAt DuplicateNumber (placeOf b)
+    else if leb most (length subs) then refusedAt TableOver (placeOf b)
+    else rest (n ∷ taken) (subs ++ programAfter n b ∷ [])
+
+unfoldable pub scanBlock : Bool → Bool → Program → List ℕ → List Program → Block → (List ℕ → List Program → Table) → Table
+scanBlock true isOpening main taken subs b rest = table main subs
+scanBlock false true main taken subs b rest = openingAs (openingNumber b) main taken subs b rest
+scanBlock false false main taken subs b rest = rest taken subs
+
+-- the openings of the blocks, up to the closing `%`
+unfoldable pub scan : Program → List Block → List ℕ → List Program → Table
+scan main [] taken subs = table main subs
+scan main (b ∷ bs) taken subs = scanBlock (closes b) (opens b) main taken subs b (scan main bs)
+
+-- "Blocks before any `O`, or under the first `O` where that is the second block, are the main program."
+unfoldable pub mainAs : Option ℕ → Block → List Block → Table
+mainAs none b bs = refusedAt BadParameter (placeOf b)
+mainAs (some n) b bs = scan (programAfter n b) bs (n ∷ []) []
+
+unfoldable pub programsFrom : Block → List Block → Table
+programsFrom percent [] = table (programAfter 0 percent) []
+programsFrom percent (b ∷ bs) =
+    if opens b then mainAs (openingNumber b) b bs else scan (programAfter 0 percent) (b ∷ bs) [] []
+
+-- the blocks of a program, and what follows them
+abbrev pub blocksAt : List Block → Program → List Block
+blocksAt bs p = drop (p .block - 1) bs

@@ -1,0 +1,44 @@
+-- One name that opens every rule of this layer and of those below it, for a claim that holds by computation.
+use Rattle.terms.proofs.Opened.{opened as terms-opened}
+use Rattle.lengths.proofs.Opened.{opened as lengths-opened}
+use Rattle.codes.proofs.Opened.{opened as codes-opened}
+use Rattle.points.proofs.Opened.{opened as points-opened}
+use Rattle.records.specs.Layout.{kindOf, markOf, numbersIn, hasPlane, headLength, kindLength, planeByte, planeOf, planeBytes, numbersOf, numberBytes, recordBytes, listBytes, roomOf, recordOf}
+use Rattle.records.specs.Path.{pathOf, pathEnd, endOf, arcMoved, recordMoved}
+use Rattle.records.specs.Reading.{marked, kindAt, planeAt, planeFor, numbersAt, planeRead, kindRead, readAt}
+
+unfoldable pub opened : Unit {0}
+unfolding
+    terms-opened
+    lengths-opened
+    codes-opened
+    points-opened
+    kindOf
+    markOf
+    numbersIn
+    hasPlane
+    headLength
+    kindLength
+    planeByte
+    planeOf
+    planeBytes
+    numbersOf
+    numberBytes
+    recordBytes
+    listBytes
+    roomOf
+    recordOf
+    pathOf
+    pathEnd
+    endOf
+    arcMoved
+    recordMoved
+    marked
+    kindAt
+    planeAt
+    planeFor
+    numbersAt
+    planeRead
+    kindRead
+    readAt
+opened = tt

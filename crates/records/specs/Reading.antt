@@ -1,0 +1,76 @@
+-- Document 01, "The record list": its reader. "A reader refuses, in this order, an unknown mark, a record cut short or
+-- another plane byte, with the byte place of its mark. At the list's end it says so; one last byte, or a place past the
+-- end, is cut short."
+use Prim.Native.Nat.{ℕ, zero, suc, _+_}
+use mathlib.Core.Bool.{Bool, true, false, _&&_}
+use mathlib.Core.Option.{Option, none, some}
+use mathlib.Core.List.{List, [], _∷_}
+use lib.Dec.{ltb, eqb}
+use lib.ListN.{length, getD}
+use Rattle.terms.specs.Terms.{if_then_else_, first}
+use Rattle.lengths.specs.Units.{len, ofFour}
+use Rattle.lengths.specs.declared.Len.{Len}
+use Rattle.codes.specs.declared.Plane.{Plane}
+use Rattle.codes.specs.declared.Plane.the-variants.{G17, G18, G19}
+use Rattle.records.specs.Layout.{
+  Kind,
+  rp,
+  ln,
+  ar,
+  al,
+  dw,
+  sp,
+  so,
+  pa,
+  en,
+  markOf,
+  hasPlane,
+  headLength,
+  numbersIn,
+  kindLength,
+  planeByte,
+  recordOf,
+}
+use Rattle.records.specs.declared.Fault.{Fault}
+use Rattle.records.specs.declared.Fault.the-variants.{UnknownMark, CutShort, OtherPlane}
+use Rattle.records.specs.declared.Listed.{Listed}
+use Rattle.records.specs.declared.Listed.the-variants.{Next, End, Faulty}
+
+-- the kind whose mark stands at a place
+unfoldable pub marked : List ℕ → ℕ → Kind → Bool
+marked l at kind = eqb (getD l at 0) (getD (markOf kind) 0 0) && eqb (getD l (at + 1) 0) (getD (markOf kind) 1 0)
+
+unfoldable pub kindAt : List ℕ → ℕ → Option Kind
+kindAt l at = first (marked l at) (rp ∷ ln ∷ ar ∷ al ∷ dw ∷ sp ∷ so ∷ pa ∷ en ∷ [])
+
+-- the plane whose byte stands at a place; a record without a plane byte has none that could be wrong
+unfoldable pub planeAt : List ℕ → ℕ → Option Plane
+planeAt l k = first (λ plane. eqb (getD l k 0) (planeByte plane)) (G17 ∷ G18 ∷ G19 ∷ [])
+
+unfoldable pub planeFor : Bool → List ℕ → ℕ → Option Plane
+planeFor true l k = planeAt l k
+planeFor false l k = some G17
+
+-- the numbers whose bytes begin at a place, so many of them
+unfoldable pub numbersAt : ℕ → List ℕ → ℕ → List Len
+numbersAt zero l k = []
+numbersAt (suc n) l k =
+    len (ofFour (getD l k 0) (getD l (k + 1) 0) (getD l (k + 2) 0) (getD l (k + 3) 0)) ∷ numbersAt n l (k + 4)
+
+unfoldable pub planeRead : List ℕ → ℕ → Kind → Option Plane → Listed
+planeRead l at kind none = Faulty OtherPlane at
+planeRead l at kind (some plane) =
+    Next (recordOf kind plane (numbersAt (numbersIn kind) l (at + headLength kind))) (at + kindLength kind)
+
+unfoldable pub kindRead : List ℕ → ℕ → Option Kind → Listed
+kindRead l at none = Faulty UnknownMark at
+kindRead l at (some kind) =
+    if ltb (length l) (at + kindLength kind) then Faulty CutShort at
+    else planeRead l at kind (planeFor (hasPlane kind) l (at + 2))
+
+-- what the reader says of a list at a place
+unfoldable pub readAt : List ℕ → ℕ → Listed
+readAt l at =
+    if eqb at (length l) then End
+    else if ltb (length l) (at + 2) then Faulty CutShort at
+    else kindRead l at (kindAt l at)

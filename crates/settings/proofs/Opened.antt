@@ -1,0 +1,23 @@
+-- One name that opens every rule of this layer and of those below it, for a claim that holds by computation.
+use Rattle.terms.proofs.Opened.{opened as terms-opened}
+use Rattle.lengths.proofs.Opened.{opened as lengths-opened}
+use Rattle.codes.proofs.Opened.{opened as codes-opened}
+use Rattle.words.proofs.Opened.{opened as words-opened}
+use Rattle.points.proofs.Opened.{opened as points-opened}
+use Rattle.settings.specs.Settings.{firstModes, firstState, switched, orElse}
+use Rattle.settings.specs.Target.{aimed, target}
+
+unfoldable pub opened : Unit {0}
+unfolding
+    terms-opened
+    lengths-opened
+    codes-opened
+    words-opened
+    points-opened
+    firstModes
+    firstState
+    switched
+    orElse
+    aimed
+    target
+opened = tt

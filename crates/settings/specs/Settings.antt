@@ -1,0 +1,45 @@
+-- The settings of a run, and how codes and words change them.
+use mathlib.Core.Bool.{false}
+use Rattle.lengths.specs.declared.Len.{Len}
+use Rattle.codes.specs.declared.Motion.the-variants.{Off}
+use Rattle.codes.specs.declared.Plane.the-variants.{G17}
+use Rattle.codes.specs.declared.Unit.the-variants.{Millimetre}
+use Rattle.codes.specs.declared.Distance.the-variants.{Absolute}
+use Rattle.codes.specs.declared.Return.the-variants.{ToInitial}
+use Rattle.codes.specs.declared.Code.{Code}
+use Rattle.codes.specs.declared.Code.the-variants.{GroupA, GroupB, GroupC, GroupD, GroupE, GroupF, G04, Unknown}
+use Rattle.words.specs.declared.Given.{Given}
+use Rattle.words.specs.declared.Given.the-variants.{Is, Missing}
+use Rattle.points.specs.declared.Point.{Point}
+use Rattle.settings.specs.declared.Modes.{Modes}
+use Rattle.settings.specs.declared.State.{State}
+
+-- "A run starts with no motion code, G17, G21, G54, G90, G98, spindle off. (H)"
+unfoldable pub firstModes : Modes
+firstModes =
+    record { motion = Off; plane = G17; unit = Millimetre; distance = Absolute; origin = 0; back = ToInitial }
+
+unfoldable pub firstState : Point → Len → Len → State
+firstState start feed speed = record { at = start; modes = firstModes; feed = feed; speed = speed; turning = false }
+
+-- a code of the groups A to F is on from its block
+unfoldable pub switched : Modes → Code → Modes
+switched m (GroupA motion) =
+    record { motion = motion; plane = m .plane; unit = m .unit; distance = m .distance; origin = m .origin; back = m .back }
+switched m (GroupB plane) =
+    record { motion = m .motion; plane = plane; unit = m .unit; distance = m .distance; origin = m .origin; back = m .back }
+switched m (GroupC unit) =
+    record { motion = m .motion; plane = m .plane; unit = unit; distance = m .distance; origin = m .origin; back = m .back }
+switched m (GroupD distance) =
+    record { motion = m .motion; plane = m .plane; unit = m .unit; distance = distance; origin = m .origin; back = m .back }
+switched m (GroupE origin) =
+    record { motion = m .motion; plane = m .plane; unit = m .unit; distance = m .distance; origin = origin; back = m .back }
+switched m (GroupF back) =
+    record { motion = m .motion; plane = m .plane; unit = m .unit; distance = m .distance; origin = m .origin; back = back }
+switched m G04 = m
+switched m Unknown = m
+
+-- the value of a word, or else what holds without it
+unfoldable pub orElse : Given → Len → Len
+orElse (Is v) other = v
+orElse Missing other = other

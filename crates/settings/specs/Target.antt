@@ -1,0 +1,25 @@
+-- Document 01, "G00, G01": where a word leads. "a missing axis stays. G91 adds to the current point." In the frame of the
+-- common offset a point is the selected origin plus the workpiece coordinate.
+use Rattle.lengths.specs.declared.Len.{Len}
+use Rattle.lengths.specs.Units.{_⊕_}
+use Rattle.codes.specs.declared.Distance.{Distance}
+use Rattle.codes.specs.declared.Distance.the-variants.{Absolute, Incremental}
+use Rattle.words.specs.declared.Given.{Given}
+use Rattle.words.specs.declared.Given.the-variants.{Is, Missing}
+use Rattle.words.specs.declared.Values.{Values}
+use Rattle.points.specs.declared.Point.{Point}
+
+-- one axis: its origin, where it is, and the word
+unfoldable pub aimed : Distance → Len → Len → Given → Len
+aimed Absolute origin now (Is v) = origin ⊕ v
+aimed Incremental origin now (Is v) = now ⊕ v
+aimed Absolute origin now Missing = now
+aimed Incremental origin now Missing = now
+
+unfoldable pub target : Distance → Point → Point → Values → Point
+target d origin now v =
+    record {
+      x = aimed d (origin .x) (now .x) (v .x);
+      y = aimed d (origin .y) (now .y) (v .y);
+      z = aimed d (origin .z) (now .z) (v .z);
+    }

@@ -1,0 +1,28 @@
+-- One name that opens every rule of this layer and of those below it, for a claim that holds by computation.
+use Rattle.terms.proofs.Opened.{opened as terms-opened}
+use Rattle.lengths.proofs.Opened.{opened as lengths-opened}
+use Rattle.codes.proofs.Opened.{opened as codes-opened}
+use Rattle.points.proofs.Opened.{opened as points-opened}
+use Rattle.setup.specs.Frame.{offset, startOf, travelOf, originAt, switchOn}
+use Rattle.setup.specs.Limits.{onEachAxis, travelFits, startFits, offsetsFit, feedFits, speedsFit, switchFits, validSetup}
+
+unfoldable pub opened : Unit {0}
+unfolding
+    terms-opened
+    lengths-opened
+    codes-opened
+    points-opened
+    offset
+    startOf
+    travelOf
+    originAt
+    switchOn
+    onEachAxis
+    travelFits
+    startFits
+    offsetsFit
+    feedFits
+    speedsFit
+    switchFits
+    validSetup
+opened = tt

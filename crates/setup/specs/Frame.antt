@@ -1,0 +1,37 @@
+-- The frame of the common offset. "Machine point = EXOFS + selected origin + workpiece coordinate." The rules of a run
+-- speak of machine points less EXOFS, so that a point is the selected origin plus the workpiece coordinate. Only the
+-- travel and the step from a record to machine units know EXOFS.
+use Prim.Native.Nat.{ℕ}
+use mathlib.Core.Bool.{Bool}
+use lib.IntN.{pos}
+use lib.Signed.{ltZ}
+use lib.ListN.{getD}
+use Rattle.lengths.specs.Units.{len}
+use Rattle.points.specs.declared.Point.{Point}
+use Rattle.points.specs.declared.Travel.{Travel}
+use Rattle.points.specs.Points.{movedBack}
+use Rattle.setup.specs.declared.Axes.{Axes}
+use Rattle.setup.specs.declared.Setup.{Setup}
+
+abbrev pub pointOf : Axes → Point
+pointOf a = record { x = len (a .x); y = len (a .y); z = len (a .z) }
+
+unfoldable pub offset : Setup → Point
+offset s = pointOf (s .exofs)
+
+unfoldable pub startOf : Setup → Point
+startOf s = movedBack (offset s) (pointOf (s .start))
+
+unfoldable pub travelOf : Setup → Travel
+travelOf s =
+    record {
+      low = movedBack (offset s) (pointOf (s .low));
+      high = movedBack (offset s) (pointOf (s .high));
+    }
+
+-- the origin at a place of the table, from 0 for G54 to 5 for G59
+unfoldable pub originAt : Setup → ℕ → Point
+originAt s k = pointOf (getD (s .origins) k (record { x = pos 0; y = pos 0; z = pos 0 }))
+
+unfoldable pub switchOn : Setup → Bool
+switchOn s = ltZ (pos 0) (s .skip)
