@@ -2,25 +2,28 @@
 use Rattle.terms.proofs.Opened.{opened as terms-opened}
 use Rattle.lengths.proofs.Opened.{opened as lengths-opened}
 use Rattle.codes.proofs.Opened.{opened as codes-opened}
+use Rattle.lines.proofs.Opened.{opened as lines-opened}
 use Rattle.words.proofs.Opened.{opened as words-opened}
 use Rattle.points.proofs.Opened.{opened as points-opened}
 use Rattle.records.proofs.Opened.{opened as records-opened}
 use Rattle.settings.proofs.Opened.{opened as settings-opened}
+use Rattle.letters.proofs.Opened.{opened as letters-opened}
 use Rattle.arcs.proofs.Opened.{opened as arcs-opened}
 use Rattle.cycles.proofs.Opened.{opened as cycles-opened}
 use Rattle.blocks.specs.Exec.{saidBy, set, spindleRecords, movesIn, lastRecords, madeBy, settled, controlOf, atWord, lacksCentre, lacksParameter, isG17, drills, cannotDrill, pathStaysIn, allFit, callTo, unknownCall, tooDeep, blames, unless, judged, execWords, exec}
-use Rattle.blocks.specs.Letters.{isKnown, codeIn, miscIn, standsAlone, wrongProgram, repeats, badG, badM, mayNotStand, firstThatMayNot, miscOrOther, miscOfBlock, modesIn, namesGroupA, namesG04, blockCode, arcLetters, motionLetters, lettersOf, useOf, isNothing, firstUnused, wordValue, isBad, firstBadValue, givenBy, givenIn, valuesOf}
-use Rattle.blocks.specs.Motions.{given, centreWords, arcFor, arcMoves, cycleDone, cycleMoves, motionOf, movesOf}
+use Rattle.blocks.specs.Motions.{centreWords, arcFor, arcMoves, cycleDone, cycleMoves, motionOf, movesOf}
 
 unfoldable pub opened : Unit {0}
 unfolding
     terms-opened
     lengths-opened
     codes-opened
+    lines-opened
     words-opened
     points-opened
     records-opened
     settings-opened
+    letters-opened
     arcs-opened
     cycles-opened
     saidBy
@@ -47,35 +50,6 @@ unfolding
     judged
     execWords
     exec
-    isKnown
-    codeIn
-    miscIn
-    standsAlone
-    wrongProgram
-    repeats
-    badG
-    badM
-    mayNotStand
-    firstThatMayNot
-    miscOrOther
-    miscOfBlock
-    modesIn
-    namesGroupA
-    namesG04
-    blockCode
-    arcLetters
-    motionLetters
-    lettersOf
-    useOf
-    isNothing
-    firstUnused
-    wordValue
-    isBad
-    firstBadValue
-    givenBy
-    givenIn
-    valuesOf
-    given
     centreWords
     arcFor
     arcMoves

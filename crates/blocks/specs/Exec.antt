@@ -37,7 +37,7 @@ use Rattle.settings.specs.declared.Modes.{Modes}
 use Rattle.settings.specs.declared.State.{State}
 use Rattle.settings.specs.Settings.{orElse}
 use Rattle.blocks.specs.Machine.{Machine}
-use Rattle.blocks.specs.Letters.{
+use Rattle.letters.specs.Letters.{
   firstThatMayNot,
   firstUnused,
   firstBadValue,
@@ -47,9 +47,9 @@ use Rattle.blocks.specs.Letters.{
   blockCode,
   valuesOf,
 }
-use Rattle.blocks.specs.Motions.{Moves, given, endStands, centreStands, cycleDone, zeroElse, movesOf}
-use Rattle.blocks.specs.declared.BlockCode.{BlockCode}
-use Rattle.blocks.specs.declared.BlockCode.the-variants.{Calling, Returning, Dwelling, Moving}
+use Rattle.blocks.specs.Motions.{Moves, endStands, centreStands, cycleDone, movesOf}
+use Rattle.letters.specs.declared.BlockCode.{BlockCode}
+use Rattle.letters.specs.declared.BlockCode.the-variants.{Calling, Returning, Dwelling, Moving}
 use Rattle.blocks.specs.declared.Control.{Control}
 use Rattle.blocks.specs.declared.Control.the-variants.{On, Call, Back, Stop}
 
@@ -71,7 +71,7 @@ saidBy machine before ws =
       code = blockCode m ws;
       misc = miscOfBlock ws;
       named = namesGroupA ws;
-      values = valuesOf machine m (blockCode m ws) ws;
+      values = valuesOf (machine .speeds) m (blockCode m ws) ws;
     }
 
 -- "Effects in order: groups B to F, the F word, S, M03, motion or dwell, M05, M00, M02 or M30."
@@ -90,7 +90,7 @@ set s b =
 -- "S with the spindle turning, or M03, writes one spindle record"
 unfoldable pub spindleRecords : State → Said → List Record
 spindleRecords s b =
-    if s .turning && given (b .values .s) || isM 3 (b .misc) then SP (set s b .speed) ∷ [] else []
+    if s .turning && b .values .s .stands || isM 3 (b .misc) then SP (set s b .speed) ∷ [] else []
 
 unfoldable pub movesIn : Machine → State → Said → Moves
 movesIn machine s b = movesOf (b .code) (b .named) (set s b) (machine .origin (b .modes .origin)) (b .values)
@@ -119,7 +119,7 @@ settled machine s b =
 
 unfoldable pub controlOf : Said → Control
 controlOf b =
-    if isM 98 (b .misc) then Call (natAbs (zeroElse (b .values .p) .v))
+    if isM 98 (b .misc) then Call (natAbs (b .values .p .v .v))
     else if isM 99 (b .misc) then Back
     else if endsProgram (b .misc) then Stop
     else On
@@ -144,9 +144,9 @@ lacksCentre G03 v = endStands v && not (centreStands v)
 lacksCentre (Drilling cycle) v = false
 
 unfoldable pub lacksParameter : BlockCode → Values → Bool
-lacksParameter Calling v = not (given (v .p))
+lacksParameter Calling v = not (v .p .stands)
 lacksParameter Returning v = false
-lacksParameter Dwelling v = not (given (v .p))
+lacksParameter Dwelling v = not (v .p .stands)
 lacksParameter (Moving motion) v = lacksCentre motion v
 
 -- "4 for a cycle outside G17 or with the spindle off (K0 too; the block's M03 counts)"
@@ -206,7 +206,7 @@ blames machine calls room s start b =
     λ refusal test. when test (record { refusal = refusal; byte = start }) in
     atWord CannotExecute (firstThatMayNot (inMain calls) [] (b .words))
     ∷ atWord AddressUndefined (firstUnused (b .code) (b .modes .plane) (b .words))
-    ∷ atWord BadParameter (firstBadValue machine (b .modes) (b .code) (b .words))
+    ∷ atWord BadParameter (firstBadValue (machine .speeds) (b .modes) (b .code) (b .words))
     ∷ here ParameterUndefined (lacksParameter (b .code) (b .values))
     ∷ here NumberNotFound (unknownCall calls (callTo (controlOf b)))
     ∷ here NestOver (tooDeep calls (callTo (controlOf b)))

@@ -1,4 +1,3 @@
 pub mod Machine
-pub mod Letters
 pub mod Motions
 pub mod Exec

@@ -2,16 +2,14 @@
 -- differ here in the two tests alone.
 use Prim.Native.Nat.{ℕ}
 use mathlib.Core.Bool.{Bool}
-use lib.IntN.{ℤ}
 use Rattle.points.specs.declared.Point.{Point}
+use Rattle.letters.specs.declared.Speeds.{Speeds}
 use Rattle.records.specs.declared.Record.{Record}
 
 pub record Machine : Type 0 where
   -- the origin at a place of the table
   pub origin : ℕ → Point
-  -- the lowest and the highest spindle speed
-  pub lowest : ℤ
-  pub highest : ℤ
+  pub speeds : Speeds
   -- the centre of a record fits four signed bytes
   pub fits : Record → Bool
   -- the path of a record that begins at a point stays in the travel

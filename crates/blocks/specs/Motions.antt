@@ -1,16 +1,10 @@
 -- Document 01, "G00, G01", "G02, G03", "Cycles", "P as dwell": the motion or the dwell of a block.
-use mathlib.Core.Bool.{Bool, true, false, _||_}
+use mathlib.Core.Bool.{Bool, true, _||_}
 use mathlib.Core.List.{List, [], _∷_}
-use lib.IntN.{pos}
 use Rattle.terms.specs.Terms.{if_then_else_}
-use Rattle.lengths.specs.declared.Len.{Len}
-use Rattle.lengths.specs.Units.{len}
 use Rattle.codes.specs.declared.Cycle.{Cycle}
 use Rattle.codes.specs.declared.Motion.{Motion}
 use Rattle.codes.specs.declared.Motion.the-variants.{Off, G00, G01, G02, G03, Drilling}
-use Rattle.codes.specs.declared.Plane.{Plane}
-use Rattle.words.specs.declared.Given.{Given}
-use Rattle.words.specs.declared.Given.the-variants.{Is, Missing}
 use Rattle.words.specs.declared.Values.{Values}
 use Rattle.points.specs.declared.Point.{Point}
 use Rattle.points.specs.Points.{moved, flat}
@@ -18,22 +12,17 @@ use Rattle.records.specs.declared.Arc.{Arc}
 use Rattle.records.specs.declared.Record.{Record}
 use Rattle.records.specs.declared.Record.the-variants.{RP, LN, AR, AL, DW}
 use Rattle.settings.specs.declared.State.{State}
-use Rattle.settings.specs.Settings.{orElse}
 use Rattle.settings.specs.Target.{target}
 use Rattle.arcs.specs.Arcs.{arcHolds}
 use Rattle.cycles.specs.Cycles.{holeOf, levelsHold, passes}
-use Rattle.blocks.specs.declared.BlockCode.{BlockCode}
-use Rattle.blocks.specs.declared.BlockCode.the-variants.{Calling, Returning, Dwelling, Moving}
-
-unfoldable pub given : Given → Bool
-given (Is v) = true
-given Missing = false
+use Rattle.letters.specs.declared.BlockCode.{BlockCode}
+use Rattle.letters.specs.declared.BlockCode.the-variants.{Calling, Returning, Dwelling, Moving}
 
 abbrev pub endStands : Values → Bool
-endStands v = given (v .x) || given (v .y) || given (v .z)
+endStands v = v .x .stands || v .y .stands || v .z .stands
 
 abbrev pub centreStands : Values → Bool
-centreStands v = given (v .i) || given (v .j) || given (v .k)
+centreStands v = v .i .stands || v .j .stands || v .k .stands
 
 -- A block's motion: its records, and whether its geometry holds.
 pub record Moves : Type 0 where
@@ -46,12 +35,9 @@ none = record { records = []; sound = true }
 abbrev pub one : Record → Moves
 one r = record { records = r ∷ []; sound = true }
 
--- "centre by its distance from the start in the plane's letters .., a missing one 0"
-abbrev pub zeroElse : Given → Len
-zeroElse g = orElse g (len (pos 0))
-
+-- "centre by its distance from the start in the plane's letters .., a missing one 0": the value of a missing word is 0
 unfoldable pub centreWords : Values → Point
-centreWords v = record { x = zeroElse (v .i); y = zeroElse (v .j); z = zeroElse (v .k) }
+centreWords v = record { x = v .i .v; y = v .j .v; z = v .k .v }
 
 unfoldable pub arcFor : State → Point → Values → Arc
 arcFor s origin v =
@@ -69,7 +55,7 @@ arcMoves make s a = record { records = make a ∷ []; sound = arcHolds (s .at) a
 
 -- "done when the block names one, or one is on and X, Y, Z or R stands"
 unfoldable pub cycleDone : Bool → Values → Bool
-cycleDone named v = named || endStands v || given (v .r)
+cycleDone named v = named || endStands v || v .r .stands
 
 unfoldable pub cycleMoves : Cycle → State → Point → Values → Moves
 cycleMoves cycle s origin v =
@@ -93,5 +79,5 @@ motionOf (Drilling cycle) named s origin v = if cycleDone named v then cycleMove
 unfoldable pub movesOf : BlockCode → Bool → State → Point → Values → Moves
 movesOf Calling named s origin v = none
 movesOf Returning named s origin v = none
-movesOf Dwelling named s origin v = one (DW (zeroElse (v .p)))
+movesOf Dwelling named s origin v = one (DW (v .p .v))
 movesOf (Moving motion) named s origin v = motionOf motion named s origin v

@@ -6,7 +6,7 @@ use Rattle.words.proofs.Opened.{opened as words-opened}
 use Rattle.points.proofs.Opened.{opened as points-opened}
 use Rattle.records.proofs.Opened.{opened as records-opened}
 use Rattle.settings.proofs.Opened.{opened as settings-opened}
-use Rattle.cycles.specs.Cycles.{levelR, levelZ, holeOf, notOver, levelsHold, levelFor, returnLevel, dwelling, upUnder, leaving, passTo, passesAt, passCount, passes}
+use Rattle.cycles.specs.Cycles.{levelR, levelZ, holeOf, levelsHold, levelFor, returnLevel, dwelling, upUnder, leaving, passTo, passesAt, passCount, passes}
 
 unfoldable pub opened : Unit {0}
 unfolding
@@ -20,7 +20,6 @@ unfolding
     levelR
     levelZ
     holeOf
-    notOver
     levelsHold
     levelFor
     returnLevel

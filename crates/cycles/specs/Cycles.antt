@@ -1,9 +1,10 @@
 -- Document 01, "Cycles": the levels and the passes.
 use Prim.Native.Nat.{ℕ, zero, suc}
-use mathlib.Core.Bool.{Bool, true, _&&_}
+use mathlib.Core.Bool.{Bool, not, _&&_, _||_}
 use mathlib.Core.List.{List, [], _∷_, _++_}
 use lib.IntN.{natAbs}
 use lib.Signed.{leZ}
+use Rattle.terms.specs.Terms.{if_then_else_}
 use Rattle.lengths.specs.declared.Len.{Len}
 use Rattle.codes.specs.declared.Cycle.{Cycle}
 use Rattle.codes.specs.declared.Cycle.the-variants.{G81, G82, G85, G89}
@@ -11,7 +12,6 @@ use Rattle.codes.specs.declared.Return.{Return}
 use Rattle.codes.specs.declared.Return.the-variants.{ToInitial, ToR}
 use Rattle.codes.specs.declared.Distance.{Distance}
 use Rattle.words.specs.declared.Given.{Given}
-use Rattle.words.specs.declared.Given.the-variants.{Is, Missing}
 use Rattle.words.specs.declared.Values.{Values}
 use Rattle.points.specs.declared.Point.{Point}
 use Rattle.points.specs.Points.{atHeight}
@@ -27,8 +27,7 @@ unfoldable pub levelR : Distance → Point → Point → Values → Len
 levelR d origin now v = aimed d (origin .z) (now .z) (v .r)
 
 unfoldable pub levelZ : Distance → Point → Len → Given → Given
-levelZ d origin r Missing = Missing
-levelZ d origin r (Is z) = Is (aimed d (origin .z) r (Is z))
+levelZ d origin r g = record { stands = g .stands; v = aimed d (origin .z) r g }
 
 unfoldable pub holeOf : Cycle → State → Point → Values → Hole
 holeOf cycle s origin v =
@@ -44,12 +43,8 @@ holeOf cycle s origin v =
     }
 
 -- "Z above R or R above the initial level is refused."
-unfoldable pub notOver : Given → Len → Bool
-notOver Missing r = true
-notOver (Is z) r = leZ (z .v) (r .v)
-
 unfoldable pub levelsHold : Hole → Bool
-levelsHold h = notOver (h .z) (h .r) && leZ (h .r .v) (h .initial .v)
+levelsHold h = (not (h .z .stands) || leZ (h .z .v .v) (h .r .v)) && leZ (h .r .v) (h .initial .v)
 
 -- "the return level is that (G98) or R (G99)."
 unfoldable pub levelFor : Return → Hole → Len
@@ -61,8 +56,7 @@ returnLevel h = levelFor (h .back) h
 
 -- "dwell for G82 and G89 where P stands": the other cycles do not take a P
 unfoldable pub dwelling : Given → List Record
-dwelling Missing = []
-dwelling (Is ms) = DW ms ∷ []
+dwelling g = if g .stands then DW (g .v) ∷ [] else []
 
 -- "and, under G98, rapid to the initial level"
 unfoldable pub upUnder : Return → Hole → Point → List Record
@@ -78,23 +72,24 @@ leaving G89 h p = LN (atHeight p (h .r)) (h .feed) ∷ upUnder (h .back) h p
 
 -- One pass at X, Y of a point, which comes at a level. "Without Z each pass is a rapid to X, Y at the initial level."
 -- "With Z each pass: rapid to X, Y ..; then rapid to R, cut to Z, dwell .., then .."
-unfoldable pub passTo : Given → Hole → Len → Point → List Record
-passTo Missing h level p = RP (atHeight p (h .initial)) ∷ []
-passTo (Is z) h level p =
-    RP (atHeight p level) ∷ RP (atHeight p (h .r)) ∷ LN (atHeight p z) (h .feed) ∷ dwelling (h .dwell)
+unfoldable pub passTo : Hole → Len → Point → List Record
+passTo h level p =
+    if h .z .stands
+    then
+    RP (atHeight p level) ∷ RP (atHeight p (h .r)) ∷ LN (atHeight p (h .z .v)) (h .feed) ∷ dwelling (h .dwell)
     ++ leaving (h .cycle) h p
+    else RP (atHeight p (h .initial)) ∷ []
 
 -- "X, Y are added at each pass": each pass leads on from X, Y of the one before. "rapid to X, Y at the initial level in
 -- the first pass, at the return level after".
 unfoldable pub passesAt : ℕ → Hole → (Point → Point) → Len → Point → List Record
 passesAt zero h next level p = []
 passesAt (suc k) h next level p =
-    passTo (h .z) h level (next p) ++ passesAt k h next (returnLevel h) (next p)
+    passTo h level (next p) ++ passesAt k h next (returnLevel h) (next p)
 
 -- "K: missing 1"
 unfoldable pub passCount : Given → ℕ
-passCount Missing = 1
-passCount (Is k) = natAbs (k .v)
+passCount g = if g .stands then natAbs (g .v .v) else 1
 
 unfoldable pub passes : Hole → Distance → Point → Point → Values → List Record
 passes h d origin now v = passesAt (passCount (v .k)) h (λ p. target d origin p v) (h .initial) now

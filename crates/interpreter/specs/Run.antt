@@ -18,7 +18,7 @@ use Rattle.settings.specs.declared.State.{State}
 use Rattle.settings.specs.Settings.{firstState}
 use Rattle.arcs.specs.Arcs.{pathStays, centreFits}
 use Rattle.blocks.specs.Machine.{Machine}
-use Rattle.programs.specs.Blocks.{Block, blocksOf, closes}
+use Rattle.lines.specs.Blocks.{Block, blocksOf, closes}
 use Rattle.programs.specs.Openings.{Table, table, refusedAt, programsFrom, blocksAt}
 use Rattle.interpreter.specs.Walk.{Job, How, ended, returned, unfinished, Outcome, just, walk, callees}
 use Rattle.interpreter.specs.Walk as Walk
@@ -31,8 +31,7 @@ unfoldable pub machineOf : Setup → Machine
 machineOf s =
     record {
       origin = originAt s;
-      lowest = s .lowest;
-      highest = s .highest;
+      speeds = record { lowest = len (s .lowest); highest = len (s .highest) };
       fits = λ r. centreFits (pathOf (recordMoved (offset s) r));
       stays = λ from r. pathStays (travelOf s) from (pathOf r);
     }

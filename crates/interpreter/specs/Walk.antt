@@ -16,7 +16,7 @@ use Rattle.blocks.specs.Machine.{Machine}
 use Rattle.blocks.specs.declared.Control.{Control}
 use Rattle.blocks.specs.declared.Control.the-variants.{On, Call, Back, Stop}
 use Rattle.blocks.specs.Exec.{Verdict, refused, accepted, exec, Calls}
-use Rattle.programs.specs.Blocks.{Block, closes, opens, isSlashed}
+use Rattle.lines.specs.Blocks.{Block, closes, opens, isSlashed}
 use Rattle.programs.specs.Openings.{placeOf, blocksAt}
 use Rattle.programs.specs.declared.Program.{Program}
 use Rattle.interpreter.specs.declared.Budget.{Budget}

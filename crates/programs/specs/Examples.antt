@@ -6,7 +6,7 @@ use mathlib.Core.List.{List, [], _∷_}
 use Rattle.terms.specs.Terms.{bytes}
 use Rattle.refusals.specs.declared.Refusal.{Refusal}
 use Rattle.refusals.specs.declared.Refusal.the-variants.{BadParameter, DuplicateNumber, FirstBlock}
-use Rattle.programs.specs.Blocks.{Block, blocksOf}
+use Rattle.lines.specs.Blocks.{Block, blocksOf}
 use Rattle.programs.specs.Openings.{Table, table, refusedAt, programsFrom}
 use Rattle.programs.specs.declared.Program.{Program}
 

@@ -11,7 +11,7 @@ use Rattle.refusals.specs.declared.Refusal.the-variants.{BadParameter, Duplicat
 use Rattle.refusals.specs.declared.Place.{Place}
 use Rattle.words.specs.Numbers.{isDigit, run, digitsAfter}
 use Rattle.words.specs.Words.{Words, these, badAt, wordsOf}
-use Rattle.programs.specs.Blocks.{Block, closes, opens}
+use Rattle.lines.specs.Blocks.{Block, closes, opens}
 use Rattle.programs.specs.declared.Program.{Program}
 
 -- "then only blanks and comments": the rest reads as no word at all

@@ -5,7 +5,7 @@ use Rattle.codes.proofs.Opened.{opened as codes-opened}
 use Rattle.words.proofs.Opened.{opened as words-opened}
 use Rattle.points.proofs.Opened.{opened as points-opened}
 use Rattle.settings.specs.Settings.{firstModes, firstState, switched, orElse}
-use Rattle.settings.specs.Target.{aimed, target}
+use Rattle.settings.specs.Target.{base, aimed, target}
 
 unfoldable pub opened : Unit {0}
 unfolding
@@ -18,6 +18,7 @@ unfolding
     firstState
     switched
     orElse
+    base
     aimed
     target
 opened = tt

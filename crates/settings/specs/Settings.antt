@@ -1,5 +1,6 @@
 -- The settings of a run, and how codes and words change them.
 use mathlib.Core.Bool.{false}
+use Rattle.terms.specs.Terms.{if_then_else_}
 use Rattle.lengths.specs.declared.Len.{Len}
 use Rattle.codes.specs.declared.Motion.the-variants.{Off}
 use Rattle.codes.specs.declared.Plane.the-variants.{G17}
@@ -9,7 +10,6 @@ use Rattle.codes.specs.declared.Return.the-variants.{ToInitial}
 use Rattle.codes.specs.declared.Code.{Code}
 use Rattle.codes.specs.declared.Code.the-variants.{GroupA, GroupB, GroupC, GroupD, GroupE, GroupF, G04, Unknown}
 use Rattle.words.specs.declared.Given.{Given}
-use Rattle.words.specs.declared.Given.the-variants.{Is, Missing}
 use Rattle.points.specs.declared.Point.{Point}
 use Rattle.settings.specs.declared.Modes.{Modes}
 use Rattle.settings.specs.declared.State.{State}
@@ -41,5 +41,4 @@ switched m Unknown = m
 
 -- the value of a word, or else what holds without it
 unfoldable pub orElse : Given → Len → Len
-orElse (Is v) other = v
-orElse Missing other = other
+orElse g other = if g .stands then g .v else other

@@ -1,20 +1,22 @@
 -- Document 01, "G00, G01": where a word leads. "a missing axis stays. G91 adds to the current point." In the frame of the
 -- common offset a point is the selected origin plus the workpiece coordinate.
+use Rattle.terms.specs.Terms.{if_then_else_}
 use Rattle.lengths.specs.declared.Len.{Len}
 use Rattle.lengths.specs.Units.{_⊕_}
 use Rattle.codes.specs.declared.Distance.{Distance}
 use Rattle.codes.specs.declared.Distance.the-variants.{Absolute, Incremental}
 use Rattle.words.specs.declared.Given.{Given}
-use Rattle.words.specs.declared.Given.the-variants.{Is, Missing}
 use Rattle.words.specs.declared.Values.{Values}
 use Rattle.points.specs.declared.Point.{Point}
 
+-- what a word counts from: its axis' origin in G90, where the axis is in G91
+unfoldable pub base : Distance → Len → Len → Len
+base Absolute origin now = origin
+base Incremental origin now = now
+
 -- one axis: its origin, where it is, and the word
 unfoldable pub aimed : Distance → Len → Len → Given → Len
-aimed Absolute origin now (Is v) = origin ⊕ v
-aimed Incremental origin now (Is v) = now ⊕ v
-aimed Absolute origin now Missing = now
-aimed Incremental origin now Missing = now
+aimed d origin now g = if g .stands then base d origin now ⊕ g .v else now
 
 unfoldable pub target : Distance → Point → Point → Values → Point
 target d origin now v =

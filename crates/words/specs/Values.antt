@@ -13,6 +13,8 @@ use Rattle.words.specs.declared.Sign.the-variants.{Plain, Plus, Minus}
 use Rattle.words.specs.declared.Number.{Number}
 use Rattle.words.specs.declared.Use.{Use}
 use Rattle.words.specs.declared.Use.the-variants.{Nothing, Codes, Label, Program, Length, Feed, Speed, Dwell, Count}
+use Rattle.words.specs.declared.Given.{Given}
+use Rattle.words.specs.declared.Values.{Values}
 use Rattle.words.specs.declared.Value.{Value}
 use Rattle.words.specs.declared.Value.the-variants.{Fit, Bad}
 
@@ -88,3 +90,22 @@ valueOf u lowest highest Dwell n = checked (isDwell n) (dwellOf n)
 valueOf u lowest highest Length n = checked (isLength u n) (lengthOf u n)
 -- "F is above 0."
 valueOf u lowest highest Feed n = checked (isLength u n && ltZ (pos 0) (lengthOf u n)) (lengthOf u n)
+
+-- a word that does not stand
+abbrev pub missing : Given
+missing = record { stands = false; v = len (pos 0) }
+
+abbrev pub noValues : Values
+noValues =
+    record {
+      x = missing;
+      y = missing;
+      z = missing;
+      i = missing;
+      j = missing;
+      k = missing;
+      r = missing;
+      p = missing;
+      f = missing;
+      s = missing;
+    }

@@ -42,10 +42,10 @@ pub enum Use {
     Count,
 }
 
-// The value that a word gives, or the value of a word that does not stand in the block.
-pub enum Given {
-    Is(Len),
-    Missing,
+// The value of a letter's word, and whether the word stands in the block at all; where it does not, the value is 0.
+pub struct Given {
+    pub stands: bool,
+    pub v: Len,
 }
 
 // The value that a number has for a use, or none.

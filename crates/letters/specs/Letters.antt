@@ -22,14 +22,13 @@ use Rattle.words.specs.declared.Use.the-variants.{Nothing, Codes, Label, Progra
 use Rattle.words.specs.declared.Value.{Value}
 use Rattle.words.specs.declared.Value.the-variants.{Fit, Bad}
 use Rattle.words.specs.declared.Given.{Given}
-use Rattle.words.specs.declared.Given.the-variants.{Is, Missing}
 use Rattle.words.specs.declared.Values.{Values}
-use Rattle.words.specs.Values.{isPlain, valueOf}
+use Rattle.words.specs.Values.{isPlain, valueOf, missing, noValues}
 use Rattle.settings.specs.declared.Modes.{Modes}
 use Rattle.settings.specs.Settings.{switched}
-use Rattle.blocks.specs.Machine.{Machine}
-use Rattle.blocks.specs.declared.BlockCode.{BlockCode}
-use Rattle.blocks.specs.declared.BlockCode.the-variants.{Calling, Returning, Dwelling, Moving}
+use Rattle.letters.specs.declared.Speeds.{Speeds}
+use Rattle.letters.specs.declared.BlockCode.{BlockCode}
+use Rattle.letters.specs.declared.BlockCode.the-variants.{Calling, Returning, Dwelling, Moving}
 
 -- the letters that words are made of, all others being unknown
 unfoldable pub isKnown : ℕ → Bool
@@ -164,38 +163,41 @@ unfoldable pub firstUnused : BlockCode → Plane → List Word → Option Word
 firstUnused code plane ws = first (λ w. isNothing (useOf code plane (w .letter))) ws
 
 -- "1 leftmost by value"
-unfoldable pub wordValue : Machine → Modes → BlockCode → Word → Value
-wordValue machine m code w =
-    valueOf (m .unit) (machine .lowest) (machine .highest) (useOf code (m .plane) (w .letter)) (w .number)
+unfoldable pub wordValue : Speeds → Modes → BlockCode → Word → Value
+wordValue speeds m code w =
+    valueOf (m .unit) (speeds .lowest .v) (speeds .highest .v) (useOf code (m .plane) (w .letter)) (w .number)
 
 unfoldable pub isBad : Value → Bool
 isBad (Fit v) = false
 isBad Bad = true
 
-unfoldable pub firstBadValue : Machine → Modes → BlockCode → List Word → Option Word
-firstBadValue machine m code ws = first (λ w. isBad (wordValue machine m code w)) ws
+unfoldable pub firstBadValue : Speeds → Modes → BlockCode → List Word → Option Word
+firstBadValue speeds m code ws = first (λ w. isBad (wordValue speeds m code w)) ws
 
--- the values of the block's words
+-- the values of the block's words, word by word
 unfoldable pub givenBy : Value → Given
-givenBy (Fit v) = Is v
-givenBy Bad = Missing
+givenBy (Fit v) = record { stands = true; v = v }
+givenBy Bad = missing
 
-unfoldable pub givenIn : Machine → Modes → BlockCode → Option Word → Given
-givenIn machine m code none = Missing
-givenIn machine m code (some w) = givenBy (wordValue machine m code w)
-
-unfoldable pub valuesOf : Machine → Modes → BlockCode → List Word → Values
-valuesOf machine m code ws =
-    let given : ℕ → Given = λ letter. givenIn machine m code (first (λ w. eqb (w .letter) letter) ws) in
+unfoldable pub withValue : Values → ℕ → Given → Values
+withValue v letter g =
     record {
-      x = given (byte "X");
-      y = given (byte "Y");
-      z = given (byte "Z");
-      i = given (byte "I");
-      j = given (byte "J");
-      k = given (byte "K");
-      r = given (byte "R");
-      p = given (byte "P");
-      f = given (byte "F");
-      s = given (byte "S");
+      x = if eqb letter (byte "X") then g else v .x;
+      y = if eqb letter (byte "Y") then g else v .y;
+      z = if eqb letter (byte "Z") then g else v .z;
+      i = if eqb letter (byte "I") then g else v .i;
+      j = if eqb letter (byte "J") then g else v .j;
+      k = if eqb letter (byte "K") then g else v .k;
+      r = if eqb letter (byte "R") then g else v .r;
+      p = if eqb letter (byte "P") then g else v .p;
+      f = if eqb letter (byte "F") then g else v .f;
+      s = if eqb letter (byte "S") then g else v .s;
     }
+
+unfoldable pub valuesAfter : Values → Speeds → Modes → BlockCode → List Word → Values
+valuesAfter v speeds m code [] = v
+valuesAfter v speeds m code (w ∷ ws) =
+    valuesAfter (withValue v (w .letter) (givenBy (wordValue speeds m code w))) speeds m code ws
+
+abbrev pub valuesOf : Speeds → Modes → BlockCode → List Word → Values
+valuesOf speeds m code ws = valuesAfter noValues speeds m code ws
