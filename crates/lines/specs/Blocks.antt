@@ -1,61 +1,58 @@
 -- Document 01, "Data set and blocks": the blocks of the data.
-use Prim.Native.Nat.{ℕ, _+_}
-use mathlib.Core.Bool.{Bool, true, false}
+use Prim.Native.Nat.{ℕ, zero, suc, _+_, _-_}
+use mathlib.Core.Bool.{Bool, false, _&&_, _||_}
 use mathlib.Core.List.{List, [], _∷_}
 use lib.Dec.{eqb}
-use lib.ListN.{length}
 use Rattle.terms.specs.Terms.{if_then_else_, byte}
 
--- "LF ends a block; .. bytes after the last LF, if any, are a block."
-pub record Line : Type 0 where
-  pub bytes : List ℕ
-  pub ended : Bool
+unfoldable pub beginsWith : ℕ → List ℕ → Bool
+beginsWith first [] = false
+beginsWith first (b ∷ bs) = eqb b first
 
-unfoldable pub push : ℕ → List Line → List Line
-push b [] = record { bytes = b ∷ []; ended = false } ∷ []
-push b (l ∷ ls) = record { bytes = b ∷ l .bytes; ended = l .ended } ∷ ls
+abbrev pub isLf : ℕ → Bool
+isLf b = eqb b (byte "\n")
 
-unfoldable pub linesOf : List ℕ → List Line
-linesOf [] = []
-linesOf (b ∷ bs) = if eqb b (byte "\n") then record { bytes = []; ended = true } ∷ linesOf bs else push b (linesOf bs)
+-- "LF ends a block; a CR just before it is dropped": the text that the bytes begin with ends at such a byte
+abbrev pub endsAt : ℕ → List ℕ → Bool
+endsAt b bs = isLf b || eqb b (byte "\r") && beginsWith (byte "\n") bs
 
--- "a CR just before it is dropped"
-unfoldable pub dropCr : List ℕ → List ℕ
-dropCr [] = []
-dropCr (b ∷ []) = if eqb b (byte "\r") then [] else b ∷ []
-dropCr (b ∷ c ∷ bs) = b ∷ dropCr (c ∷ bs)
+unfoldable pub textFrom : List ℕ → List ℕ
+textFrom [] = []
+textFrom (b ∷ bs) = if endsAt b bs then [] else b ∷ textFrom bs
 
-unfoldable pub textOf : Line → List ℕ
-textOf l = if l .ended then dropCr (l .bytes) else l .bytes
+-- how many bytes the block takes that the bytes begin with, LF and CR among them. "bytes after the last LF, if any, are
+-- a block"
+unfoldable pub lengthFrom : List ℕ → ℕ
+lengthFrom [] = 0
+lengthFrom (b ∷ bs) = if isLf b then 1 else suc (lengthFrom bs)
 
-unfoldable pub lineLength : Line → ℕ
-lineLength l = length (l .bytes) + (if l .ended then 1 else 0)
-
--- "Blocks count from 1, bytes from 0.": a block's number, its first byte's place, its text, and the next block's place
+-- a block's number, its first byte's place, its text, and the place of the next block
 pub record Block : Type 0 where
   pub number : ℕ
   pub start : ℕ
   pub text : List ℕ
   pub next : ℕ
 
-unfoldable pub numbered : ℕ → ℕ → List Line → List Block
-numbered n at [] = []
-numbered n at (l ∷ ls) =
-    record { number = n; start = at; text = textOf l; next = at + lineLength l }
-    ∷ numbered (n + 1) (at + lineLength l) ls
+abbrev pub blockFrom : ℕ → ℕ → List ℕ → Block
+blockFrom n at bs = record { number = n; start = at; text = textFrom bs; next = at + lengthFrom bs }
 
+-- The blocks of the bytes, of which the first `pass` belong to a block that began before. The next block to begin has the
+-- number n and begins at the place `at`.
+unfoldable pub blocksAfter : ℕ → ℕ → ℕ → List ℕ → List Block
+blocksAfter pass n at [] = []
+blocksAfter zero n at (b ∷ bs) =
+    blockFrom n at (b ∷ bs) ∷ blocksAfter (lengthFrom (b ∷ bs) - 1) (n + 1) (at + lengthFrom (b ∷ bs)) bs
+blocksAfter (suc pass) n at (b ∷ bs) = blocksAfter pass n at bs
+
+-- "Blocks count from 1, bytes from 0."
 unfoldable pub blocksOf : List ℕ → List Block
-blocksOf bytes = numbered 1 0 (linesOf bytes)
+blocksOf bytes = blocksAfter 0 1 0 bytes
 
 -- "`%` alone": the text has this byte and no other
 unfoldable pub isPercent : List ℕ → Bool
 isPercent [] = false
 isPercent (b ∷ []) = eqb b (byte "%")
 isPercent (b ∷ c ∷ bs) = false
-
-unfoldable pub beginsWith : ℕ → List ℕ → Bool
-beginsWith first [] = false
-beginsWith first (b ∷ bs) = eqb b first
 
 -- "A later `%` alone ends the data; nothing after it is read."
 abbrev pub closes : Block → Bool

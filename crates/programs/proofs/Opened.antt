@@ -4,7 +4,7 @@ use Rattle.lengths.proofs.Opened.{opened as lengths-opened}
 use Rattle.codes.proofs.Opened.{opened as codes-opened}
 use Rattle.lines.proofs.Opened.{opened as lines-opened}
 use Rattle.words.proofs.Opened.{opened as words-opened}
-use Rattle.programs.specs.Openings.{noWords, numberAfterO, openingNumber, openingAs, scanBlock, scan, mainAs, programsFrom}
+use Rattle.programs.specs.Openings.{noWords, numberAfterO, openingNumber, isTaken, openingAs, scanBlock, scan, mainAs, programsFrom}
 
 unfoldable pub opened : Unit {0}
 unfolding
@@ -16,6 +16,7 @@ unfolding
     noWords
     numberAfterO
     openingNumber
+    isTaken
     openingAs
     scanBlock
     scan

@@ -1,6 +1,6 @@
 -- Document 01, "Data set and blocks": the openings, the main program and the subprograms.
 use Prim.Native.Nat.{ℕ, _+_, _-_}
-use mathlib.Core.Bool.{Bool, true, false, _&&_}
+use mathlib.Core.Bool.{Bool, true, false, _&&_, _||_}
 use mathlib.Core.Option.{Option, none, some}
 use mathlib.Core.List.{List, [], _∷_, _++_}
 use lib.Dec.{eqb, leb}
@@ -46,34 +46,38 @@ pub data Table : Type 0 where
 abbrev pub most : ℕ
 most = 10
 
--- "Numbers compare by value: `O1` and `O0001` are the same." `taken` has the numbers before, the main's among them: "The
--- main number counts for duplicates". "per opening 1, 8, 7"
-unfoldable pub openingAs : Option ℕ → Program → List ℕ → List Program → Block → (List ℕ → List Program → Table) → Table
-openingAs none main taken subs b rest = refusedAt BadParameter (placeOf b)
-openingAs (some n) main taken subs b rest =
-    if any (eqb n) taken then refusedAt DuplicateNumber (placeOf b)
-    else if leb most (length subs) then refusedAt TableOver (placeOf b)
-    else rest (n ∷ taken) (subs ++ programAfter n b ∷ [])
+-- "Numbers compare by value: `O1` and `O0001` are the same." "The main number counts for duplicates": it is 0, which no
+-- opening has, where the main has no opening.
+unfoldable pub isTaken : Program → List Program → ℕ → Bool
+isTaken main subs n = eqb n (main .number) || any (λ p. eqb n (p .number)) subs
 
-unfoldable pub scanBlock : Bool → Bool → Program → List ℕ → List Program → Block → (List ℕ → List Program → Table) → Table
-scanBlock true isOpening main taken subs b rest = table main subs
-scanBlock false true main taken subs b rest = openingAs (openingNumber b) main taken subs b rest
-scanBlock false false main taken subs b rest = rest taken subs
+-- "per opening 1, 8, 7"
+unfoldable pub openingAs : Option ℕ → Program → List Program → Block → (List Program → Table) → Table
+openingAs none main subs b rest = refusedAt BadParameter (placeOf b)
+openingAs (some n) main subs b rest =
+    if isTaken main subs n then refusedAt DuplicateNumber (placeOf b)
+    else if leb most (length subs) then refusedAt TableOver (placeOf b)
+    else rest (subs ++ programAfter n b ∷ [])
+
+unfoldable pub scanBlock : Bool → Bool → Program → List Program → Block → (List Program → Table) → Table
+scanBlock true isOpening main subs b rest = table main subs
+scanBlock false true main subs b rest = openingAs (openingNumber b) main subs b rest
+scanBlock false false main subs b rest = rest subs
 
 -- the openings of the blocks, up to the closing `%`
-unfoldable pub scan : Program → List Block → List ℕ → List Program → Table
-scan main [] taken subs = table main subs
-scan main (b ∷ bs) taken subs = scanBlock (closes b) (opens b) main taken subs b (scan main bs)
+unfoldable pub scan : Program → List Block → List Program → Table
+scan main [] subs = table main subs
+scan main (b ∷ bs) subs = scanBlock (closes b) (opens b) main subs b (scan main bs)
 
 -- "Blocks before any `O`, or under the first `O` where that is the second block, are the main program."
 unfoldable pub mainAs : Option ℕ → Block → List Block → Table
 mainAs none b bs = refusedAt BadParameter (placeOf b)
-mainAs (some n) b bs = scan (programAfter n b) bs (n ∷ []) []
+mainAs (some n) b bs = scan (programAfter n b) bs []
 
 unfoldable pub programsFrom : Block → List Block → Table
 programsFrom percent [] = table (programAfter 0 percent) []
 programsFrom percent (b ∷ bs) =
-    if opens b then mainAs (openingNumber b) b bs else scan (programAfter 0 percent) (b ∷ bs) [] []
+    if opens b then mainAs (openingNumber b) b bs else scan (programAfter 0 percent) (b ∷ bs) []
 
 -- the blocks of a program, and what follows them
 abbrev pub blocksAt : List Block → Program → List Block
