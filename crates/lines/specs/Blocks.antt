@@ -1,8 +1,9 @@
 -- Document 01, "Data set and blocks": the blocks of the data.
 use Prim.Native.Nat.{ℕ, zero, suc, _+_, _-_}
-use mathlib.Core.Bool.{Bool, false, _&&_, _||_}
+use mathlib.Core.Bool.{Bool, true, false, _&&_, _||_}
 use mathlib.Core.List.{List, [], _∷_}
 use lib.Dec.{eqb}
+use lib.ListN.{drop}
 use Rattle.terms.specs.Terms.{if_then_else_, byte}
 
 unfoldable pub beginsWith : ℕ → List ℕ → Bool
@@ -19,6 +20,11 @@ endsAt b bs = isLf b || eqb b (byte "\r") && beginsWith (byte "\n") bs
 unfoldable pub textFrom : List ℕ → List ℕ
 textFrom [] = []
 textFrom (b ∷ bs) = if endsAt b bs then [] else b ∷ textFrom bs
+
+-- the text ends where the bytes begin
+unfoldable pub noText : List ℕ → Bool
+noText [] = true
+noText (b ∷ bs) = endsAt b bs
 
 -- how many bytes the block takes that the bytes begin with, LF and CR among them. "bytes after the last LF, if any, are
 -- a block"
@@ -47,6 +53,10 @@ blocksAfter (suc pass) n at (b ∷ bs) = blocksAfter pass n at bs
 -- "Blocks count from 1, bytes from 0."
 unfoldable pub blocksOf : List ℕ → List Block
 blocksOf bytes = blocksAfter 0 1 0 bytes
+
+-- the blocks of the data from a place where the block n begins
+abbrev pub blocksFrom : List ℕ → ℕ → ℕ → List Block
+blocksFrom bytes n at = blocksAfter 0 n at (drop at bytes)
 
 -- "`%` alone": the text has this byte and no other
 unfoldable pub isPercent : List ℕ → Bool

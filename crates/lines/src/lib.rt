@@ -1,1 +1,67 @@
-// The blocks of a data set.
+// The blocks of a data set, found by their places.
+ghost use mathlib.Core.Path.{_≡_};
+ghost use Prim.Native.Nat.{_+_, _≤_, _<_};
+ghost use lib.ListN.{length, drop};
+ghost use Rattle.lines.specs.Blocks.{noText, textFrom, lengthFrom, beginsWith, isPercent};
+
+// Whether a block's text ends at a place: at the data's end, at an LF, or at a CR just before one.
+pub fn text_ends(s: &[u8], at: usize) -> bool
+    requires { ⌜ at ≤ length (now s) ⌝ }
+    ensures { λ r. ⌜ r ≡ noText (drop at (now (s .entry))) ⌝ }
+{
+    if s.len() <= at {
+        return true;
+    }
+    if s[at] == b'\n' {
+        return true;
+    }
+    if s[at] != b'\r' {
+        return false;
+    }
+    let next = at + 1;
+    if s.len() <= next {
+        return false;
+    }
+    s[next] == b'\n'
+}
+
+// The place of the next block, for a place in the block before it.
+pub fn next_block(s: &[u8], at: usize) -> usize
+    requires { ⌜ at ≤ length (now s) ⌝ }
+    ensures { λ r. ⌜ r ≡ at + lengthFrom (drop at (now (s .entry))) ⌝ }
+{
+    let mut i = at;
+    while i < s.len() {
+        let b = s[i];
+        i += 1;
+        if b == b'\n' {
+            return i;
+        }
+    }
+    i
+}
+
+// Whether the block at a place is `%` alone.
+pub fn is_percent(s: &[u8], at: usize) -> bool
+    requires { ⌜ at ≤ length (now s) ⌝ }
+    ensures { λ r. ⌜ r ≡ isPercent (textFrom (drop at (now (s .entry)))) ⌝ }
+{
+    if s.len() <= at {
+        return false;
+    }
+    if s[at] != b'%' {
+        return false;
+    }
+    text_ends(s, at + 1)
+}
+
+// Whether the block at a place begins with a byte that ends no text.
+pub fn begins_with(s: &[u8], at: usize, b: u8) -> bool
+    requires { ⌜ (at ≤ length (now s)) × (13 < b) ⌝ }
+    ensures { λ r. ⌜ r ≡ beginsWith b (textFrom (drop at (now (s .entry)))) ⌝ }
+{
+    if s.len() <= at {
+        return false;
+    }
+    s[at] == b
+}

@@ -4,7 +4,9 @@ use Rattle.lengths.proofs.Opened.{opened as lengths-opened}
 use Rattle.codes.proofs.Opened.{opened as codes-opened}
 use Rattle.lines.proofs.Opened.{opened as lines-opened}
 use Rattle.words.proofs.Opened.{opened as words-opened}
-use Rattle.programs.specs.Openings.{noWords, numberAfterO, openingNumber, isTaken, openingAs, scanBlock, scan, mainAs, programsFrom}
+use Rattle.gaps.proofs.Opened.{opened as gaps-opened}
+use Rattle.programs.specs.Found.{openingBy, tableBy}
+use Rattle.programs.specs.Openings.{numberAfterO, openingNumber, isTaken, openingAs, scanBlock, scan, mainAs, programsFrom}
 
 unfoldable pub opened : Unit {0}
 unfolding
@@ -13,7 +15,9 @@ unfolding
     codes-opened
     lines-opened
     words-opened
-    noWords
+    gaps-opened
+    openingBy
+    tableBy
     numberAfterO
     openingNumber
     isTaken

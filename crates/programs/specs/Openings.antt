@@ -10,22 +10,16 @@ use Rattle.refusals.specs.declared.Refusal.{Refusal}
 use Rattle.refusals.specs.declared.Refusal.the-variants.{BadParameter, DuplicateNumber, TableOver}
 use Rattle.refusals.specs.declared.Place.{Place}
 use Rattle.words.specs.Numbers.{isDigit, run, digitsAfter}
-use Rattle.words.specs.Words.{Words, these, badAt, wordsOf}
+use Rattle.gaps.specs.Gaps.{onlyGaps}
 use Rattle.lines.specs.Blocks.{Block, closes, opens}
 use Rattle.programs.specs.declared.Program.{Program}
-
--- "then only blanks and comments": the rest reads as no word at all
-unfoldable pub noWords : Words → Bool
-noWords (these []) = true
-noWords (these (w ∷ ws)) = false
-noWords (badAt at) = false
 
 -- "`O`, one to eight digits, value 1 to 9999, then only blanks and comments": the number that follows the `O`
 unfoldable pub numberAfterO : List ℕ → Option ℕ
 numberAfterO bs =
     let figures = run isDigit bs in
     let value = digitsAfter 0 figures in
-    when (fromTo 1 8 (length figures) && fromTo 1 9_999 value && noWords (wordsOf 0 (drop (length figures) bs))) value
+    when (fromTo 1 8 (length figures) && fromTo 1 9_999 value && onlyGaps (drop (length figures) bs)) value
 
 unfoldable pub openingNumber : Block → Option ℕ
 openingNumber b = numberAfterO (drop 1 (b .text))

@@ -1,0 +1,49 @@
+use Prim.Native.Nat.{_+_, _-_, _≤_}
+use mathlib.Core.Path.{_≡_}
+use native.Mathlib.Omega.{arith}
+use lib.ListN.{length, drop}
+use Rattle.lines.specs.Blocks.{lengthFrom}
+use Rattle.lines.proofs.Lines.{length-at-lf, length-at-more, length-at-end}
+use Rattle.lines.proofs.next_block.Statement.{statement}
+use Rattle.lines.proofs.next_block.Tie as tie
+
+abbrev Inv-loop : tie.InvT-loop
+Inv-loop s at i₀ i = (i ≤ length s) × (at + lengthFrom (drop at s) ≡ i + lengthFrom (drop i s))
+
+abbrev μ-loop : tie.MeasureT-loop
+μ-loop s at i₀ i = length s - i
+
+loop-holds : tie.Need-loop-holds Inv-loop μ-loop
+loop-holds c = omega arith
+
+shared-slice-read-b : tie.Need-shared-slice-read-b Inv-loop μ-loop
+shared-slice-read-b c = omega arith
+
+add-i : tie.Need-add-i Inv-loop μ-loop
+add-i c = omega arith
+
+returns : tie.Need-returns Inv-loop μ-loop
+returns c = let d = c .before .before .before in omega (arith, length-at-lf (d .before .args .s .now) (d .loop .i) (omega arith) (c .if1 .taken))
+
+loop-less : tie.Need-loop-less Inv-loop μ-loop
+loop-less c = omega arith
+
+loop-again : tie.Need-loop-again Inv-loop μ-loop
+loop-again c = let d = c .before .before .before in omega (arith, length-at-more (d .before .args .s .now) (d .loop .i) (omega arith) (c .if1 .left))
+
+returns-2 : tie.Need-returns-2 Inv-loop μ-loop
+returns-2 c = omega (arith, length-at-end (c .before .before .args .s .now) (c .before .loop .i) (omega arith))
+
+pub next-block-spec : {M : Type 1} → statement M
+next-block-spec =
+    tie.close
+    (tie.spec
+    Inv-loop
+    μ-loop
+    loop-holds
+    shared-slice-read-b
+    add-i
+    returns
+    loop-less
+    loop-again
+    returns-2)

@@ -1,0 +1,47 @@
+-- What the scan of the openings answers, in the types of the code.
+use Prim.Native.Nat.{ℕ, _≤_, _<_}
+use mathlib.Core.Path.{_≡_}
+use mathlib.Core.Option.{Option, none, some}
+use mathlib.Core.List.{List}
+use lib.ListN.{length, take, drop}
+use native.Mathlib.Nat as Nat
+use Rattle.lines.specs.Blocks.{textFrom}
+use Rattle.words.specs.Numbers.{isDigit, run, digitsAfter}
+use Rattle.programs.specs.Openings.{Table, table, refusedAt, most}
+use Rattle.programs.specs.declared.Program.{Program}
+use Rattle.programs.specs.declared.Digits.{Digits}
+use Rattle.programs.specs.declared.Opening.{Opening}
+use Rattle.programs.specs.declared.Opening.the-variants.{Number, Bad}
+use Rattle.programs.specs.declared.Verdict.{Verdict}
+use Rattle.programs.specs.declared.Verdict.the-variants.{Fine, Refused}
+use Rattle.programs.specs.declared.Programs.{Programs}
+use Rattle.programs.specs.declared.Scanned.{Scanned}
+
+-- the digits that a text begins with, as far as an opening may have them: a ninth makes the count 9, whatever follows
+abbrev pub figuresOf : List ℕ → List ℕ
+figuresOf text = run isDigit text
+
+pub record IsDigits (text : List ℕ) (d : Digits) : Type 0 where
+  pub few : d .count ≤ 8 → length (figuresOf text) ≡ d .count
+  pub many : 8 < d .count → 8 < length (figuresOf text)
+  pub value : d .count ≤ 8 → digitsAfter 0 (figuresOf text) ≡ d .value
+
+unfoldable pub openingBy : Option ℕ → Opening
+openingBy none = Bad
+openingBy (some n) = Number n
+
+-- the subprograms that are in use
+abbrev pub subsOf : Programs → List Program
+subsOf t = take (t .count) (t .subs)
+
+unfoldable pub tableBy : Verdict → Programs → Table
+tableBy Fine t = table (t .main) (subsOf t)
+tableBy (Refused refusal place) t = refusedAt refusal place
+
+abbrev pub tableOf : Scanned → Table
+tableOf r = tableBy (r .verdict) (r .programs)
+
+-- the table has ten places, of which so many are in use
+pub record Ready (t : Programs) : Type 0 where
+  pub places : length (t .subs) ≡ most
+  pub used : t .count ≤ most
