@@ -14,26 +14,7 @@ use Rattle.terms.specs.Terms.{if_then_else_}
 use Rattle.terms.proofs.Laws.{both-right}
 use Rattle.lines.specs.Blocks.{beginsWith, textFrom, noText}
 use Rattle.lines.proofs.Lines.{at-place}
-use Rattle.words.specs.Words.{
-    isBlank,
-    isCapital,
-    oneMore,
-    closing,
-    Item,
-    gap,
-    word,
-    unreadable,
-    commentItem,
-    wordItem,
-    itemAt,
-    Words,
-    these,
-    badAt,
-    withWord,
-    itemThen,
-    wordsAfter,
-    wordsOf
-}
+use Rattle.words.specs.Words.{isBlank, isCapital, oneMore, closing, gap, unreadable, commentItem, wordItem, itemAt, Words, these, badAt, withWord, itemThen, wordsAfter}
 use Rattle.words.specs.Numbers.{numberIn}
 use Rattle.words.specs.declared.Numbered.{Numbered}
 use Rattle.words.specs.declared.Numbered.the-variants.{Is, Unreadable}

@@ -1,7 +1,7 @@
 -- How blocks follow each other, byte by byte: what a walk over places needs.
 use Prim.Native.Nat.{ℕ, zero, suc, _+_, _-_, _≤_, _<_}
 use mathlib.Core.Path.{_≡_, refl, sym, _∙_, ap}
-use mathlib.Core.Bool.{Bool, true, false, _&&_, _||_}
+use mathlib.Core.Bool.{true, false, _&&_, _||_}
 use mathlib.Core.List.{List, [], _∷_}
 use native.Mathlib.Omega.{arith}
 use native.Mathlib.Numerals.{add-one}
@@ -11,17 +11,7 @@ use lib.Dec.{eqb}
 use lib.ListN.{length, drop, getD, drop-of-length-le}
 use lib.Seq.{drop-cons, drop-drop}
 use Rattle.terms.specs.Terms.{if_then_else_}
-use Rattle.lines.specs.Blocks.{
-    beginsWith,
-    textFrom,
-    noText,
-    lengthFrom,
-    Block,
-    blockFrom,
-    blocksAfter,
-    blocksFrom,
-    isPercent
-}
+use Rattle.lines.specs.Blocks.{beginsWith, textFrom, noText, lengthFrom, blockFrom, blocksAfter, blocksFrom, isPercent}
 
 -- ---- the bytes from a place on
 
@@ -70,6 +60,10 @@ unfolding lengthFrom
 length-pred b bs =
     elim (eqb b 10) as (λ t. suc ((if t then 1 else suc (lengthFrom bs)) - 1) ≡ (if t then 1 else suc (lengthFrom bs)))
     [ true ↦ omega arith | false ↦ omega arith ]
+
+-- a block takes a byte at least
+pub length-some : (l : List ℕ) (at : ℕ) → at < length l → 1 ≤ lengthFrom (drop at l)
+length-some l at h = rw (at-place l at) (omega (arith, length-pred (getD l at 0) (drop (at + 1) l)))
 
 blocks-cons :
     (n at b : ℕ) (bs : List ℕ)

@@ -1,16 +1,15 @@
 -- The digits of an opening, byte by byte.
 use Prim.Native.Nat.{ℕ, suc, _+_, _-_, _*_, _^_, _≤_, _<_}
-use mathlib.Core.Path.{_≡_, refl, sym, _∙_, ap}
-use mathlib.Core.Bool.{Bool, true, false, _&&_, _||_}
+use mathlib.Core.Path.{_≡_, refl, _∙_, ap}
+use mathlib.Core.Bool.{true, false, _&&_, _||_}
 use mathlib.Core.List.{List, [], _∷_}
 use native.Mathlib.Omega.{arith}
 use native.Mathlib.Nat.{pow-succ', pow-le-pow-right}
-use borrow.Author.Tests.{eq-eqb, ne-eqb, le-leb, lt-leb, leb-true, leb-false}
+use borrow.Author.Tests.{ne-eqb, le-leb, lt-leb}
 use native.Mathlib.Numerals.{add-one}
 use lib.Dec.{eqb, lit≤, lit<}
 use lib.ListN.{length, drop, getD, drop-of-length-le}
 use Rattle.terms.specs.Terms.{if_then_else_}
-use Rattle.terms.proofs.Laws.{both-left, both-right}
 use Rattle.lines.specs.Blocks.{beginsWith, textFrom}
 use Rattle.lines.proofs.Lines.{at-place}
 use Rattle.words.specs.Numbers.{isDigit, run, digitsAfter}

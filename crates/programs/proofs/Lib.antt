@@ -2,3 +2,5 @@ pub mod Examples
 pub mod Opened
 pub mod Figures
 pub mod Numbers
+pub mod Entries
+pub mod Scanning

@@ -1,6 +1,6 @@
 -- The number of an opening, from its digits and what follows them.
-use Prim.Native.Nat.{ℕ, zero, suc, _+_, _≤_, _<_}
-use mathlib.Core.Path.{_≡_, refl, sym, _∙_, ap}
+use Prim.Native.Nat.{ℕ, suc, _+_, _≤_, _<_}
+use mathlib.Core.Path.{_≡_, _∙_, ap}
 use mathlib.Core.Bool.{Bool, true, false, _&&_}
 use mathlib.Core.List.{List, [], _∷_}
 use native.Mathlib.Omega.{arith}
@@ -13,7 +13,7 @@ use Rattle.words.specs.Numbers.{run, digitsAfter}
 use Rattle.gaps.specs.Gaps.{onlyGaps}
 use Rattle.gaps.proofs.Laws.{text-drop, text-length}
 use Rattle.programs.specs.Openings.{numberAfterO}
-use Rattle.programs.specs.Found.{figuresOf, IsDigits, openingBy}
+use Rattle.programs.specs.Found.{figuresOf, IsDigits}
 use Rattle.programs.specs.declared.Digits.{Digits}
 use Rattle.programs.specs.declared.Opening.the-variants.{Number, Bad}
 
@@ -55,15 +55,15 @@ worth text = digitsAfter 0 (figuresOf text)
 abbrev rest : List ℕ → Bool
 rest text = onlyGaps (drop (digits text) text)
 
-refused : (text : List ℕ) → test (digits text) (worth text) (rest text) ≡ false → openingBy (numberAfterO text) ≡ Bad
-unfolding numberAfterO openingBy
+refused : (text : List ℕ) → test (digits text) (worth text) (rest text) ≡ false → numberAfterO text ≡ Bad
+unfolding numberAfterO
 refused text e = rw e
 
 module _ {text : List ℕ} {d : Digits} (is : IsDigits text d) where
-  pub opening-few : d .count ≡ 0 → openingBy (numberAfterO text) ≡ Bad
+  pub opening-few : d .count ≡ 0 → numberAfterO text ≡ Bad
   opening-few e = refused text (too-few (digits text) (worth text) (rest text) (omega (arith, is .few (omega arith))))
 
-  pub opening-many : 8 < d .count → openingBy (numberAfterO text) ≡ Bad
+  pub opening-many : 8 < d .count → numberAfterO text ≡ Bad
   opening-many h = refused text (too-many (digits text) (worth text) (rest text) (is .many h))
 
   module _ (some : d .count ≡ 0 → ⊥) (few : d .count ≤ 8) where
@@ -73,10 +73,10 @@ module _ {text : List ℕ} {d : Digits} (is : IsDigits text d) where
     high : length (figuresOf text) ≤ 8
     high = omega (arith, is .few few)
 
-    pub opening-zero : d .value ≡ 0 → openingBy (numberAfterO text) ≡ Bad
+    pub opening-zero : d .value ≡ 0 → numberAfterO text ≡ Bad
     opening-zero e = refused text (too-low (digits text) (worth text) (rest text) low high (omega (arith, is .value few)))
 
-    pub opening-large : 9999 < d .value → openingBy (numberAfterO text) ≡ Bad
+    pub opening-large : 9999 < d .value → numberAfterO text ≡ Bad
     opening-large h = refused text (too-high (digits text) (worth text) (rest text) low high (omega (arith, is .value few)))
 
     module _ (one : d .value ≡ 0 → ⊥) (fits : d .value ≤ 9999) where
@@ -85,11 +85,11 @@ module _ {text : List ℕ} {d : Digits} (is : IsDigits text d) where
           as-rest (digits text) (worth text) (rest text) low high (omega (arith, is .value few)) (omega (arith, is .value few))
           ∙ ap (λ (k : ℕ). onlyGaps (drop k text)) (is .few few)
 
-      pub opening-more : onlyGaps (drop (d .count) text) ≡ false → openingBy (numberAfterO text) ≡ Bad
+      pub opening-more : onlyGaps (drop (d .count) text) ≡ false → numberAfterO text ≡ Bad
       opening-more e = refused text (as-gaps ∙ e)
 
-      pub opening-number : onlyGaps (drop (d .count) text) ≡ true → openingBy (numberAfterO text) ≡ Number (d .value)
-      unfolding numberAfterO openingBy
+      pub opening-number : onlyGaps (drop (d .count) text) ≡ true → numberAfterO text ≡ Number (d .value)
+      unfolding numberAfterO
       opening-number e = rw (as-gaps ∙ e) (ap Number (is .value few))
 
 -- the digits lie inside the data, and the text after them is the text from there

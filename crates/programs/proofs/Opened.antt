@@ -5,8 +5,8 @@ use Rattle.codes.proofs.Opened.{opened as codes-opened}
 use Rattle.lines.proofs.Opened.{opened as lines-opened}
 use Rattle.words.proofs.Opened.{opened as words-opened}
 use Rattle.gaps.proofs.Opened.{opened as gaps-opened}
-use Rattle.programs.specs.Found.{openingBy, tableBy}
-use Rattle.programs.specs.Openings.{numberAfterO, openingNumber, isTaken, openingAs, scanBlock, scan, mainAs, programsFrom}
+use Rattle.programs.specs.Found.{tableBy}
+use Rattle.programs.specs.Openings.{numberAfterO, openingOf, isTaken, entryOf, entered, scanBlock, scan, mainAs, programsFrom}
 
 unfoldable pub opened : Unit {0}
 unfolding
@@ -16,12 +16,12 @@ unfolding
     lines-opened
     words-opened
     gaps-opened
-    openingBy
     tableBy
     numberAfterO
-    openingNumber
+    openingOf
     isTaken
-    openingAs
+    entryOf
+    entered
     scanBlock
     scan
     mainAs

@@ -1,17 +1,12 @@
 -- What the scan of the openings answers, in the types of the code.
 use Prim.Native.Nat.{ℕ, _≤_, _<_}
 use mathlib.Core.Path.{_≡_}
-use mathlib.Core.Option.{Option, none, some}
-use mathlib.Core.List.{List}
-use lib.ListN.{length, take, drop}
-use native.Mathlib.Nat as Nat
-use Rattle.lines.specs.Blocks.{textFrom}
+use mathlib.Core.List.{List, [], _∷_, _++_}
+use lib.ListN.{length, take}
 use Rattle.words.specs.Numbers.{isDigit, run, digitsAfter}
 use Rattle.programs.specs.Openings.{Table, table, refusedAt, most}
 use Rattle.programs.specs.declared.Program.{Program}
 use Rattle.programs.specs.declared.Digits.{Digits}
-use Rattle.programs.specs.declared.Opening.{Opening}
-use Rattle.programs.specs.declared.Opening.the-variants.{Number, Bad}
 use Rattle.programs.specs.declared.Verdict.{Verdict}
 use Rattle.programs.specs.declared.Verdict.the-variants.{Fine, Refused}
 use Rattle.programs.specs.declared.Programs.{Programs}
@@ -25,10 +20,6 @@ pub record IsDigits (text : List ℕ) (d : Digits) : Type 0 where
   pub few : d .count ≤ 8 → length (figuresOf text) ≡ d .count
   pub many : 8 < d .count → 8 < length (figuresOf text)
   pub value : d .count ≤ 8 → digitsAfter 0 (figuresOf text) ≡ d .value
-
-unfoldable pub openingBy : Option ℕ → Opening
-openingBy none = Bad
-openingBy (some n) = Number n
 
 -- the subprograms that are in use
 abbrev pub subsOf : Programs → List Program
@@ -45,3 +36,15 @@ tableOf r = tableBy (r .verdict) (r .programs)
 pub record Ready (t : Programs) : Type 0 where
   pub places : length (t .subs) ≡ most
   pub used : t .count ≤ most
+
+-- the table with one subprogram more
+pub record Entered (t : Programs) (p : Program) (r : Programs) : Type 0 where
+  pub ready : Ready r
+  pub main : r .main ≡ t .main
+  pub subs : subsOf r ≡ subsOf t ++ p ∷ []
+
+-- the table with no subprogram yet
+pub record Empty (p : Program) (r : Programs) : Type 0 where
+  pub ready : Ready r
+  pub main : r .main ≡ p
+  pub subs : subsOf r ≡ []

@@ -1,11 +1,10 @@
 -- Document 01, "Data set and blocks": the openings, the main program and the subprograms.
 use Prim.Native.Nat.{ℕ, _+_, _-_}
 use mathlib.Core.Bool.{Bool, true, false, _&&_, _||_}
-use mathlib.Core.Option.{Option, none, some}
 use mathlib.Core.List.{List, [], _∷_, _++_}
 use lib.Dec.{eqb, leb}
 use lib.ListN.{length, drop}
-use Rattle.terms.specs.Terms.{if_then_else_, any, fromTo, when}
+use Rattle.terms.specs.Terms.{if_then_else_, any, fromTo}
 use Rattle.refusals.specs.declared.Refusal.{Refusal}
 use Rattle.refusals.specs.declared.Refusal.the-variants.{BadParameter, DuplicateNumber, TableOver}
 use Rattle.refusals.specs.declared.Place.{Place}
@@ -13,16 +12,20 @@ use Rattle.words.specs.Numbers.{isDigit, run, digitsAfter}
 use Rattle.gaps.specs.Gaps.{onlyGaps}
 use Rattle.lines.specs.Blocks.{Block, closes, opens}
 use Rattle.programs.specs.declared.Program.{Program}
+use Rattle.programs.specs.declared.Opening.{Opening}
+use Rattle.programs.specs.declared.Opening.the-variants.{Number, Bad}
+use Rattle.programs.specs.declared.Entry.{Entry}
+use Rattle.programs.specs.declared.Entry.the-variants.{Refuses, Enters}
 
--- "`O`, one to eight digits, value 1 to 9999, then only blanks and comments": the number that follows the `O`
-unfoldable pub numberAfterO : List ℕ → Option ℕ
+-- "`O`, one to eight digits, value 1 to 9999, then only blanks and comments; else 1.": what follows the `O`
+unfoldable pub numberAfterO : List ℕ → Opening
 numberAfterO bs =
     let figures = run isDigit bs in
     let value = digitsAfter 0 figures in
-    when (fromTo 1 8 (length figures) && fromTo 1 9_999 value && onlyGaps (drop (length figures) bs)) value
+    if fromTo 1 8 (length figures) && fromTo 1 9_999 value && onlyGaps (drop (length figures) bs) then Number value else Bad
 
-unfoldable pub openingNumber : Block → Option ℕ
-openingNumber b = numberAfterO (drop 1 (b .text))
+unfoldable pub openingOf : Block → Opening
+openingOf b = numberAfterO (drop 1 (b .text))
 
 abbrev pub placeOf : Block → Place
 placeOf b = record { block = b .number; byte = b .start }
@@ -45,17 +48,21 @@ most = 10
 unfoldable pub isTaken : Program → List Program → ℕ → Bool
 isTaken main subs n = eqb n (main .number) || any (λ p. eqb n (p .number)) subs
 
--- "per opening 1, 8, 7"
-unfoldable pub openingAs : Option ℕ → Program → List Program → Block → (List Program → Table) → Table
-openingAs none main subs b rest = refusedAt BadParameter (placeOf b)
-openingAs (some n) main subs b rest =
-    if isTaken main subs n then refusedAt DuplicateNumber (placeOf b)
-    else if leb most (length subs) then refusedAt TableOver (placeOf b)
-    else rest (subs ++ programAfter n b ∷ [])
+-- "per opening 1, 8, 7": a subprogram's opening is refused, or enters its number
+unfoldable pub entryOf : Program → List Program → Opening → Entry
+entryOf main subs Bad = Refuses BadParameter
+entryOf main subs (Number n) =
+    if isTaken main subs n then Refuses DuplicateNumber
+    else if leb most (length subs) then Refuses TableOver
+    else Enters n
+
+unfoldable pub entered : Entry → List Program → Block → (List Program → Table) → Table
+entered (Refuses refusal) subs b rest = refusedAt refusal (placeOf b)
+entered (Enters n) subs b rest = rest (subs ++ programAfter n b ∷ [])
 
 unfoldable pub scanBlock : Bool → Bool → Program → List Program → Block → (List Program → Table) → Table
 scanBlock true isOpening main subs b rest = table main subs
-scanBlock false true main subs b rest = openingAs (openingNumber b) main subs b rest
+scanBlock false true main subs b rest = entered (entryOf main subs (openingOf b)) subs b rest
 scanBlock false false main subs b rest = rest subs
 
 -- the openings of the blocks, up to the closing `%`
@@ -64,14 +71,14 @@ scan main [] subs = table main subs
 scan main (b ∷ bs) subs = scanBlock (closes b) (opens b) main subs b (scan main bs)
 
 -- "Blocks before any `O`, or under the first `O` where that is the second block, are the main program."
-unfoldable pub mainAs : Option ℕ → Block → List Block → Table
-mainAs none b bs = refusedAt BadParameter (placeOf b)
-mainAs (some n) b bs = scan (programAfter n b) bs []
+unfoldable pub mainAs : Opening → Block → List Block → Table
+mainAs Bad b bs = refusedAt BadParameter (placeOf b)
+mainAs (Number n) b bs = scan (programAfter n b) bs []
 
 unfoldable pub programsFrom : Block → List Block → Table
 programsFrom percent [] = table (programAfter 0 percent) []
 programsFrom percent (b ∷ bs) =
-    if opens b then mainAs (openingNumber b) b bs else scan (programAfter 0 percent) (b ∷ bs) []
+    if opens b then mainAs (openingOf b) b bs else scan (programAfter 0 percent) (b ∷ bs) []
 
 -- the blocks of a program, and what follows them
 abbrev pub blocksAt : List Block → Program → List Block

@@ -1,4 +1,4 @@
-use Prim.Native.Nat.{_-_, _≤_}
+use Prim.Native.Nat.{_-_}
 use native.Mathlib.Omega.{arith}
 use lib.ListN.{length}
 use Rattle.programs.proofs.Figures.{Passed, none-passed, one-passed, nine-passed, ended-other, ended-end, all-passed, digit-low, digit-high, at-most-eight}
