@@ -16,7 +16,7 @@ use Rattle.codes.specs.declared.Code.the-variants.{GroupA, GroupB, Group
 use Rattle.codes.specs.declared.Misc.{Misc}
 use Rattle.codes.specs.declared.Misc.the-variants.{M00, M02, M03, M05, M30, M98, M99, Other}
 
-abbrev gTable : List (ℕ × Code)
+abbrev pub gTable : List (ℕ × Code)
 gTable =
     -- "Group A: G00 G01 G02 G03 G80 G81 G82 G85 G89."
     (0, GroupA G00) ∷ (1, GroupA G01) ∷ (2, GroupA G02) ∷ (3, GroupA G03) ∷ (80, GroupA Off)
@@ -37,7 +37,7 @@ gTable =
 unfoldable pub codeOf : ℕ → Code
 codeOf n = lookup n gTable Unknown
 
-abbrev mTable : List (ℕ × Misc)
+abbrev pub mTable : List (ℕ × Misc)
 mTable =
     -- "M: 00 02 03 05 30 98 99."
     (0, M00) ∷ (2, M02) ∷ (3, M03) ∷ (5, M05) ∷ (30, M30) ∷ (98, M98) ∷ (99, M99) ∷ []

@@ -1,5 +1,8 @@
 // The codes of document 01, "Codes": what a G or an M number means.
 
+ghost use mathlib.Core.Path.{_≡_};
+ghost use Rattle.codes.specs.Codes.{codeOf, miscOf, groupOf, miscNumber, clash};
+
 pub enum Cycle {
     G81,
     G82,
@@ -64,4 +67,90 @@ pub enum Misc {
     M98,
     M99,
     Other,
+}
+
+// What a G number means.
+pub fn code_of(n: u64) -> Code
+    ensures { λ r. ⌜ r ≡ codeOf n ⌝ }
+{
+    match n {
+        0 => Code::GroupA(Motion::G00),
+        1 => Code::GroupA(Motion::G01),
+        2 => Code::GroupA(Motion::G02),
+        3 => Code::GroupA(Motion::G03),
+        80 => Code::GroupA(Motion::Off),
+        81 => Code::GroupA(Motion::Drilling(Cycle::G81)),
+        82 => Code::GroupA(Motion::Drilling(Cycle::G82)),
+        85 => Code::GroupA(Motion::Drilling(Cycle::G85)),
+        89 => Code::GroupA(Motion::Drilling(Cycle::G89)),
+        17..=19 => match n {
+            17 => Code::GroupB(Plane::G17),
+            18 => Code::GroupB(Plane::G18),
+            _ => Code::GroupB(Plane::G19),
+        },
+        20 => Code::GroupC(Unit::Inch),
+        21 => Code::GroupC(Unit::Millimetre),
+        90 => Code::GroupD(Distance::Absolute),
+        91 => Code::GroupD(Distance::Incremental),
+        54..=59 => Code::GroupE((n - 54) as usize),
+        98 => Code::GroupF(Return::ToInitial),
+        99 => Code::GroupF(Return::ToR),
+        4 => Code::G04,
+        _ => Code::Unknown,
+    }
+}
+
+// What an M number means.
+pub fn misc_of(n: u64) -> Misc
+    ensures { λ r. ⌜ r ≡ miscOf n ⌝ }
+{
+    match n {
+        0 => Misc::M00,
+        2 => Misc::M02,
+        3 => Misc::M03,
+        5 => Misc::M05,
+        30 => Misc::M30,
+        98 => Misc::M98,
+        99 => Misc::M99,
+        _ => Misc::Other,
+    }
+}
+
+pub fn group_of(c: Code) -> u64
+    ensures { λ r. ⌜ r ≡ groupOf c ⌝ }
+{
+    match c {
+        Code::GroupA(_) => 1,
+        Code::GroupB(_) => 2,
+        Code::GroupC(_) => 3,
+        Code::GroupD(_) => 4,
+        Code::GroupE(_) => 5,
+        Code::GroupF(_) => 6,
+        Code::G04 => 7,
+        Code::Unknown => 0,
+    }
+}
+
+pub fn misc_number(m: Misc) -> u64
+    ensures { λ r. ⌜ r ≡ miscNumber m ⌝ }
+{
+    match m {
+        Misc::M00 => 0,
+        Misc::M02 => 2,
+        Misc::M03 => 3,
+        Misc::M05 => 5,
+        Misc::M30 => 30,
+        Misc::M98 => 98,
+        Misc::M99 => 99,
+        Misc::Other => 100,
+    }
+}
+
+// Whether two codes may not stand in one block.
+pub fn clash(c: Code, d: Code) -> bool
+    ensures { λ r. ⌜ r ≡ clash c d ⌝ }
+{
+    let a = group_of(c);
+    let b = group_of(d);
+    (a == b) | ((a == 1) & (b == 7)) | ((a == 7) & (b == 1))
 }

@@ -2,7 +2,7 @@
 use Prim.Native.Nat.{ℕ, _+_, _≤_, _<_}
 use mathlib.Core.Path.{_≡_, refl, sym, _∙_, ap, ap₂}
 use mathlib.Core.Bool.{true, false, false≢true}
-use mathlib.Core.List.{List, [], _∷_}
+use mathlib.Core.List.{List, []}
 use native.Mathlib.Omega.{arith}
 use native.Mathlib.Decide.{decLt}
 use borrow.Author.Tests.{eq-eqb, ne-eqb, eqb-true}
@@ -10,20 +10,7 @@ use lib.ListN.{length, drop, getD, length-drop}
 use Rattle.lines.specs.Blocks.{beginsWith, textFrom, lengthFrom, Block, blockFrom, blocksFrom, isPercent}
 use Rattle.lines.proofs.Lines.{blocks-step, blocks-end, text-begins-end, text-begins-at, no-text-other, length-bound, length-at-more}
 use Rattle.gaps.proofs.Laws.{text-at}
-use Rattle.programs.specs.Openings.{
-    Table,
-    table,
-    refusedAt,
-    numberAfterO,
-    openingOf,
-    entryOf,
-    entered,
-    scanBlock,
-    scan,
-    mainAs,
-    programsFrom,
-    programAfter
-}
+use Rattle.programs.specs.Openings.{table, refusedAt, numberAfterO, openingOf, entryOf, entered, scanBlock, scan, mainAs, programsFrom, programAfter}
 use Rattle.programs.specs.Found.{Ready, subsOf, Entered, Empty}
 use Rattle.programs.specs.declared.Program.{Program}
 use Rattle.programs.specs.declared.Entry.{Entry}

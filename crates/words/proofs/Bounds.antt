@@ -19,11 +19,11 @@ use Rattle.words.specs.declared.Value.{Value}
 use Rattle.words.specs.declared.Value.the-variants.{Fit}
 
 -- a value that passed its test is the one that was tested
-record Tested (t : Bool) (z : ℤ) (v : Len) : Type 0 where
-  passed : t ≡ true
-  is : v ≡ len z
+pub record Tested (t : Bool) (z : ℤ) (v : Len) : Type 0 where
+  pub passed : t ≡ true
+  pub is : v ≡ len z
 
-tested : (t : Bool) (z : ℤ) (v : Len) → checked t z ≡ Fit v → Tested t z v
+pub tested : (t : Bool) (z : ℤ) (v : Len) → checked t z ≡ Fit v → Tested t z v
 unfolding checked
 tested true z v e = record { passed = refl; is = cc }
 tested false z v e = let never : _≡_ {A = ℕ} 0 1 = cc in absurd (omega arith)

@@ -1,5 +1,19 @@
 // Words of a block: a capital letter and, directly after, a number.
+use codes::Unit;
 use lengths::Len;
+ghost use mathlib.Core.Path.{_≡_};
+ghost use Prim.Native.Nat.{_+_, _^_, _≤_, _<_};
+ghost use mathlib.Core.Bool.{not, _&&_};
+ghost use mathlib.Core.List.{[]};
+ghost use lib.IntN.{pos};
+ghost use lib.ListN.{length};
+ghost use lib.Seq.{slice};
+ghost use lib.Signed.{ltZ};
+ghost use Rattle.terms.specs.Terms.{byte, between};
+ghost use Rattle.lengths.specs.Units.{len};
+ghost use Rattle.words.specs.Numbers.{numberIn, Written};
+ghost use Rattle.words.specs.Values.{isPlain, signed, placesOf, unitsOf, lengthOf, isLength, dwellOf, isDwell, countOf, checked, valueOf, Steps};
+ghost use Rattle.words.specs.Reading.{numberFrom, begun, Few, Goes};
 
 // The sign that a number is written with.
 pub enum Sign {
@@ -66,4 +80,319 @@ pub struct Values {
     pub p: Given,
     pub f: Given,
     pub s: Given,
+}
+
+// The figures that the number reader has passed: the number that they make, how many digits they are, and how many bytes
+// they take, the sign among them.
+struct Figures {
+    pub number: Number,
+    pub count: u64,
+    pub used: usize,
+}
+
+// What a byte leads to: it is one of the figures, or the number ends before it.
+enum Step {
+    More(Figures),
+    Done(Numbered),
+}
+
+// The figures after a sign, before the first of them.
+fn none_after(sign: Sign) -> Figures
+    ensures { λ r. ⌜ r ≡ begun sign ⌝ }
+{
+    let used = match sign {
+        Sign::Plain => 0,
+        Sign::Plus => 1,
+        Sign::Minus => 1,
+    };
+    Figures {
+        number: Number {
+            sign,
+            point: false,
+            digits: 0,
+            decimals: 0,
+        },
+        count: 0,
+        used,
+    }
+}
+
+// The number of the figures that were passed, where no more follow. Ten digits are never passed, nor two points, so a
+// number without digits is all that is left to refuse.
+fn ended(f: Figures) -> Numbered
+    requires { ⌜ Few f ⌝ }
+    ensures { λ r. ⌜ r ≡ numberFrom f [] ⌝ }
+{
+    let n = f.number;
+    if f.count == 0 {
+        Numbered::Unreadable
+    } else {
+        Numbered::Is(n, f.used)
+    }
+}
+
+// A second point makes the number unreadable, whatever follows.
+fn with_point(f: Figures) -> Step
+    requires { ⌜ Few f ⌝ }
+    ensures { λ r. ⌜ Goes (numberFrom f) (byte ".") r ⌝ }
+{
+    let mut n = f.number;
+    if n.point {
+        return Step::Done(Numbered::Unreadable);
+    }
+    n.point = true;
+    Step::More(Figures {
+        number: n,
+        count: f.count,
+        used: f.used + 1,
+    })
+}
+
+// So does a tenth digit. The reader stops there, so that the value always fits.
+fn with_digit(f: Figures, d: u64) -> Step
+    requires { ⌜ (Few f) × (d ≤ 9) ⌝ }
+    ensures { λ r. ⌜ Goes (numberFrom f) (byte "0" + d) r ⌝ }
+{
+    if f.count == 9 {
+        return Step::Done(Numbered::Unreadable);
+    }
+    let mut n = f.number;
+    n.digits = n.digits * 10 + d;
+    if n.point {
+        n.decimals = n.decimals + 1;
+    }
+    Step::More(Figures {
+        number: n,
+        count: f.count + 1,
+        used: f.used + 1,
+    })
+}
+
+// What a byte after the first leads to.
+fn next_step(f: Figures, b: u8) -> Step
+    requires { ⌜ Few f ⌝ }
+    ensures { λ r. ⌜ Goes (numberFrom f) b r ⌝ }
+{
+    match b {
+        b'.' => with_point(f),
+        b'0'..=b'9' => with_digit(f, (b - b'0') as u64),
+        _ => Step::Done(ended(f)),
+    }
+}
+
+// The first byte may be a sign, and no other.
+fn first_step(b: u8) -> Step
+    ensures { λ r. ⌜ Goes numberIn b r ⌝ }
+{
+    match b {
+        b'+' => Step::More(none_after(Sign::Plus)),
+        b'-' => Step::More(none_after(Sign::Minus)),
+        _ => next_step(none_after(Sign::Plain), b),
+    }
+}
+
+// The number that the figures already passed and the bytes from `from` on make.
+fn read_figures(s: &[u8], from: usize, end: usize, f: Figures) -> Numbered
+    requires { ⌜ (from ≤ end) × (end ≤ length (now s)) ⌝ }
+    requires { ⌜ Few f ⌝ }
+    ensures { λ r. ⌜ r ≡ numberFrom f (slice from end (now (s .entry))) ⌝ }
+{
+    let mut passed = f;
+    let mut i = from;
+    while i < end {
+        match next_step(passed, s[i]) {
+            Step::More(next) => {
+                passed = next;
+            }
+            Step::Done(r) => {
+                return r;
+            }
+        }
+        i += 1;
+    }
+    ended(passed)
+}
+
+// The number that the bytes from `at` to `end` begin with. Each byte is read once, up to the first that is not the number's.
+pub fn read_number(s: &[u8], at: usize, end: usize) -> Numbered
+    requires { ⌜ (at ≤ end) × (end ≤ length (now s)) ⌝ }
+    ensures { λ r. ⌜ r ≡ numberIn (slice at end (now (s .entry))) ⌝ }
+{
+    if at == end {
+        return Numbered::Unreadable;
+    }
+    match first_step(s[at]) {
+        Step::More(f) => read_figures(s, at + 1, end, f),
+        Step::Done(r) => r,
+    }
+}
+
+// Ten to the k. No unit has more than four decimals.
+fn power_of_ten(k: u64) -> u64
+    requires { ⌜ k ≤ 4 ⌝ }
+    ensures { λ r. ⌜ r ≡ 10 ^ k ⌝ }
+{
+    match k {
+        0 => 1,
+        1 => 10,
+        2 => 100,
+        3 => 1000,
+        _ => 10000,
+    }
+}
+
+// A number in the least steps of its unit, of which `places` decimals make one whole.
+fn steps(places: u64, n: Number) -> u64
+    requires { ⌜ Written n ⌝ }
+    requires { ⌜ (n .decimals ≤ places) × (places ≤ 4) ⌝ }
+    ensures { λ r. ⌜ Steps places n r ⌝ }
+{
+    if n.point {
+        n.digits * power_of_ten(places - n.decimals)
+    } else {
+        n.digits
+    }
+}
+
+// How many decimals a length may have.
+fn places_of(unit: Unit) -> u64
+    ensures { λ r. ⌜ r ≡ placesOf unit ⌝ }
+{
+    match unit {
+        Unit::Millimetre => 3,
+        Unit::Inch => 4,
+    }
+}
+
+// How many units of 0.00001 mm the least step is.
+fn units_of(unit: Unit) -> u64
+    ensures { λ r. ⌜ r ≡ unitsOf unit ⌝ }
+{
+    match unit {
+        Unit::Millimetre => 100,
+        Unit::Inch => 254,
+    }
+}
+
+fn signed(sign: Sign, n: u64) -> Len
+    requires { ⌜ n < 2 ^ 63 ⌝ }
+    ensures { λ r. ⌜ r ≡ len (signed sign n) ⌝ }
+{
+    let z = Len::of_count(n);
+    match sign {
+        Sign::Plain => z,
+        Sign::Plus => z,
+        Sign::Minus => z.negated(),
+    }
+}
+
+// A value that is refused where its test failed.
+fn checked(ok: bool, z: Len) -> Value
+    ensures { λ r. ⌜ r ≡ checked ok (z .v) ⌝ }
+{
+    if ok { Value::Fit(z) } else { Value::Bad }
+}
+
+// Neither sign nor point.
+fn is_plain(n: Number) -> bool
+    ensures { λ r. ⌜ r ≡ isPlain n ⌝ }
+{
+    let sign = n.sign;
+    match sign {
+        Sign::Plain => !n.point,
+        Sign::Plus => false,
+        Sign::Minus => false,
+    }
+}
+
+// The size is tested without its sign. It fits: nine digits and four more are below 2 ^ 63 units, in inch too.
+fn length_value(unit: Unit, n: Number) -> Value
+    requires { ⌜ Written n ⌝ }
+    ensures { λ r. ⌜ r ≡ checked (isLength unit n) (lengthOf unit n) ⌝ }
+{
+    let places = places_of(unit);
+    if places < n.decimals {
+        return Value::Bad;
+    }
+    let size = steps(places, n) * units_of(unit);
+    let sign = n.sign;
+    checked(size <= 1000000000, signed(sign, size))
+}
+
+fn feed_value(unit: Unit, n: Number) -> Value
+    requires { ⌜ Written n ⌝ }
+    ensures { λ r. ⌜ r ≡ checked (isLength unit n && ltZ (pos 0) (lengthOf unit n)) (lengthOf unit n) ⌝ }
+{
+    let v = length_value(unit, n);
+    let Value::Fit(z) = v else {
+        return v;
+    };
+    checked(Len::zero().below(z), z)
+}
+
+fn dwell_value(n: Number) -> Value
+    requires { ⌜ Written n ⌝ }
+    ensures { λ r. ⌜ r ≡ checked (isDwell n) (dwellOf n) ⌝ }
+{
+    if 3 < n.decimals {
+        return Value::Bad;
+    }
+    let sign = n.sign;
+    let z = signed(sign, steps(3, n));
+    checked(
+        Len::zero().at_most(z) & z.at_most(Len::of_count(3600000)),
+        z,
+    )
+}
+
+// How often: a negative number is 0 times, and a large one 9,999 times.
+fn count_of(n: Number) -> u64
+    requires { ⌜ Written n ⌝ }
+    ensures { λ r. ⌜ r ≡ countOf n ⌝ }
+{
+    let sign = n.sign;
+    if signed(sign, n.digits).below(Len::zero()) {
+        return 0;
+    }
+    if n.digits <= 9999 { n.digits } else { 9999 }
+}
+
+fn count_value(n: Number) -> Value
+    requires { ⌜ Written n ⌝ }
+    ensures { λ r. ⌜ r ≡ checked (not (n .point)) (pos (countOf n)) ⌝ }
+{
+    checked(!n.point, Len::of_count(count_of(n)))
+}
+
+fn label_value(n: Number) -> Value
+    requires { ⌜ Written n ⌝ }
+    ensures { λ r. ⌜ r ≡ checked (isPlain n) (pos (n .digits)) ⌝ }
+{
+    checked(is_plain(n), Len::of_count(n.digits))
+}
+
+fn speed_value(lowest: Len, highest: Len, n: Number) -> Value
+    requires { ⌜ Written n ⌝ }
+    ensures { λ r. ⌜ r ≡ checked (isPlain n && between (lowest .v) (highest .v) (pos (n .digits))) (pos (n .digits)) ⌝ }
+{
+    let z = Len::of_count(n.digits);
+    checked(is_plain(n) & (lowest.at_most(z) & z.at_most(highest)), z)
+}
+
+// The value of a number for its use, by the unit of its block and the lowest and the highest spindle speed.
+pub fn value_of(unit: Unit, lowest: Len, highest: Len, use_of: Use, n: Number) -> Value
+    requires { ⌜ Written n ⌝ }
+    ensures { λ r. ⌜ r ≡ valueOf unit (lowest .v) (highest .v) use_of n ⌝ }
+{
+    match use_of {
+        Use::Nothing => Value::Fit(Len::zero()),
+        Use::Codes => Value::Fit(Len::zero()),
+        Use::Label => label_value(n),
+        Use::Program => label_value(n),
+        Use::Speed => speed_value(lowest, highest, n),
+        Use::Count => count_value(n),
+        Use::Dwell => dwell_value(n),
+        Use::Length => length_value(unit, n),
+        Use::Feed => feed_value(unit, n),
+    }
 }

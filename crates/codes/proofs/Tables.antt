@@ -1,0 +1,98 @@
+-- How a number is looked up in the tables of codes. A `match` knows of a number that reaches its last arm that it is none
+-- of the single numbers and in none of the ranges; a table that has only such numbers does not have it. Assumes nothing.
+use Prim.Native.Nat.{ℕ, zero, suc, _+_, _-_, _≤_, _<_}
+use mathlib.Core.Path.{_≡_, refl, sym, ap, _∙_}
+use mathlib.Core.Bool.{Bool, true, false, _||_, and-false}
+use mathlib.Core.List.{List, [], _∷_}
+use native.Mathlib.Omega.{arith}
+use lib.Dec.{eqb, leb}
+use borrow.Author.Tests.{ne-eqb, lt-leb}
+use Rattle.terms.specs.Terms.{any, all, lookup, fromTo}
+use Rattle.terms.proofs.Laws.{both-left, both-right}
+use Rattle.codes.specs.Codes.{gTable, mTable, codeOf, miscOf}
+use Rattle.codes.specs.declared.Code.the-variants.{GroupE, Unknown}
+use Rattle.codes.specs.declared.Misc.the-variants.{Other}
+
+-- ---- a number that a table does not have
+
+-- what a `match` says of a number that is none of its single numbers: `ks` are those, the last arm's first
+abbrev pub Others : ℕ → List ℕ → Type 0
+Others n [] = Unit
+Others n (k ∷ ks) = Others n ks × (n ≡ k → ⊥)
+
+abbrev among : List ℕ → ℕ → Bool
+among ks n = any (eqb n) ks
+
+none-of : (n : ℕ) (ks : List ℕ) → Others n ks → among ks n ≡ false
+unfolding any
+none-of n [] h = refl
+none-of n (k ∷ ks) h = rw (ne-eqb n k (h .1)) (none-of n ks (h .0))
+
+-- the numbers of a table all pass a test that n does not pass
+abbrev passes : {A : Type 0} → (ℕ → Bool) → List (ℕ × A) → Bool
+passes test rows = all (λ row. test (row .0)) rows
+
+differ : (test : ℕ → Bool) (m n : ℕ) → test m ≡ true → test n ≡ false → n ≡ m → ⊥
+differ test m n p q e = let never : _≡_ {A = ℕ} 0 1 = cc in omega arith
+
+lookup-none :
+    {A : Type 0} (test : ℕ → Bool) (n : ℕ) (rows : List (ℕ × A)) (other : A)
+    → test n ≡ false → passes test rows ≡ true → other ≡ lookup n rows other
+unfolding lookup all
+lookup-none test n [] other h t = refl
+lookup-none test n (row ∷ rows) other h t =
+    let apart = differ test (row .0) n (both-left (test (row .0)) (passes test rows) t) h in
+    rw (ne-eqb n (row .0) apart) (lookup-none test n rows other h (both-right (test (row .0)) (passes test rows) t))
+
+abbrev mKeys : List ℕ
+mKeys = 99 ∷ 98 ∷ 30 ∷ 5 ∷ 3 ∷ 2 ∷ 0 ∷ []
+
+pub misc-none : (n : ℕ) → Others n mKeys → Other ≡ miscOf n
+unfolding miscOf any all
+misc-none n h = lookup-none (among mKeys) n mTable Other (none-of n mKeys h) refl
+
+abbrev gKeys : List ℕ
+gKeys = 4 ∷ 99 ∷ 98 ∷ 91 ∷ 90 ∷ 21 ∷ 20 ∷ 89 ∷ 85 ∷ 82 ∷ 81 ∷ 80 ∷ 3 ∷ 2 ∷ 1 ∷ 0 ∷ []
+
+abbrev inRange : ℕ → Bool
+inRange n = fromTo 17 19 n || fromTo 54 59 n
+
+pub code-none : (n : ℕ) → Others n gKeys → inRange n ≡ false → Unknown ≡ codeOf n
+unfolding codeOf any all
+code-none n h e =
+    lookup-none (λ k. inRange k || among gKeys k) n gTable Unknown (rw e (none-of n gKeys h)) refl
+
+-- below, between and above the ranges
+pub below-ranges : (n : ℕ) → n < 17 → inRange n ≡ false
+below-ranges n h = rw (lt-leb 17 n h, lt-leb 54 n (omega arith))
+
+pub between-ranges : (n : ℕ) → 20 ≤ n → n < 54 → inRange n ≡ false
+between-ranges n h k = rw (lt-leb n 19 h, lt-leb 54 n k, and-false (leb 17 n))
+
+pub above-ranges : (n : ℕ) → 60 ≤ n → inRange n ≡ false
+above-ranges n h = rw (lt-leb n 19 (omega arith), lt-leb n 59 h, and-false (leb 17 n), and-false (leb 54 n))
+
+-- ---- a number that a table has
+
+pub code-at : (k : ℕ) {n : ℕ} → n ≡ k → codeOf k ≡ codeOf n
+code-at k e = ap codeOf (sym e)
+
+pub misc-at : (k : ℕ) {n : ℕ} → n ≡ k → miscOf k ≡ miscOf n
+misc-at k e = ap miscOf (sym e)
+
+pub last-plane : (n : ℕ) → 17 ≤ n → n < 20 → Others n (18 ∷ 17 ∷ []) → codeOf 19 ≡ codeOf n
+last-plane n h k o = ap codeOf (omega arith)
+
+-- G54 to G59 name the places in their order
+place : (k : ℕ) → k ≤ 5 → GroupE k ≡ codeOf (54 + k)
+unfolding codeOf lookup
+place zero h = refl
+place (suc zero) h = refl
+place (suc (suc zero)) h = refl
+place (suc (suc (suc zero))) h = refl
+place (suc (suc (suc (suc zero)))) h = refl
+place (suc (suc (suc (suc (suc zero))))) h = refl
+place (suc (suc (suc (suc (suc (suc k)))))) h = absurd (omega arith)
+
+pub place-of : (n : ℕ) → 54 ≤ n → n < 60 → GroupE (n - 54) ≡ codeOf n
+place-of n h k = place (n - 54) (omega arith) ∙ ap codeOf (omega arith)

@@ -1,0 +1,147 @@
+-- Laws of the rule of a number: what is known of every number that is read, and what its figures have to do with the text.
+-- Assumes nothing.
+use Prim.Native.Nat.{ℕ, _+_, _-_, _*_, _^_, _≤_, _<_}
+use mathlib.Core.Path.{_≡_, refl, sym, _∙_}
+use mathlib.Core.Bool.{Bool, true, false, _&&_}
+use mathlib.Core.List.{List, [], _∷_, _++_}
+use native.Mathlib.Nat.{add-zero}
+use native.Mathlib.Omega.{arith}
+use lib.Dec.{leb, eqb}
+use lib.ListN.{length, drop, length-drop}
+use borrow.Author.Tests.{leb-true, eqb-false}
+use Rattle.terms.specs.Terms.{if_then_else_, byte, fromTo}
+use Rattle.terms.proofs.Laws.{both-left, both-right}
+use Rattle.words.specs.Numbers.{isDigit, isPoint, signOf, signLength, run, count, digitsAfter, decimalsOf, numberBy, numberIn, Written}
+use Rattle.words.specs.Reading.{isFigure, made}
+use Rattle.words.specs.declared.Sign.{Sign}
+use Rattle.words.specs.declared.Sign.the-variants.{Plain, Plus, Minus}
+use Rattle.words.specs.declared.Number.{Number}
+use Rattle.words.specs.declared.Numbered.the-variants.{Is, Unreadable}
+use Rattle.words.proofs.Reading.{number-made, too-many-digits, ten-more, below-ten}
+
+-- ---- figures
+
+-- an opening's number does not depend on its leading zeros
+pub leading-zero : (bs : List ℕ) → digitsAfter 0 (byte "0" ∷ bs) ≡ digitsAfter 0 bs
+unfolding digitsAfter
+leading-zero bs = refl
+
+pub run-short : (test : ℕ → Bool) (bs : List ℕ) → length (run test bs) ≤ length bs
+unfolding run
+run-short test [] = omega arith
+run-short test (b ∷ bs) = by (test b) (run-short test bs)
+  where
+    by : (t : Bool) → length (run test bs) ≤ length bs → length (if t then b ∷ run test bs else []) ≤ length (b ∷ bs)
+    by true h = omega arith
+    by false h = omega arith
+
+sign-short : (bs : List ℕ) → signLength (signOf bs) ≤ length bs
+unfolding signOf signLength
+sign-short [] = omega arith
+sign-short (b ∷ bs) = omega (arith, one-byte (signOf (b ∷ bs)))
+  where
+    one-byte : (sign : Sign) → signLength sign ≤ 1
+    one-byte Plain = omega arith
+    one-byte Plus = omega arith
+    one-byte Minus = omega arith
+
+count-append : (test : ℕ → Bool) (as′ bs : List ℕ) → count test (as′ ++ bs) ≡ count test as′ + count test bs
+unfolding count
+count-append test [] bs = omega arith
+count-append test (a ∷ as′) bs = omega (arith, count-append test as′ bs)
+
+-- ten digits are no number, whatever follows
+pub tenth-digit :
+    (sign : Sign) (figures more : List ℕ) → 10 ≤ count isDigit figures → numberBy sign (figures ++ more) ≡ Unreadable
+tenth-digit sign figures more h =
+    number-made sign (figures ++ more)
+    ∙ too-many-digits sign _ _ _ _ _ (omega (arith, count-append isDigit figures more))
+
+digits-below : (m k : ℕ) (figures : List ℕ) → m < 10 ^ k → digitsAfter m figures < 10 ^ (k + count isDigit figures)
+unfolding digitsAfter count
+digits-below m k [] h = rw (add-zero k) h
+digits-below m k (b ∷ bs) h = by (isDigit b) refl (λ i j. digits-below i j bs)
+  where
+    by :
+        (t : Bool) → isDigit b ≡ t
+        → ((i j : ℕ) → i < 10 ^ j → digitsAfter i bs < 10 ^ (j + count isDigit bs))
+        → digitsAfter (if t then m * 10 + (b - 48) else m) bs < 10 ^ (k + ((if t then 1 else 0) + count isDigit bs))
+    by true e go =
+        let small : b - 48 ≤ 9 = omega (arith, leb-true b 57 (both-right (leb 48 b) (leb b 57) e)) in
+        let sum : k + 1 + count isDigit bs ≡ k + (1 + count isDigit bs) = omega arith in
+        rw sum at (go (m * 10 + (b - 48)) (k + 1) (ten-more m (b - 48) k small h))
+    by false e go =
+        let sum : k + count isDigit bs ≡ k + (0 + count isDigit bs) = omega arith in
+        rw sum at (go m k h)
+
+decimals-most : (figures : List ℕ) → decimalsOf figures ≤ count isDigit figures
+unfolding decimalsOf count
+decimals-most [] = omega arith
+decimals-most (b ∷ bs) = by (isPoint b) (decimals-most bs)
+  where
+    by :
+        (t : Bool) → decimalsOf bs ≤ count isDigit bs
+        → (if t then count isDigit bs else decimalsOf bs) ≤ (if isDigit b then 1 else 0) + count isDigit bs
+    by true h = omega arith
+    by false h = omega arith
+
+whole : (figures : List ℕ) → count isPoint figures ≡ 0 → decimalsOf figures ≡ 0
+unfolding decimalsOf count
+whole [] e = refl
+whole (b ∷ bs) e = by (isPoint b) e (whole bs)
+  where
+    by :
+        (t : Bool) → (if t then 1 else 0) + count isPoint bs ≡ 0 → (count isPoint bs ≡ 0 → decimalsOf bs ≡ 0)
+        → (if t then count isDigit bs else decimalsOf bs) ≡ 0
+    by true f go = absurd (omega arith)
+    by false f go = go (omega arith)
+
+-- ---- what is known of a number that is read
+
+record Made (sign : Sign) (a b c d e : ℕ) (n : Number) (k : ℕ) : Type 0 where
+  nine : a ≤ 9
+  points : b ≤ 1
+  is : n ≡ record { sign = sign; point = eqb b 1; digits = c; decimals = d }
+  used : k ≡ e
+
+made-is : (sign : Sign) (a b c d e : ℕ) (n : Number) (k : ℕ) → made sign a b c d e ≡ Is n k → Made sign a b c d e n k
+unfolding made
+made-is sign a b c d e n k = by (fromTo 1 9 a && leb b 1) refl
+  where
+    by :
+        (t : Bool) → (fromTo 1 9 a && leb b 1) ≡ t
+        → (if t then Is (record { sign = sign; point = eqb b 1; digits = c; decimals = d }) e else Unreadable) ≡ Is n k
+        → Made sign a b c d e n k
+    by true p q =
+        record {
+          nine = leb-true a 9 (both-right (leb 1 a) (leb a 9) (both-left (fromTo 1 9 a) (leb b 1) p));
+          points = leb-true b 1 (both-right (fromTo 1 9 a) (leb b 1) p);
+          is = cc;
+          used = cc;
+        }
+    by false p q = let never : _≡_ {A = ℕ} 0 1 = cc in absurd (omega arith)
+
+module _ (bs : List ℕ) (n : Number) (k : ℕ) (e : numberIn bs ≡ Is n k) where
+  abbrev sign : Sign
+  sign = signOf bs
+
+  abbrev figures : List ℕ
+  figures = run isFigure (drop (signLength sign) bs)
+
+  parts :
+      Made sign (count isDigit figures) (count isPoint figures) (digitsAfter 0 figures) (decimalsOf figures)
+      (signLength sign + length figures) n k
+  unfolding numberIn
+  parts = made-is _ _ _ _ _ _ n k (sym (number-made sign figures) ∙ e)
+
+  pub numberIn-written : Written n
+  numberIn-written =
+      rw (parts .is) (record {
+        digits = below-ten (0 + count isDigit figures) (omega (arith, parts .nine)) (digits-below 0 0 figures (omega arith));
+        decimals = omega (arith, parts .nine, decimals-most figures);
+        whole = λ f. whole figures (omega (arith, parts .points, eqb-false (count isPoint figures) 1 f));
+      })
+
+  pub number-short : k ≤ length bs
+  number-short =
+      omega (arith, parts .used, run-short isFigure (drop (signLength sign) bs), length-drop (signLength sign) bs, sign-short bs)
