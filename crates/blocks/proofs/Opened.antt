@@ -10,7 +10,7 @@ use Rattle.settings.proofs.Opened.{opened as settings-opened}
 use Rattle.letters.proofs.Opened.{opened as letters-opened}
 use Rattle.arcs.proofs.Opened.{opened as arcs-opened}
 use Rattle.cycles.proofs.Opened.{opened as cycles-opened}
-use Rattle.blocks.specs.Exec.{saidBy, set, spindleRecords, movesIn, lastRecords, madeBy, settled, controlOf, atWord, lacksCentre, lacksParameter, isG17, drills, cannotDrill, pathStaysIn, allFit, callTo, unknownCall, tooDeep, blames, unless, judged, execWords, exec}
+use Rattle.blocks.specs.Exec.{saidBy, set, spindleRecords, movesIn, lastRecords, madeBy, settled, controlOf, atWord, lacksCentre, lacksParameter, isG17, drills, cannotDrill, allFit, callTo, unknownCall, tooDeep, blames, unless, judged, execWords, exec}
 use Rattle.blocks.specs.Motions.{centreWords, arcFor, arcMoves, cycleDone, cycleMoves, motionOf, movesOf}
 
 unfoldable pub opened : Unit {0}
@@ -40,7 +40,6 @@ unfolding
     isG17
     drills
     cannotDrill
-    pathStaysIn
     allFit
     callTo
     unknownCall

@@ -28,11 +28,10 @@ use Rattle.codes.specs.Codes.{isM, endsProgram}
 use Rattle.words.specs.declared.Word.{Word}
 use Rattle.words.specs.declared.Values.{Values}
 use Rattle.words.specs.Words.{Words, these, badAt, wordsOf}
-use Rattle.points.specs.declared.Point.{Point}
 use Rattle.records.specs.declared.Record.{Record}
 use Rattle.records.specs.declared.Record.the-variants.{SP, SO, PA, EN}
 use Rattle.records.specs.Layout.{roomOf}
-use Rattle.records.specs.Path.{pathOf, pathEnd, endOf}
+use Rattle.records.specs.Path.{endOf, pathStaysIn}
 use Rattle.settings.specs.declared.Modes.{Modes}
 use Rattle.settings.specs.declared.State.{State}
 use Rattle.settings.specs.Settings.{orElse}
@@ -168,11 +167,6 @@ drills (Moving (Drilling cycle)) named v = cycleDone named v
 
 unfoldable pub cannotDrill : State → Said → Bool
 cannotDrill s b = drills (b .code) (b .named) (b .values) && (not (isG17 (b .modes .plane)) || not (set s b .turning))
-
--- "9: Path leaves the travel": the records' path begins where the tool is
-unfoldable pub pathStaysIn : (Point → Record → Bool) → Point → List Record → Bool
-pathStaysIn stays from [] = true
-pathStaysIn stays from (r ∷ rs) = stays from r && pathStaysIn stays (pathEnd from (pathOf r)) rs
 
 unfoldable pub allFit : (Record → Bool) → List Record → Bool
 allFit fits [] = true

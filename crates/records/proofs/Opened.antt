@@ -4,7 +4,7 @@ use Rattle.lengths.proofs.Opened.{opened as lengths-opened}
 use Rattle.codes.proofs.Opened.{opened as codes-opened}
 use Rattle.points.proofs.Opened.{opened as points-opened}
 use Rattle.records.specs.Layout.{kindOf, markOf, numbersIn, hasPlane, headLength, kindLength, planeByte, planeOf, planeBytes, numbersOf, numberBytes, recordBytes, listBytes, roomOf, recordOf}
-use Rattle.records.specs.Path.{pathOf, pathEnd, endOf, arcMoved, recordMoved}
+use Rattle.records.specs.Path.{pathOf, pathEnd, endOf, pathStaysIn, arcMoved, recordMoved}
 use Rattle.records.specs.Reading.{marked, kindAt, planeAt, planeFor, numbersAt, planeRead, kindRead, readAt}
 
 unfoldable pub opened : Unit {0}
@@ -31,6 +31,7 @@ unfolding
     pathOf
     pathEnd
     endOf
+    pathStaysIn
     arcMoved
     recordMoved
     marked

@@ -1,4 +1,5 @@
 -- The path of records, and records displaced.
+use mathlib.Core.Bool.{Bool, true, _&&_}
 use mathlib.Core.List.{List, [], _∷_}
 use Rattle.lengths.specs.Units.{_⊕_}
 use Rattle.points.specs.declared.Point.{Point}
@@ -35,6 +36,11 @@ pathEnd from still = from
 unfoldable pub endOf : Point → List Record → Point
 endOf from [] = from
 endOf from (r ∷ rs) = endOf (pathEnd from (pathOf r)) rs
+
+-- every path of a list of records passes a test of the point where it begins and the record
+unfoldable pub pathStaysIn : (Point → Record → Bool) → Point → List Record → Bool
+pathStaysIn stays from [] = true
+pathStaysIn stays from (r ∷ rs) = stays from r && pathStaysIn stays (pathEnd from (pathOf r)) rs
 
 -- "all points and arc centres displaced and every other number equal"
 unfoldable pub arcMoved : Point → Arc → Arc
