@@ -1,2 +1,4 @@
 pub mod Root
+pub mod Reach
+pub mod Extremes
 pub mod Opened

@@ -1,3 +1,5 @@
 pub mod Root
 pub mod Turning
 pub mod Arcs
+pub mod Bounds
+pub mod Exact

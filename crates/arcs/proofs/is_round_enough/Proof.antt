@@ -1,0 +1,33 @@
+-- `arcs::is_round_enough` meets its contract. Assumes nothing.
+use borrow.Author.Tests.{le-leb, lt-leb}
+use borrow.Author.Needs.{needs}
+use Rattle.arcs.specs.Arcs.{roundEnough}
+use Rattle.arcs.proofs.is_round_enough.Statement.{statement}
+use Rattle.arcs.proofs.is_round_enough.Tie as tie
+
+returns : tie.Need-returns
+unfolding roundEnough
+returns c = rw (lt-leb 2_000 (c .before .args .r) (c .if1 .taken))
+
+sub-squared : tie.Need-sub-squared
+sub-squared c = search needs
+
+squared-requires : tie.Need-squared-requires
+squared-requires c κs = search needs
+
+add-squared : tie.Need-add-squared
+add-squared c = search needs
+
+squared-requires-2 : tie.Need-squared-requires-2
+squared-requires-2 c κs = search needs
+
+returns-2 : tie.Need-returns-2
+unfolding roundEnough
+returns-2 c =
+    let t = le-leb 2_000 (c .before .before .before .args .r) (c .before .before .if1 .left) in
+    rw (t, c .before .squared .ensures, c .squared2 .ensures)
+
+pub is-round-enough-spec : {M : Type 1} → statement M
+is-round-enough-spec =
+    tie.close
+    (tie.spec returns sub-squared squared-requires add-squared squared-requires-2 returns-2)

@@ -1,0 +1,15 @@
+-- `arcs::squared` meets its contract. Assumes nothing.
+use native.Mathlib.Nat.{mul-le-mul}
+use native.Mathlib.Omega.{arith}
+use borrow.Author.Needs.{needs}
+use Rattle.arcs.proofs.squared.Statement.{statement}
+use Rattle.arcs.proofs.squared.Tie as tie
+
+mul-result : tie.Need-mul-result
+mul-result c = omega (arith, mul-le-mul (c .pre) (c .pre))
+
+returns : tie.Need-returns
+returns c = search needs
+
+pub squared-spec : {M : Type 1} → statement M
+squared-spec = tie.close (tie.spec mul-result returns)

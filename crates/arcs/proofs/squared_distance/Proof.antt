@@ -1,0 +1,43 @@
+-- `arcs::squared_distance` meets its contract: two squares of at most 3,000,000,000 fit. Assumes nothing.
+use Prim.Native.Nat.{_+_}
+use mathlib.Core.Path.{_≡_}
+use native.Mathlib.Omega.{arith}
+use borrow.Author.Needs.{needs}
+use Rattle.arcs.specs.Arcs.{distance²}
+use Rattle.arcs.proofs.Reach.{distance-near}
+use Rattle.arcs.proofs.squared_distance.Statement.{statement}
+use Rattle.arcs.proofs.squared_distance.Tie as tie
+
+is :
+    (c : tie.After-square2)
+    → c .before .before .square .result + c .square2 .result
+    ≡ distance² (c .before .before .before .before .args .a) (c .before .before .before .before .args .b)
+unfolding distance²
+is c =
+    rw
+    (c .before .before .square .ensures, c .square2 .ensures, c .before .before .before .minus .ensures .is, c .before .minus2 .ensures .is)
+
+minus-requires : tie.Need-minus-requires
+minus-requires c κs = search needs
+
+square-requires : tie.Need-square-requires
+square-requires c κs = search needs
+
+minus-requires-2 : tie.Need-minus-requires-2
+minus-requires-2 c κs = search needs
+
+square-requires-2 : tie.Need-square-requires-2
+square-requires-2 c κs = search needs
+
+add-result : tie.Need-add-result
+add-result c =
+    let s = c .before .before .before .before in
+    rw (is c) (omega (arith, distance-near (s .args .a) (s .args .b) (s .pre)))
+
+returns : tie.Need-returns
+returns c = is c
+
+pub squared-distance-spec : {M : Type 1} → statement M
+squared-distance-spec =
+    tie.close
+    (tie.spec minus-requires square-requires minus-requires-2 square-requires-2 add-result returns)

@@ -1,0 +1,12 @@
+-- What it is that a length plus a real root is not above another length.
+use Prim.Native.Nat.{ℕ, _*_, _≤_}
+use mathlib.Core.Path.{_≡_}
+use mathlib.Core.Bool.{true}
+use lib.IntN.{pos, _+ℤ_, _*ℤ_}
+use lib.Signed.{leZ}
+use Rattle.lengths.specs.declared.Len.{Len}
+
+-- The real root of q is the least number that is not below any fraction p / n whose square is at most q. So a plus the root is not
+-- above b where a + p / n is not above b for each such fraction.
+abbrev pub RootBetween : Len → ℕ → Len → Type 0
+RootBetween a q b = (p n : ℕ) → p * p ≤ q * (n * n) → leZ (pos n *ℤ a .v +ℤ pos p) (pos n *ℤ b .v) ≡ true

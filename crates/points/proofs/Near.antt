@@ -1,0 +1,17 @@
+-- A point that is moved is near by the sum of the bounds. Assumes nothing.
+use Prim.Native.Nat.{ℕ, _+_}
+use native.Mathlib.Omega.{arith}
+use Rattle.lengths.proofs.Laws.{sum-bal, diff-bal}
+use Rattle.points.specs.declared.Point.{Point}
+use Rattle.points.specs.Points.{moved, movedBack}
+use Rattle.points.specs.Near.{Near}
+
+pub moved-near : {m n : ℕ} (by p : Point) → Near m by → Near n p → Near (m + n) (moved by p)
+unfolding moved
+moved-near by p h k =
+    omega (arith, sum-bal (p .x .v) (by .x .v), sum-bal (p .y .v) (by .y .v), sum-bal (p .z .v) (by .z .v))
+
+pub moved-back-near : {m n : ℕ} (by p : Point) → Near m by → Near n p → Near (m + n) (movedBack by p)
+unfolding movedBack
+moved-back-near by p h k =
+    omega (arith, diff-bal (p .x .v) (by .x .v), diff-bal (p .y .v) (by .y .v), diff-bal (p .z .v) (by .z .v))

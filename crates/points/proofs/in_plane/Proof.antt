@@ -1,0 +1,29 @@
+-- `points::in_plane` meets its contract: an arm for each plane. Assumes nothing.
+use borrow.Author.Needs.{needs}
+use Rattle.points.specs.Points.{flat}
+use Rattle.points.proofs.in_plane.Statement.{statement}
+use Rattle.points.proofs.in_plane.Tie as tie
+
+enum-told : tie.Need-enum-told
+enum-told c = search needs
+
+enum-told-2 : tie.Need-enum-told-2
+enum-told-2 c = search needs
+
+enum-told-3 : tie.Need-enum-told-3
+enum-told-3 c = search needs
+
+returns : tie.Need-returns
+unfolding flat
+returns c = rw (c .enum-told .given .1)
+
+returns-2 : tie.Need-returns-2
+unfolding flat
+returns-2 c = rw (c .enum-told2 .given .1)
+
+returns-3 : tie.Need-returns-3
+unfolding flat
+returns-3 c = rw (c .enum-told3 .given .1)
+
+pub in-plane-spec : {M : Type 1} → statement M
+in-plane-spec = tie.close (tie.spec enum-told enum-told-2 enum-told-3 returns returns-2 returns-3)
