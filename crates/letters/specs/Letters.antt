@@ -31,8 +31,11 @@ use Rattle.letters.specs.declared.BlockCode.{BlockCode}
 use Rattle.letters.specs.declared.BlockCode.the-variants.{Calling, Returning, Dwelling, Moving}
 
 -- the letters that words are made of, all others being unknown
+abbrev pub known : List ℕ
+known = bytes "FGIJKMNPRSXYZ"
+
 unfoldable pub isKnown : ℕ → Bool
-isKnown letter = any (eqb letter) (bytes "FGIJKMNPRSXYZ")
+isKnown letter = any (eqb letter) known
 
 abbrev pub isG : Word → Bool
 isG w = eqb (w .letter) (byte "G")
@@ -77,7 +80,7 @@ mayNotStand inMain before w =
 unfoldable pub firstThatMayNot : Bool → List Word → List Word → Option Word
 firstThatMayNot inMain before [] = none
 firstThatMayNot inMain before (w ∷ ws) =
-    if mayNotStand inMain before w then some w else firstThatMayNot inMain (w ∷ before) ws
+    if mayNotStand inMain before w then some w else firstThatMayNot inMain (before ++ w ∷ []) ws
 
 -- the M code of a block, Other where it has none
 unfoldable pub miscOrOther : Option Word → Misc
