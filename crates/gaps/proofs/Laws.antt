@@ -12,7 +12,7 @@ use lib.ListN.{length, drop, getD, drop-of-length-le, length-drop}
 use lib.Seq.{drop-drop}
 use Rattle.terms.specs.Terms.{if_then_else_}
 use Rattle.terms.proofs.Laws.{both-right}
-use Rattle.lines.specs.Blocks.{beginsWith, textFrom, noText}
+use Rattle.lines.specs.Blocks.{beginsWith, textFrom, noText, lengthFrom}
 use Rattle.lines.proofs.Lines.{at-place}
 use Rattle.words.specs.Words.{isBlank, isCapital, oneMore, closing, gap, unreadable, commentItem, wordItem, itemAt, Words, these, badAt, withWord, itemThen, wordsAfter}
 use Rattle.words.specs.Numbers.{numberIn}
@@ -45,6 +45,19 @@ text-drop (suc k) (b ∷ bs) h =
             elim [ true ↦ λ g. absurd (omega arith) | false ↦ λ g. text-drop k bs (omega arith) ] in
     go (eqb b 10 || eqb b 13 && beginsWith 10 bs) h
 
+-- .. and the next block begins at the same place, since a text has no LF
+pub text-next : (k : ℕ) (bs : List ℕ) → k ≤ length (textFrom bs) → lengthFrom bs ≡ k + lengthFrom (drop k bs)
+unfolding textFrom lengthFrom
+text-next zero bs h = omega arith
+text-next (suc k) [] h = absurd (omega arith)
+text-next (suc k) (b ∷ bs) h =
+    let go : (lf cr : Bool) → suc k ≤ length (if lf || cr then [] else b ∷ textFrom bs)
+            → (if lf then 1 else suc (lengthFrom bs)) ≡ suc k + lengthFrom (drop k bs) =
+            elim
+            [ true ↦ λ cr g. absurd (omega arith)
+            | false ↦ elim [ true ↦ λ g. absurd (omega arith) | false ↦ λ g. omega (arith, text-next k bs (omega arith)) ] ] in
+    go (eqb b 10) (eqb b 13 && beginsWith 10 bs) h
+
 -- ---- comments
 
 closing-paren : (bs : List ℕ) → closing (textFrom (41 ∷ bs)) ≡ some 1
@@ -72,7 +85,7 @@ closing-more b bs e f =
     go true h = rw (h refl)
     go false h = rw (ne-eqb b 41 e)
 
-closing-within : (bs : List ℕ) (k : ℕ) → closing bs ≡ some k → k ≤ length bs
+pub closing-within : (bs : List ℕ) (k : ℕ) → closing bs ≡ some k → k ≤ length bs
 unfolding closing oneMore
 closing-within [] k e = let never : _≡_ {A = ℕ} 0 1 = cc in omega arith
 closing-within (b ∷ bs) k e = go (eqb b 41) (closing bs) (closing-within bs) e
@@ -187,7 +200,7 @@ gaps-other b text e f = rw (e, ne-eqb b 40 f) (go (isCapital b) (numberIn text))
     go false n = refl
 
 -- a comment that is open has no closing parenthesis, and one that is closed has it so many bytes on
-open-by : (at : ℕ) (o : Option ℕ) → commentBy at o ≡ Open → o ≡ none
+pub open-by : (at : ℕ) (o : Option ℕ) → commentBy at o ≡ Open → o ≡ none
 unfolding commentBy
 open-by at none e = refl
 open-by at (some k) e = let never : _≡_ {A = ℕ} 0 1 = cc in absurd (omega arith)

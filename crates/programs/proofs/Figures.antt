@@ -4,15 +4,15 @@ use mathlib.Core.Path.{_≡_, refl, _∙_, ap}
 use mathlib.Core.Bool.{true, false, _&&_, _||_}
 use mathlib.Core.List.{List, [], _∷_}
 use native.Mathlib.Omega.{arith}
-use native.Mathlib.Nat.{pow-succ', pow-le-pow-right}
+use native.Mathlib.Nat.{pow-le-pow-right}
 use borrow.Author.Tests.{ne-eqb, le-leb, lt-leb}
-use native.Mathlib.Numerals.{add-one}
 use lib.Dec.{eqb, lit≤, lit<}
 use lib.ListN.{length, drop, getD, drop-of-length-le}
 use Rattle.terms.specs.Terms.{if_then_else_}
 use Rattle.lines.specs.Blocks.{beginsWith, textFrom}
 use Rattle.lines.proofs.Lines.{at-place}
 use Rattle.words.specs.Numbers.{isDigit, run, digitsAfter}
+use Rattle.words.proofs.Reading.{ten-more}
 use Rattle.programs.specs.Found.{figuresOf, IsDigits}
 
 pub digit-is : (b : ℕ) → 48 ≤ b → b ≤ 57 → isDigit b ≡ true
@@ -40,10 +40,6 @@ figures-some b bs h k =
 digits-more : (n b : ℕ) (bs : List ℕ) → 48 ≤ b → b ≤ 57 → digitsAfter n (b ∷ bs) ≡ digitsAfter (n * 10 + (b - 48)) bs
 unfolding digitsAfter
 digits-more n b bs h k = rw (le-leb 48 b h, le-leb b 57 k)
-
--- one digit more keeps a number below the next power of ten
-ten-more : (m d k : ℕ) → d ≤ 9 → m < 10 ^ k → m * 10 + d < 10 ^ (k + 1)
-ten-more m d k h g = omega (arith, pow-succ' 10 k, ap (10 ^_) (add-one k))
 
 pub at-most-eight : {m : ℕ} (k : ℕ) → k ≤ 8 → m < 10 ^ k → m < 10 ^ 8
 at-most-eight k h g = omega (arith, pow-le-pow-right {n = 10} (lit≤ tt) h)

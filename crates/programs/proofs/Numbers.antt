@@ -9,7 +9,8 @@ use lib.ListN.{length, drop, length-drop}
 use lib.Seq.{drop-drop}
 use Rattle.terms.specs.Terms.{if_then_else_, fromTo}
 use Rattle.lines.specs.Blocks.{textFrom}
-use Rattle.words.specs.Numbers.{run, digitsAfter}
+use Rattle.words.specs.Numbers.{digitsAfter}
+use Rattle.words.proofs.Numbers.{run-short}
 use Rattle.gaps.specs.Gaps.{onlyGaps}
 use Rattle.gaps.proofs.Laws.{text-drop, text-length}
 use Rattle.programs.specs.Openings.{numberAfterO}
@@ -37,13 +38,6 @@ module _ (n v : ℕ) (more : Bool) where
 
     as-rest : 1 ≤ v → v ≤ 9999 → test n v more ≡ more
     as-rest h k = rw (le-leb 1 n low, le-leb n 8 high, le-leb 1 v h, le-leb v 9999 k)
-
-run-length : (t : ℕ → Bool) (bs : List ℕ) → length (run t bs) ≤ length bs
-unfolding run
-run-length t [] = omega arith
-run-length t (b ∷ bs) =
-    elim (t b) as (λ u. length (if u then b ∷ run t bs else []) ≤ suc (length bs))
-    [ true ↦ omega (arith, run-length t bs) | false ↦ omega arith ]
 
 -- what is tested of a text
 abbrev digits : List ℕ → ℕ
@@ -95,7 +89,7 @@ module _ {text : List ℕ} {d : Digits} (is : IsDigits text d) where
 -- the digits lie inside the data, and the text after them is the text from there
 module _ (l : List ℕ) (at : ℕ) (d : Digits) (inside : at ≤ length l) (is : IsDigits (textFrom (drop at l)) d) (few : d .count ≤ 8) where
   in-text : d .count ≤ length (textFrom (drop at l))
-  in-text = omega (arith, is .few few, run-length (λ b. fromTo 48 57 b) (textFrom (drop at l)))
+  in-text = omega (arith, is .few few, run-short (λ b. fromTo 48 57 b) (textFrom (drop at l)))
 
   pub digits-inside : at + d .count ≤ length l
   digits-inside = omega (arith, in-text, text-length (drop at l), length-drop at l)

@@ -294,7 +294,7 @@ fn checked(ok: bool, z: Len) -> Value
 }
 
 // Neither sign nor point.
-fn is_plain(n: Number) -> bool
+pub fn is_plain(n: Number) -> bool
     ensures { λ r. ⌜ r ≡ isPlain n ⌝ }
 {
     let sign = n.sign;
