@@ -20,10 +20,10 @@ abbrev pub Others : ℕ → List ℕ → Type 0
 Others n [] = Unit
 Others n (k ∷ ks) = Others n ks × (n ≡ k → ⊥)
 
-abbrev among : List ℕ → ℕ → Bool
+abbrev pub among : List ℕ → ℕ → Bool
 among ks n = any (eqb n) ks
 
-none-of : (n : ℕ) (ks : List ℕ) → Others n ks → among ks n ≡ false
+pub none-of : (n : ℕ) (ks : List ℕ) → Others n ks → among ks n ≡ false
 unfolding any
 none-of n [] h = refl
 none-of n (k ∷ ks) h = rw (ne-eqb n k (h .1)) (none-of n ks (h .0))
@@ -32,7 +32,7 @@ none-of n (k ∷ ks) h = rw (ne-eqb n k (h .1)) (none-of n ks (h .0))
 abbrev passes : {A : Type 0} → (ℕ → Bool) → List (ℕ × A) → Bool
 passes test rows = all (λ row. test (row .0)) rows
 
-differ : (test : ℕ → Bool) (m n : ℕ) → test m ≡ true → test n ≡ false → n ≡ m → ⊥
+pub differ : (test : ℕ → Bool) (m n : ℕ) → test m ≡ true → test n ≡ false → n ≡ m → ⊥
 differ test m n p q e = let never : _≡_ {A = ℕ} 0 1 = cc in omega arith
 
 lookup-none :

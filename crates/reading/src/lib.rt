@@ -1,6 +1,8 @@
 // Reading the words of a block, each byte once: refusal 15, and 4 for words that may not stand.
+use codes::Code;
+use codes::Misc;
 use gaps::Comment;
-use words::Number;
+use settings::Modes;
 use words::Numbered;
 use words::Word;
 ghost use mathlib.Core.Path.{_≡_};
@@ -8,7 +10,9 @@ ghost use Prim.Native.Nat.{_+_, _≤_, _<_};
 ghost use lib.ListN.{length, drop, getD};
 ghost use Rattle.lines.specs.Blocks.{textFrom};
 ghost use Rattle.words.specs.Words.{itemAt};
+ghost use Rattle.letters.specs.Letters.{codeIn, miscIn, standsAlone, wrongProgram};
 ghost use Rattle.reading.specs.Items.{placed, wordsAt, statusAfter};
+ghost use Rattle.reading.specs.Seen.{indexOf, Tells, TellsG, badMisc, nothingSeen, seenWith};
 
 // What begins at a place of a block: a blank or a comment, or a word, each with the place after it; or nothing readable.
 pub enum Item {
@@ -23,6 +27,15 @@ pub enum Status {
     Fine,
     Unreadable(usize),
     MayNot(usize),
+}
+
+// What is kept of the words that were read: which of the known letters and of the groups of codes stood, the M code, and
+// the modes that hold.
+pub struct Seen {
+    pub letters: [bool; 13],
+    pub groups: [bool; 8],
+    pub misc: Misc,
+    pub modes: Modes,
 }
 
 fn item_at(s: &[u8], i: usize) -> Item
@@ -82,4 +95,90 @@ fn status_after(s: &[u8], from: usize, wrong: usize) -> Status
             }
         }
     }
+}
+
+// The place of a letter among the known ones, in the order of the alphabet; 13 for any other byte.
+fn letter_index(b: u8) -> usize
+    ensures { λ r. ⌜ r ≡ indexOf b ⌝ }
+{
+    match b {
+        b'F' => 0,
+        b'G' => 1,
+        b'I' => 2,
+        b'J' => 3,
+        b'K' => 4,
+        b'M' => 5,
+        b'N' => 6,
+        b'P' => 7,
+        b'R' => 8,
+        b'S' => 9,
+        b'X' => 10,
+        b'Y' => 11,
+        b'Z' => 12,
+        _ => 13,
+    }
+}
+
+// A code with a sign or a point is no code.
+fn code_in(w: Word) -> Code
+    ensures { λ r. ⌜ r ≡ codeIn w ⌝ }
+{
+    let n = w.number;
+    if words::is_plain(n) {
+        codes::code_of(n.digits)
+    } else {
+        Code::Unknown
+    }
+}
+
+fn misc_in(w: Word) -> Misc
+    ensures { λ r. ⌜ r ≡ miscIn w ⌝ }
+{
+    let n = w.number;
+    if words::is_plain(n) {
+        codes::misc_of(n.digits)
+    } else {
+        Misc::Other
+    }
+}
+
+// M98 and M99, beside which no G code stands.
+fn stands_alone(m: Misc) -> bool
+    ensures { λ r. ⌜ r ≡ standsAlone m ⌝ }
+{
+    match m {
+        Misc::M98 => true,
+        Misc::M99 => true,
+        Misc::M00 => false,
+        Misc::M02 => false,
+        Misc::M03 => false,
+        Misc::M05 => false,
+        Misc::M30 => false,
+        Misc::Other => false,
+    }
+}
+
+// M99 has no place in the main program, and M02 and M30 have none in a subprogram.
+fn is_wrong_program(main: bool, m: Misc) -> bool
+    ensures { λ r. ⌜ r ≡ wrongProgram main m ⌝ }
+{
+    match m {
+        Misc::M99 => main,
+        Misc::M02 => !main,
+        Misc::M30 => !main,
+        Misc::M98 => false,
+        Misc::M00 => false,
+        Misc::M03 => false,
+        Misc::M05 => false,
+        Misc::Other => false,
+    }
+}
+
+fn is_bad_misc(main: bool, after_g: bool, m: Misc) -> bool
+    ensures { λ r. ⌜ r ≡ badMisc main after_g m ⌝ }
+{
+    if let Misc::Other = m {
+        return true;
+    }
+    is_wrong_program(main, m) | (stands_alone(m) & after_g)
 }

@@ -1,1 +1,7 @@
 pub mod Opened
+pub mod Laid
+pub mod Written
+pub mod Found
+pub mod Back
+pub mod Again
+pub mod Examples

@@ -3,9 +3,9 @@ use Rattle.terms.proofs.Opened.{opened as terms-opened}
 use Rattle.lengths.proofs.Opened.{opened as lengths-opened}
 use Rattle.codes.proofs.Opened.{opened as codes-opened}
 use Rattle.points.proofs.Opened.{opened as points-opened}
-use Rattle.records.specs.Layout.{kindOf, markOf, numbersIn, hasPlane, headLength, kindLength, planeByte, planeOf, planeBytes, numbersOf, numberBytes, recordBytes, listBytes, roomOf, recordOf}
+use Rattle.records.specs.Layout.{planeOf, planeBytes, numbersOf, numberBytes, recordBytes, listBytes, roomOf, recordOf}
 use Rattle.records.specs.Path.{pathOf, pathEnd, endOf, pathStaysIn, arcMoved, recordMoved}
-use Rattle.records.specs.Reading.{marked, kindAt, planeAt, planeFor, numbersAt, planeRead, kindRead, readAt}
+use Rattle.records.specs.Reading.{marked, kindAt, planeAt, planeFor, numbersAt, planeRead, kindRead, readAt, onward, readAll}
 
 unfoldable pub opened : Unit {0}
 unfolding
@@ -13,13 +13,6 @@ unfolding
     lengths-opened
     codes-opened
     points-opened
-    kindOf
-    markOf
-    numbersIn
-    hasPlane
-    headLength
-    kindLength
-    planeByte
     planeOf
     planeBytes
     numbersOf
@@ -42,4 +35,6 @@ unfolding
     planeRead
     kindRead
     readAt
+    onward
+    readAll
 opened = tt

@@ -13,13 +13,12 @@ use Rattle.codes.specs.declared.Plane.{Plane}
 use Rattle.codes.specs.declared.Plane.the-variants.{G17, G18, G19}
 use Rattle.points.specs.declared.Point.{Point}
 use Rattle.records.specs.declared.Arc.{Arc}
+use Rattle.records.specs.declared.Kind.{Kind}
+use Rattle.records.specs.declared.Kind.the-variants.{RP as rp, LN as ln, AR as ar, AL as al, DW as dw, SP as sp, SO as so, PA as pa, EN as en}
 use Rattle.records.specs.declared.Record.{Record}
 use Rattle.records.specs.declared.Record.the-variants.{RP, LN, AR, AL, DW, SP, SO, PA, EN}
 
-pub data Kind : Type 0 where
-  rp ln ar al dw sp so pa en : Kind
-
-unfoldable pub kindOf : Record → Kind
+abbrev pub kindOf : Record → Kind
 kindOf (RP p) = rp
 kindOf (LN p feed) = ln
 kindOf (AR a) = ar
@@ -30,7 +29,7 @@ kindOf SO = so
 kindOf PA = pa
 kindOf EN = en
 
-unfoldable pub markOf : Kind → List ℕ
+abbrev pub markOf : Kind → List ℕ
 markOf rp = bytes "RP"
 markOf ln = bytes "LN"
 markOf ar = bytes "AR"
@@ -43,7 +42,7 @@ markOf en = bytes "EN"
 
 -- how many numbers a record has: "`RP` x y z. `LN` x y z feed. `AR` (clockwise), `AL`: .. x y z, first and second
 -- centre coordinate, feed. `DW` ms. `SP` speed. `SO`, `PA`, `EN` alone."
-unfoldable pub numbersIn : Kind → ℕ
+abbrev pub numbersIn : Kind → ℕ
 numbersIn rp = 3
 numbersIn ln = 4
 numbersIn ar = 6
@@ -55,7 +54,7 @@ numbersIn pa = 0
 numbersIn en = 0
 
 -- "`AR` (clockwise), `AL`: one byte 17, 18 or 19, then .."
-unfoldable pub hasPlane : Kind → Bool
+abbrev pub hasPlane : Kind → Bool
 hasPlane rp = false
 hasPlane ln = false
 hasPlane ar = true
@@ -67,13 +66,13 @@ hasPlane pa = false
 hasPlane en = false
 
 -- where the numbers begin, after the mark and the plane byte, and the bytes of the whole record
-unfoldable pub headLength : Kind → ℕ
+abbrev pub headLength : Kind → ℕ
 headLength kind = if hasPlane kind then 3 else 2
 
-unfoldable pub kindLength : Kind → ℕ
+abbrev pub kindLength : Kind → ℕ
 kindLength kind = headLength kind + 4 * numbersIn kind
 
-unfoldable pub planeByte : Plane → ℕ
+abbrev pub planeByte : Plane → ℕ
 planeByte G17 = 17
 planeByte G18 = 18
 planeByte G19 = 19

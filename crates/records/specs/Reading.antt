@@ -4,7 +4,7 @@
 use Prim.Native.Nat.{ℕ, zero, suc, _+_}
 use mathlib.Core.Bool.{Bool, true, false, _&&_}
 use mathlib.Core.Option.{Option, none, some}
-use mathlib.Core.List.{List, [], _∷_}
+use mathlib.Core.List.{List, [], _∷_, _++_}
 use lib.Dec.{ltb, eqb}
 use lib.ListN.{length, getD}
 use Rattle.terms.specs.Terms.{if_then_else_, first}
@@ -12,17 +12,13 @@ use Rattle.lengths.specs.Units.{len, ofFour}
 use Rattle.lengths.specs.declared.Len.{Len}
 use Rattle.codes.specs.declared.Plane.{Plane}
 use Rattle.codes.specs.declared.Plane.the-variants.{G17, G18, G19}
+use Rattle.records.specs.declared.Kind.{Kind}
+use Rattle.records.specs.declared.Kind.the-variants.{RP as rp, LN as ln, AR as ar, AL as al, DW as dw, SP as sp, SO as so, PA as pa, EN as en}
+use Rattle.records.specs.declared.reading.KindFound.{KindFound}
+use Rattle.records.specs.declared.reading.KindFound.the-variants.{Mark, NoMark}
+use Rattle.records.specs.declared.reading.PlaneFound.{PlaneFound}
+use Rattle.records.specs.declared.reading.PlaneFound.the-variants.{Byte, NoByte}
 use Rattle.records.specs.Layout.{
-  Kind,
-  rp,
-  ln,
-  ar,
-  al,
-  dw,
-  sp,
-  so,
-  pa,
-  en,
   markOf,
   hasPlane,
   headLength,
@@ -31,7 +27,7 @@ use Rattle.records.specs.Layout.{
   planeByte,
   recordOf,
 }
-use Rattle.records.specs.declared.Fault.{Fault}
+use Rattle.records.specs.declared.Record.{Record}
 use Rattle.records.specs.declared.Fault.the-variants.{UnknownMark, CutShort, OtherPlane}
 use Rattle.records.specs.declared.Listed.{Listed}
 use Rattle.records.specs.declared.Listed.the-variants.{Next, End, Faulty}
@@ -40,22 +36,41 @@ use Rattle.records.specs.declared.Listed.the-variants.{Next, End, Faulty
 unfoldable pub marked : List ℕ → ℕ → Kind → Bool
 marked l at kind = eqb (getD l at 0) (getD (markOf kind) 0 0) && eqb (getD l (at + 1) 0) (getD (markOf kind) 1 0)
 
+abbrev pub kinds : List Kind
+kinds = rp ∷ ln ∷ ar ∷ al ∷ dw ∷ sp ∷ so ∷ pa ∷ en ∷ []
+
 unfoldable pub kindAt : List ℕ → ℕ → Option Kind
-kindAt l at = first (marked l at) (rp ∷ ln ∷ ar ∷ al ∷ dw ∷ sp ∷ so ∷ pa ∷ en ∷ [])
+kindAt l at = first (marked l at) kinds
 
--- the plane whose byte stands at a place; a record without a plane byte has none that could be wrong
+-- the same as the code answers it
+abbrev pub foundKind : KindFound → Option Kind
+foundKind (Mark kind) = some kind
+foundKind NoMark = none
+
+-- the plane whose byte stands at a place
+abbrev pub planes : List Plane
+planes = G17 ∷ G18 ∷ G19 ∷ []
+
 unfoldable pub planeAt : List ℕ → ℕ → Option Plane
-planeAt l k = first (λ plane. eqb (getD l k 0) (planeByte plane)) (G17 ∷ G18 ∷ G19 ∷ [])
+planeAt l k = first (λ plane. eqb (getD l k 0) (planeByte plane)) planes
 
+-- the same as the code answers it
+abbrev pub foundPlane : PlaneFound → Option Plane
+foundPlane (Byte plane) = some plane
+foundPlane NoByte = none
+
+-- a record without a plane byte has none that could be wrong
 unfoldable pub planeFor : Bool → List ℕ → ℕ → Option Plane
 planeFor true l k = planeAt l k
 planeFor false l k = some G17
 
--- the numbers whose bytes begin at a place, so many of them
+-- the number whose four bytes begin at a place, and so many numbers one after the other
+abbrev pub lenAt : List ℕ → ℕ → Len
+lenAt l k = len (ofFour (getD l k 0) (getD l (k + 1) 0) (getD l (k + 2) 0) (getD l (k + 3) 0))
+
 unfoldable pub numbersAt : ℕ → List ℕ → ℕ → List Len
 numbersAt zero l k = []
-numbersAt (suc n) l k =
-    len (ofFour (getD l k 0) (getD l (k + 1) 0) (getD l (k + 2) 0) (getD l (k + 3) 0)) ∷ numbersAt n l (k + 4)
+numbersAt (suc n) l k = lenAt l k ∷ numbersAt n l (k + 4)
 
 unfoldable pub planeRead : List ℕ → ℕ → Kind → Option Plane → Listed
 planeRead l at kind none = Faulty OtherPlane at
@@ -74,3 +89,23 @@ readAt l at =
     if eqb at (length l) then End
     else if ltb (length l) (at + 2) then Faulty CutShort at
     else kindRead l at (kindAt l at)
+
+-- reading record by record from a place, so many at most: the records, and what the reader says after them
+pub record Trail : Type 0 where
+  pub records : List Record
+  pub last : Listed
+
+abbrev pub trail : List Record → Listed → Trail
+trail rs last = record { records = rs; last = last }
+
+abbrev pub after : List Record → Trail → Trail
+after rs t = trail (rs ++ t .records) (t .last)
+
+unfoldable pub onward : Listed → (ℕ → Trail) → Trail
+onward (Next r next) go = after (r ∷ []) (go next)
+onward End go = trail [] End
+onward (Faulty fault place) go = trail [] (Faulty fault place)
+
+unfoldable pub readAll : ℕ → List ℕ → ℕ → Trail
+readAll zero l at = trail [] (readAt l at)
+readAll (suc n) l at = onward (readAt l at) (readAll n l)

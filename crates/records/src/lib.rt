@@ -1,7 +1,14 @@
 // The record list that the motor card and the viewer read.
+mod kinds;
+mod reading;
+mod writing;
+
 use codes::Plane;
+pub use kinds::room;
 use lengths::Len;
 use points::Point;
+pub use reading::read;
+pub use writing::put;
 
 // What AR and AL hold: the plane, the end, the centre by the plane's first and second axis, and the feed.
 pub struct Arc {
@@ -20,6 +27,19 @@ pub enum Record {
     AL(Arc),
     DW(Len),
     SP(Len),
+    SO,
+    PA,
+    EN,
+}
+
+// A record's mark without what the record holds.
+pub enum Kind {
+    RP,
+    LN,
+    AR,
+    AL,
+    DW,
+    SP,
     SO,
     PA,
     EN,

@@ -1,0 +1,18 @@
+-- `records::kinds::room` meets its contract: the length of the record's kind. Assumes nothing.
+use mathlib.Core.Path.{ap, _∙_}
+use borrow.Author.Needs.{needs}
+use Rattle.records.specs.Layout.{kindLength}
+use Rattle.records.proofs.kinds.room.Statement.{statement}
+use Rattle.records.proofs.kinds.room.Tie as tie
+
+kind-of-requires : tie.Need-kind-of-requires
+kind-of-requires c κs = search needs
+
+kind-length-requires : tie.Need-kind-length-requires
+kind-length-requires c κs = search needs
+
+returns : tie.Need-returns
+returns c = c .kind-length .ensures ∙ ap kindLength (c .before .kind-of .ensures)
+
+pub room-spec : {M : Type 1} → statement M
+room-spec = tie.close (tie.spec kind-of-requires kind-length-requires returns)

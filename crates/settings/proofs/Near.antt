@@ -1,0 +1,40 @@
+-- How near the place is that a word leads to. Assumes nothing.
+use Prim.Native.Nat.{ℕ, _+_}
+use mathlib.Core.Bool.{Bool, true, false}
+use native.Mathlib.Omega.{arith}
+use lib.IntN.{ℤ}
+use Rattle.terms.specs.Terms.{if_then_else_}
+use Rattle.lengths.specs.declared.Len.{Len}
+use Rattle.lengths.specs.Units.{_⊕_}
+use Rattle.lengths.specs.View.{Within}
+use Rattle.lengths.proofs.Laws.{sum-bal}
+use Rattle.codes.specs.declared.Distance.{Distance}
+use Rattle.codes.specs.declared.Distance.the-variants.{Absolute, Incremental}
+use Rattle.words.specs.declared.Given.{Given}
+use Rattle.points.specs.declared.Point.{Point}
+use Rattle.points.specs.Near.{Near}
+use Rattle.words.specs.declared.Values.{Values}
+use Rattle.settings.specs.Target.{base, aimed, target}
+use Rattle.settings.specs.Bounds.{Aims}
+
+module _ {m : ℕ} (origin from : Len) (h : Within m (origin .v)) (k : Within m (from .v)) where
+  pub base-near : (d : Distance) → Within m (base d origin from .v)
+  unfolding base
+  base-near Absolute = h
+  base-near Incremental = k
+
+  -- a word adds its value to what it counts from
+  pub aimed-near : {n : ℕ} (d : Distance) (g : Given) → Within n (g .v .v) → Within (m + n) (aimed d origin from g .v)
+  unfolding aimed
+  aimed-near {n} d g w =
+      elim (g .stands) as (λ t. Within (m + n) ((if t then base d origin from ⊕ g .v else from) .v))
+      [ true ↦ omega (arith, base-near d, sum-bal (base d origin from .v) (g .v .v)) | false ↦ omega arith ]
+
+pub target-near : (d : Distance) (origin from : Point) (v : Values) → Aims origin from v → Near 2_100_000_000 (target d origin from v)
+unfolding target
+target-near d origin from v h =
+    record {
+      x = aimed-near {m = 1_100_000_000} (origin .x) (from .x) (omega arith) (omega arith) d (v .x) (h .x);
+      y = aimed-near {m = 1_100_000_000} (origin .y) (from .y) (omega arith) (omega arith) d (v .y) (h .y);
+      z = aimed-near {m = 1_100_000_000} (origin .z) (from .z) (omega arith) (omega arith) d (v .z) (h .z);
+    }

@@ -1,0 +1,30 @@
+-- The bounds that a run keeps in the frame of the common offset, under which every sum of this layer fits 64 bits, and what the
+-- functions on them answer.
+use mathlib.Core.Path.{_≡_}
+use Rattle.lengths.specs.declared.Len.{Len}
+use Rattle.lengths.specs.View.{Within}
+use Rattle.codes.specs.declared.Distance.{Distance}
+use Rattle.words.specs.declared.Given.{Given}
+use Rattle.words.specs.declared.Values.{Values}
+use Rattle.points.specs.declared.Point.{Point}
+use Rattle.points.specs.Near.{Near}
+use Rattle.settings.specs.Target.{target}
+
+-- an axis' origin, the place that a word may count from, which is a point of the tool or a level that a word led to, and the word
+pub record Sized (o a : Len) (g : Given) : Type 0 where
+  pub origin : Within 1_000_000_000 (o .v)
+  pub from : Within 2_100_000_000 (a .v)
+  pub word : Within 1_000_000_000 (g .v .v)
+
+-- what the words of a straight move lead from: a run's origins, and a point that the tool can be at
+pub record Aims (o p : Point) (v : Values) : Type 0 where
+  pub origin : Near 1_000_000_000 o
+  pub from : Near 1_100_000_000 p
+  pub x : Within 1_000_000_000 (v .x .v .v)
+  pub y : Within 1_000_000_000 (v .y .v .v)
+  pub z : Within 1_000_000_000 (v .z .v .v)
+
+-- where they lead: the value, and how near it is whether inside the travel or not
+pub record Aimed (d : Distance) (origin from : Point) (v : Values) (r : Point) : Type 0 where
+  pub is : r ≡ target d origin from v
+  pub near : Near 2_100_000_000 r
