@@ -146,39 +146,111 @@ fn misc_in(w: Word) -> Misc
 fn stands_alone(m: Misc) -> bool
     ensures { λ r. ⌜ r ≡ standsAlone m ⌝ }
 {
-    match m {
-        Misc::M98 => true,
-        Misc::M99 => true,
-        Misc::M00 => false,
-        Misc::M02 => false,
-        Misc::M03 => false,
-        Misc::M05 => false,
-        Misc::M30 => false,
-        Misc::Other => false,
-    }
+    let n = codes::misc_number(m);
+    (n == 98) | (n == 99)
 }
 
 // M99 has no place in the main program, and M02 and M30 have none in a subprogram.
 fn is_wrong_program(main: bool, m: Misc) -> bool
     ensures { λ r. ⌜ r ≡ wrongProgram main m ⌝ }
 {
-    match m {
-        Misc::M99 => main,
-        Misc::M02 => !main,
-        Misc::M30 => !main,
-        Misc::M98 => false,
-        Misc::M00 => false,
-        Misc::M03 => false,
-        Misc::M05 => false,
-        Misc::Other => false,
+    let n = codes::misc_number(m);
+    if main {
+        n == 99
+    } else {
+        (n == 2) | (n == 30)
     }
 }
 
-fn is_bad_misc(main: bool, after_g: bool, m: Misc) -> bool
-    ensures { λ r. ⌜ r ≡ badMisc main after_g m ⌝ }
+// An M code that may not stand; `after` tells that a G code stands before it.
+fn is_bad_misc(main: bool, after: bool, m: Misc) -> bool
+    ensures { λ r. ⌜ r ≡ badMisc main after m ⌝ }
 {
-    if let Misc::Other = m {
+    let n = codes::misc_number(m);
+    (n == 100) | is_wrong_program(main, m) | (stands_alone(m) & after)
+}
+
+// A G code that may not stand after what was read.
+fn is_bad_code(seen: Seen, c: Code) -> bool
+    ensures { λ r. ⌜ TellsG seen c r ⌝ }
+{
+    let g = codes::group_of(c) as usize;
+    if g == 0 {
         return true;
     }
-    is_wrong_program(main, m) | (stands_alone(m) & after_g)
+    let groups = seen.groups;
+    if groups[g] {
+        return true;
+    }
+    let m = seen.misc;
+    let alone = stands_alone(m);
+    // G04 and group A do not stand together.
+    if g == 1 {
+        return groups[7] | alone;
+    }
+    if g == 7 {
+        return groups[1] | alone;
+    }
+    alone
+}
+
+// Whether a word may not stand after what was read.
+fn may_not_stand(main: bool, seen: Seen, w: Word) -> bool
+    ensures { λ r. ⌜ Tells main seen w r ⌝ }
+{
+    let k = letter_index(w.letter);
+    if 13 <= k {
+        return true;
+    }
+    if w.letter == b'G' {
+        return is_bad_code(seen, code_in(w));
+    }
+    let letters = seen.letters;
+    if letters[k] {
+        return true;
+    }
+    if w.letter == b'M' {
+        return is_bad_misc(main, letters[1], misc_in(w));
+    }
+    false
+}
+
+// One word more, which may stand.
+fn with_word(seen: Seen, w: Word) -> Seen
+    requires { ⌜ indexOf (w .letter) < 13 ⌝ }
+    ensures { λ r. ⌜ r ≡ seenWith seen w ⌝ }
+{
+    let k = letter_index(w.letter);
+    let mut letters = seen.letters;
+    letters[k] = true;
+    let mut groups = seen.groups;
+    let misc = seen.misc;
+    let modes = seen.modes;
+    if w.letter == b'G' {
+        let c = code_in(w);
+        let g = codes::group_of(c) as usize;
+        groups[g] = true;
+        let switched = settings::switched(modes, c);
+        return Seen {
+            letters,
+            groups,
+            misc,
+            modes: switched,
+        };
+    }
+    if w.letter == b'M' {
+        let named = misc_in(w);
+        return Seen {
+            letters,
+            groups,
+            misc: named,
+            modes,
+        };
+    }
+    Seen {
+        letters,
+        groups,
+        misc,
+        modes,
+    }
 }
