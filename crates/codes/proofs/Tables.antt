@@ -3,7 +3,7 @@
 use Prim.Native.Nat.{ℕ, zero, suc, _+_, _-_, _≤_, _<_}
 use mathlib.Core.Path.{_≡_, refl, sym, ap, _∙_}
 use mathlib.Core.Bool.{Bool, true, false, _||_, and-false}
-use mathlib.Core.List.{List, [], _∷_}
+use mathlib.Core.List.{List, [], _∷_, _++_}
 use native.Mathlib.Omega.{arith}
 use lib.Dec.{eqb, leb}
 use borrow.Author.Tests.{ne-eqb, lt-leb}
@@ -29,27 +29,33 @@ none-of n [] h = refl
 none-of n (k ∷ ks) h = rw (ne-eqb n k (h .1)) (none-of n ks (h .0))
 
 -- the numbers of a table all pass a test that n does not pass
-abbrev passes : {A : Type 0} → (ℕ → Bool) → List (ℕ × A) → Bool
+abbrev pub passes : {A : Type 0} → (ℕ → Bool) → List (ℕ × A) → Bool
 passes test rows = all (λ row. test (row .0)) rows
 
 pub differ : (test : ℕ → Bool) (m n : ℕ) → test m ≡ true → test n ≡ false → n ≡ m → ⊥
 differ test m n p q e = let never : _≡_ {A = ℕ} 0 1 = cc in omega arith
 
-lookup-none :
-    {A : Type 0} (test : ℕ → Bool) (n : ℕ) (rows : List (ℕ × A)) (other : A)
-    → test n ≡ false → passes test rows ≡ true → other ≡ lookup n rows other
+-- such rows are passed
+lookup-past :
+    {A : Type 0} (test : ℕ → Bool) (n : ℕ) (rows back : List (ℕ × A)) (other : A)
+    → test n ≡ false → passes test rows ≡ true → lookup n (rows ++ back) other ≡ lookup n back other
 unfolding lookup all
-lookup-none test n [] other h t = refl
-lookup-none test n (row ∷ rows) other h t =
+lookup-past test n [] back other h t = refl
+lookup-past test n (row ∷ rows) back other h t =
     let apart = differ test (row .0) n (both-left (test (row .0)) (passes test rows) t) h in
-    rw (ne-eqb n (row .0) apart) (lookup-none test n rows other h (both-right (test (row .0)) (passes test rows) t))
+    rw (ne-eqb n (row .0) apart) (lookup-past test n rows back other h (both-right (test (row .0)) (passes test rows) t))
+
+pub others-past :
+    {A : Type 0} (n : ℕ) (ks : List ℕ) (rows back : List (ℕ × A)) (other : A)
+    → Others n ks → passes (among ks) rows ≡ true → lookup n (rows ++ back) other ≡ lookup n back other
+others-past n ks rows back other h t = lookup-past (among ks) n rows back other (none-of n ks h) t
 
 abbrev mKeys : List ℕ
 mKeys = 99 ∷ 98 ∷ 30 ∷ 5 ∷ 3 ∷ 2 ∷ 0 ∷ []
 
 pub misc-none : (n : ℕ) → Others n mKeys → Other ≡ miscOf n
-unfolding miscOf any all
-misc-none n h = lookup-none (among mKeys) n mTable Other (none-of n mKeys h) refl
+unfolding miscOf lookup any all
+misc-none n h = sym (others-past n mKeys mTable [] Other h refl)
 
 abbrev gKeys : List ℕ
 gKeys = 4 ∷ 99 ∷ 98 ∷ 91 ∷ 90 ∷ 21 ∷ 20 ∷ 89 ∷ 85 ∷ 82 ∷ 81 ∷ 80 ∷ 3 ∷ 2 ∷ 1 ∷ 0 ∷ []
@@ -58,9 +64,9 @@ abbrev inRange : ℕ → Bool
 inRange n = fromTo 17 19 n || fromTo 54 59 n
 
 pub code-none : (n : ℕ) → Others n gKeys → inRange n ≡ false → Unknown ≡ codeOf n
-unfolding codeOf any all
+unfolding codeOf lookup any all
 code-none n h e =
-    lookup-none (λ k. inRange k || among gKeys k) n gTable Unknown (rw e (none-of n gKeys h)) refl
+    sym (lookup-past (λ k. inRange k || among gKeys k) n gTable [] Unknown (rw e (none-of n gKeys h)) refl)
 
 -- below, between and above the ranges
 pub below-ranges : (n : ℕ) → n < 17 → inRange n ≡ false

@@ -41,8 +41,8 @@ text-drop zero bs h = refl
 text-drop (suc k) [] h = refl
 text-drop (suc k) (b ∷ bs) h =
     let go : (t : Bool) → suc k ≤ length (if t then [] else b ∷ textFrom bs)
-            → drop (suc k) (if t then [] else b ∷ textFrom bs) ≡ textFrom (drop k bs) =
-            elim [ true ↦ λ g. absurd (omega arith) | false ↦ λ g. text-drop k bs (omega arith) ] in
+    → drop (suc k) (if t then [] else b ∷ textFrom bs) ≡ textFrom (drop k bs) =
+    elim [ true ↦ λ g. absurd (omega arith) | false ↦ λ g. text-drop k bs (omega arith) ] in
     go (eqb b 10 || eqb b 13 && beginsWith 10 bs) h
 
 -- .. and the next block begins at the same place, since a text has no LF
@@ -52,10 +52,11 @@ text-next zero bs h = omega arith
 text-next (suc k) [] h = absurd (omega arith)
 text-next (suc k) (b ∷ bs) h =
     let go : (lf cr : Bool) → suc k ≤ length (if lf || cr then [] else b ∷ textFrom bs)
-            → (if lf then 1 else suc (lengthFrom bs)) ≡ suc k + lengthFrom (drop k bs) =
-            elim
-            [ true ↦ λ cr g. absurd (omega arith)
-            | false ↦ elim [ true ↦ λ g. absurd (omega arith) | false ↦ λ g. omega (arith, text-next k bs (omega arith)) ] ] in
+    → (if lf then 1 else suc (lengthFrom bs)) ≡ suc k + lengthFrom (drop k bs) =
+    elim [
+      | true ↦ λ cr g. absurd (omega arith)
+      | false ↦ elim [ true ↦ λ g. absurd (omega arith) | false ↦ λ g. omega (arith, text-next k bs (omega arith)) ]
+    ] in
     go (eqb b 10) (eqb b 13 && beginsWith 10 bs) h
 
 -- ---- comments
@@ -230,11 +231,12 @@ comment-way l i next h e = go (closing (textFrom (drop i l))) refl e
         let is : next ≡ i + k = cc in
         let short : k ≤ length (textFrom (drop i l)) = closing-within (textFrom (drop i l)) k f in
         record {
-            count = k;
-            closes = f;
-            is = is;
-            within = omega (arith, text-length (drop i l), length-drop i l);
-            text = text-drop k (drop i l) short ∙ ap textFrom (drop-drop k i l) ∙ ap (λ (n : ℕ). textFrom (drop n l)) (sym is) }
+          count = k;
+          closes = f;
+          is = is;
+          within = omega (arith, text-length (drop i l), length-drop i l);
+          text = text-drop k (drop i l) short ∙ ap textFrom (drop-drop k i l) ∙ ap (λ (n : ℕ). textFrom (drop n l)) (sym is);
+        }
 
 -- by places
 module _ (l : List ℕ) (i : ℕ) where
@@ -246,11 +248,12 @@ module _ (l : List ℕ) (i : ℕ) where
   pub text-inside : noText (drop i l) ≡ false → i < length l
   unfolding noText
   text-inside e =
-      elim (decLt i (length l))
-      [ yes p ↦ p
-      | no f ↦
-          let past : length l ≤ i = omega (arith, f) in
-          absurd (true≢false (rw (drop-of-length-le l past) at e)) ]
+      elim (decLt i (length l)) [
+        | yes p ↦ p
+        | no f ↦
+            let past : length l ≤ i = omega (arith, f) in
+            absurd (true≢false (rw (drop-of-length-le l past) at e))
+      ]
 
   pub text-at : noText (drop i l) ≡ false → textFrom (drop i l) ≡ getD l i 0 ∷ textFrom (drop (i + 1) l)
   text-at e =

@@ -1,1 +1,4 @@
+pub mod Judging
 pub mod Opened
+pub mod Uses
+pub mod Valued

@@ -6,7 +6,8 @@ use Rattle.lines.proofs.Opened.{opened as lines-opened}
 use Rattle.words.proofs.Opened.{opened as words-opened}
 use Rattle.points.proofs.Opened.{opened as points-opened}
 use Rattle.settings.proofs.Opened.{opened as settings-opened}
-use Rattle.letters.specs.Letters.{isKnown, codeIn, miscIn, standsAlone, wrongProgram, repeats, badG, badM, mayNotStand, firstThatMayNot, miscOrOther, miscOfBlock, modesIn, namesGroupA, namesG04, blockCode, arcLetters, motionLetters, lettersOf, useOf, isNothing, firstUnused, wordValue, isBad, firstBadValue, givenBy, withValue, valuesAfter}
+use Rattle.letters.specs.Judging.{unusedOr, badOr, judgedBy, valued, valueNext, judgedNext, judgedAll, judgedAfter}
+use Rattle.letters.specs.Letters.{isKnown, codeIn, miscIn, standsAlone, wrongProgram, repeats, badG, badM, mayNotStand, firstThatMayNot, miscOrOther, miscOfBlock, modesIn, namesGroupA, namesG04, codeUnder, blockCode, arcLetters, drillingLetters, motionLetters, lettersOf, useOf, isNothing, firstUnused, wordValue, isBad, firstBadValue, givenBy, withValue, valuesAfter}
 
 unfoldable pub opened : Unit {0}
 unfolding
@@ -17,6 +18,14 @@ unfolding
     words-opened
     points-opened
     settings-opened
+    unusedOr
+    badOr
+    judgedBy
+    valued
+    valueNext
+    judgedNext
+    judgedAll
+    judgedAfter
     isKnown
     codeIn
     miscIn
@@ -32,8 +41,10 @@ unfolding
     modesIn
     namesGroupA
     namesG04
+    codeUnder
     blockCode
     arcLetters
+    drillingLetters
     motionLetters
     lettersOf
     useOf

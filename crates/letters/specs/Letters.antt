@@ -6,6 +6,7 @@ use mathlib.Core.Option.{Option, none, some}
 use mathlib.Core.List.{List, [], _∷_, _++_, map}
 use lib.Dec.{eqb}
 use Rattle.terms.specs.Terms.{if_then_else_, byte, bytes, any, first, lookup}
+use Rattle.codes.specs.declared.Cycle.{Cycle}
 use Rattle.codes.specs.declared.Cycle.the-variants.{G81, G82, G85, G89}
 use Rattle.codes.specs.declared.Motion.{Motion}
 use Rattle.codes.specs.declared.Motion.the-variants.{Off, G00, G01, G02, G03, Drilling}
@@ -102,16 +103,24 @@ unfoldable pub namesG04 : List Word → Bool
 namesG04 ws = any (λ w. isG w && isG04 (codeIn w)) ws
 
 -- "A block's code, which decides its letters, is M98, M99 or G04, else the group A code named or on"
+unfoldable pub codeUnder : Misc → Bool → Motion → BlockCode
+codeUnder misc dwells motion =
+    if isM 98 misc then Calling else if isM 99 misc then Returning else if dwells then Dwelling else Moving motion
+
 unfoldable pub blockCode : Modes → List Word → BlockCode
-blockCode m ws =
-    if isM 98 (miscOfBlock ws) then Calling
-    else if isM 99 (miscOfBlock ws) then Returning
-    else if namesG04 ws then Dwelling
-    else Moving (m .motion)
+blockCode m ws = codeUnder (miscOfBlock ws) (namesG04 ws) (m .motion)
+
+-- what a letter means by a table of letters
+abbrev pub usedIn : List (ℕ × Use) → ℕ → Use
+usedIn rows letter = lookup letter rows Nothing
 
 -- letters with one use
 abbrev pub each : List ℕ → Use → List (ℕ × Use)
 each letters use′ = map (λ letter. (letter, use′)) letters
+
+-- "with any of X Y Z"
+abbrev pub straightLetters : List (ℕ × Use)
+straightLetters = each (bytes "XYZ") Length
 
 -- "end as in G01 on the plane's two axes, centre by its distance from the start in the plane's letters (I J for G17, K I
 -- for G18 as Z then X, J K for G19)"
@@ -124,31 +133,43 @@ arcLetters G19 = each (bytes "YZJK") Length
 abbrev pub cycleLetters : List (ℕ × Use)
 cycleLetters = (byte "K", Count) ∷ each (bytes "XYZR") Length
 
+abbrev pub dwellingCycleLetters : List (ℕ × Use)
+dwellingCycleLetters = (byte "P", Dwell) ∷ cycleLetters
+
+unfoldable pub drillingLetters : Cycle → List (ℕ × Use)
+drillingLetters G81 = cycleLetters
+drillingLetters G82 = dwellingCycleLetters
+drillingLetters G85 = cycleLetters
+drillingLetters G89 = dwellingCycleLetters
+
 unfoldable pub motionLetters : Motion → Plane → List (ℕ × Use)
 motionLetters Off plane = []
-motionLetters G00 plane = each (bytes "XYZ") Length
-motionLetters G01 plane = each (bytes "XYZ") Length
+motionLetters G00 plane = straightLetters
+motionLetters G01 plane = straightLetters
 motionLetters G02 plane = arcLetters plane
 motionLetters G03 plane = arcLetters plane
-motionLetters (Drilling G81) plane = cycleLetters
-motionLetters (Drilling G82) plane = (byte "P", Dwell) ∷ cycleLetters
-motionLetters (Drilling G85) plane = cycleLetters
-motionLetters (Drilling G89) plane = (byte "P", Dwell) ∷ cycleLetters
+motionLetters (Drilling cycle) plane = drillingLetters cycle
 
 -- "F and S go with all but M98 and M99."
 abbrev pub feedAndSpeed : List (ℕ × Use)
 feedAndSpeed = (byte "F", Feed) ∷ (byte "S", Speed) ∷ []
 
+abbrev pub callLetters : List (ℕ × Use)
+callLetters = (byte "P", Program) ∷ []
+
+abbrev pub dwellLetters : List (ℕ × Use)
+dwellLetters = (byte "P", Dwell) ∷ feedAndSpeed
+
 unfoldable pub lettersOf : BlockCode → Plane → List (ℕ × Use)
-lettersOf Calling plane = (byte "P", Program) ∷ []
+lettersOf Calling plane = callLetters
 lettersOf Returning plane = []
-lettersOf Dwelling plane = (byte "P", Dwell) ∷ feedAndSpeed
+lettersOf Dwelling plane = dwellLetters
 lettersOf (Moving motion) plane = feedAndSpeed ++ motionLetters motion plane
 
 -- what a letter means in a block; N goes with every block, and G and M are the codes themselves
 unfoldable pub useOf : BlockCode → Plane → ℕ → Use
 useOf code plane letter =
-    lookup letter ((byte "N", Label) ∷ (byte "G", Codes) ∷ (byte "M", Codes) ∷ lettersOf code plane) Nothing
+    usedIn ((byte "N", Label) ∷ (byte "G", Codes) ∷ (byte "M", Codes) ∷ lettersOf code plane) letter
 
 unfoldable pub isNothing : Use → Bool
 isNothing Nothing = true

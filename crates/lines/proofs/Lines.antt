@@ -153,14 +153,15 @@ text-begins-end c l at h = rw (drop-of-length-le l h)
 text-begins : (c b : ℕ) (bs : List ℕ) → 13 < c → beginsWith c (textFrom (b ∷ bs)) ≡ eqb b c
 unfolding beginsWith textFrom
 text-begins c b bs h =
-    elim (ℕ-discrete b c)
-    [ yes p ↦
-        let f : b ≡ 10 → ⊥ = λ e. omega arith in
-        let g : b ≡ 13 → ⊥ = λ e. omega arith in
-        rw (ne-eqb b 10 f, ne-eqb b 13 g)
-    | no q ↦
-        (elim (eqb b 10 || eqb b 13 && beginsWith 10 bs) as (λ t. beginsWith c (if t then [] else b ∷ textFrom bs) ≡ eqb b c)
-        [ true ↦ sym (ne-eqb b c q) | false ↦ refl ]) ]
+    elim (ℕ-discrete b c) [
+      | yes p ↦
+          let f : b ≡ 10 → ⊥ = λ e. omega arith in
+          let g : b ≡ 13 → ⊥ = λ e. omega arith in
+          rw (ne-eqb b 10 f, ne-eqb b 13 g)
+      | no q ↦
+          (elim (eqb b 10 || eqb b 13 && beginsWith 10 bs) as (λ t. beginsWith c (if t then [] else b ∷ textFrom bs) ≡ eqb b c)
+          [ true ↦ sym (ne-eqb b c q) | false ↦ refl ])
+    ]
 
 pub text-begins-at : (c : ℕ) (l : List ℕ) (at : ℕ) → at < length l → 13 < c → beginsWith c (textFrom (drop at l)) ≡ eqb (getD l at 0) c
 text-begins-at c l at h k = rw (at-place l at) (text-begins c (getD l at 0) (drop (at + 1) l) k)

@@ -57,16 +57,18 @@ module _ (n : ℕ) (subs : List Program) (count i : ℕ) (d : Program) (s : Sear
     pub search-past : (n ≡ getD subs i d .number → ⊥) → Search n subs count (i + 1)
     search-past e =
         record {
-            few = s .few;
-            left = s .left ∙ any-past (has n) (take count subs) i d (omega (arith, used)) (ap (has n) here ∙ ne-eqb n (getD subs i d .number) e) }
+          few = s .few;
+          left = s .left ∙ any-past (has n) (take count subs) i d (omega (arith, used)) (ap (has n) here ∙ ne-eqb n (getD subs i d .number) e);
+        }
 
 -- one subprogram more
 pub entered-is : (t : Programs) (p : Program) → Ready t → t .count < 10 → Entered t p (record { main = t .main; count = t .count + 1; subs = set (t .subs) (t .count) p })
 entered-is t p r h =
     record {
-        ready = record { places = length-set (t .subs) (t .count) p ∙ r .places; used = omega (arith, r .used) };
-        main = refl;
-        subs = rw (add-one (t .count)) (take-suc-set (t .subs) (t .count) p (omega (arith, r .places))) }
+      ready = record { places = length-set (t .subs) (t .count) p ∙ r .places; used = omega (arith, r .used) };
+      main = refl;
+      subs = rw (add-one (t .count)) (take-suc-set (t .subs) (t .count) p (omega (arith, r .places)));
+    }
 
 -- what an opening of a subprogram leads to
 module _ (t : Programs) (ready : Ready t) (n : ℕ) where

@@ -67,12 +67,13 @@ module _ {l : List ℕ} {at count value i : ℕ} (p : Passed l at count value i)
   pub one-passed : (count ≡ 8 → ⊥) → Passed l at (count + 1) (value * 10 + (getD l i 0 - 48)) (i + 1)
   one-passed n =
       record {
-          inside = omega arith;
-          few = omega (arith, p .few, n);
-          is = omega (arith, p .is);
-          small = ten-more value (getD l i 0 - 48) count (omega arith) (p .small);
-          left = omega (arith, length-here);
-          worth = p .worth ∙ ap (digitsAfter value) figures-here ∙ digits-more value (getD l i 0) (figuresOf (textFrom (drop (i + 1) l))) low high }
+        inside = omega arith;
+        few = omega (arith, p .few, n);
+        is = omega (arith, p .is);
+        small = ten-more value (getD l i 0 - 48) count (omega arith) (p .small);
+        left = omega (arith, length-here);
+        worth = p .worth ∙ ap (digitsAfter value) figures-here ∙ digits-more value (getD l i 0) (figuresOf (textFrom (drop (i + 1) l))) low high;
+      }
 
   pub nine-passed : count ≡ 8 → 8 < length (figuresOf (textFrom (drop at l)))
   nine-passed e = omega (arith, length-here)
@@ -90,6 +91,7 @@ module _ {l : List ℕ} {at count value i : ℕ} (p : Passed l at count value i)
   unfolding digitsAfter
   all-passed e =
       record {
-          few = λ h. p .left ∙ ap (λ (xs : List ℕ). count + length xs) e ∙ omega arith;
-          many = λ h. absurd (omega (arith, p .few));
-          value = λ h. p .worth ∙ ap (digitsAfter value) e }
+        few = λ h. p .left ∙ ap (λ (xs : List ℕ). count + length xs) e ∙ omega arith;
+        many = λ h. absurd (omega (arith, p .few));
+        value = λ h. p .worth ∙ ap (digitsAfter value) e;
+      }

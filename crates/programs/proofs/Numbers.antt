@@ -1,13 +1,13 @@
 -- The number of an opening, from its digits and what follows them.
-use Prim.Native.Nat.{ℕ, suc, _+_, _≤_, _<_}
+use Prim.Native.Nat.{ℕ, _+_, _≤_, _<_}
 use mathlib.Core.Path.{_≡_, _∙_, ap}
 use mathlib.Core.Bool.{Bool, true, false, _&&_}
-use mathlib.Core.List.{List, [], _∷_}
+use mathlib.Core.List.{List}
 use native.Mathlib.Omega.{arith}
 use borrow.Author.Tests.{le-leb, lt-leb}
 use lib.ListN.{length, drop, length-drop}
 use lib.Seq.{drop-drop}
-use Rattle.terms.specs.Terms.{if_then_else_, fromTo}
+use Rattle.terms.specs.Terms.{fromTo}
 use Rattle.lines.specs.Blocks.{textFrom}
 use Rattle.words.specs.Numbers.{digitsAfter}
 use Rattle.words.proofs.Numbers.{run-short}

@@ -81,26 +81,28 @@ module _ {l : List ℕ} {from number : ℕ} {first now : Programs} {at block : �
       pub passed-plain : (next : ℕ) → (getD l at 0 ≡ 79 → ⊥) → at + lengthFrom (drop at l) ≡ next → at < next → Scan l from number first now next (block + 1)
       passed-plain next f g k =
           record {
-              inside = omega (arith, next-inside l at (s .inside));
-              counted = omega (arith, s .counted);
-              ready = s .ready;
-              main = s .main;
-              left =
-                  s .left ∙ scan-plain (first .main) l block at (subsOf now) h e f
-                  ∙ ap (λ (k : ℕ). scan (first .main) (blocksFrom l (block + 1) k) (subsOf now)) g }
+            inside = omega (arith, next-inside l at (s .inside));
+            counted = omega (arith, s .counted);
+            ready = s .ready;
+            main = s .main;
+            left =
+                s .left ∙ scan-plain (first .main) l block at (subsOf now) h e f
+                ∙ ap (λ (k : ℕ). scan (first .main) (blocksFrom l (block + 1) k) (subsOf now)) g;
+          }
 
       -- after the last block nothing is left, whatever its number
       pub passed-last : (next : ℕ) → (getD l at 0 ≡ 79 → ⊥) → at + lengthFrom (drop at l) ≡ next → length l ≤ next → Scan l from number first now next block
       passed-last next f g k =
           record {
-              inside = omega (arith, next-inside l at (s .inside));
-              counted = omega (arith, s .counted);
-              ready = s .ready;
-              main = s .main;
-              left =
-                  s .left ∙ scan-plain (first .main) l block at (subsOf now) h e f
-                  ∙ ap (λ (k : ℕ). scan (first .main) (blocksFrom l (block + 1) k) (subsOf now)) g
-                  ∙ scan-end (first .main) l (block + 1) next (subsOf now) k ∙ sym (scan-end (first .main) l block next (subsOf now) k) }
+            inside = omega (arith, next-inside l at (s .inside));
+            counted = omega (arith, s .counted);
+            ready = s .ready;
+            main = s .main;
+            left =
+                s .left ∙ scan-plain (first .main) l block at (subsOf now) h e f
+                ∙ ap (λ (k : ℕ). scan (first .main) (blocksFrom l (block + 1) k) (subsOf now)) g
+                ∙ scan-end (first .main) l (block + 1) next (subsOf now) k ∙ sym (scan-end (first .main) l block next (subsOf now) k);
+          }
 
       module _ (f : getD l at 0 ≡ 79) (entry : Entry) (was : entryOf (now .main) (subsOf now) (numberAfterO (textFrom (drop (at + 1) l))) ≡ entry) where
         at-opening :
@@ -124,32 +126,35 @@ module _ {l : List ℕ} {from number : ℕ} {first now : Programs} {at block : �
       unfolding entered
       passed-opening n next with′ f was g d =
           record {
-              inside = omega (arith, next-inside l at (s .inside));
-              counted = omega (arith, s .counted, length-at-more l at h (λ e. omega arith));
-              ready = d .ready;
-              main = d .main ∙ s .main;
-              left = at-opening f (Enters n) was ∙ rw (d .subs, ← g) }
+            inside = omega (arith, next-inside l at (s .inside));
+            counted = omega (arith, s .counted, length-at-more l at h (λ e. omega arith));
+            ready = d .ready;
+            main = d .main ∙ s .main;
+            left = at-opening f (Enters n) was ∙ rw (d .subs, ← g);
+          }
 
 -- the main program: without an opening, or under one in the second block
 module _ (l : List ℕ) (at : ℕ) where
   pub opens-at : beginsWith 79 (textFrom (drop at l)) ≡ true → (at < length l) × (getD l at 0 ≡ 79)
   opens-at e =
-      elim (decLt at (length l))
-      [ yes h ↦ (h, eqb-true (getD l at 0) 79 (sym (text-begins-at 79 l at h (omega arith)) ∙ e))
-      | no f ↦
-          let past : length l ≤ at = omega (arith, f) in
-          absurd (false≢true (sym (text-begins-end 79 l at past) ∙ e)) ]
+      elim (decLt at (length l)) [
+        | yes h ↦ (h, eqb-true (getD l at 0) 79 (sym (text-begins-at 79 l at h (omega arith)) ∙ e))
+        | no f ↦
+            let past : length l ≤ at = omega (arith, f) in
+            absurd (false≢true (sym (text-begins-end 79 l at past) ∙ e))
+      ]
 
   pub programs-plain :
       (percent : Block) → beginsWith 79 (textFrom (drop at l)) ≡ false
       → programsFrom percent (blocksFrom l 2 at) ≡ scan (programAfter 0 percent) (blocksFrom l 2 at) []
   unfolding programsFrom scan
   programs-plain percent e =
-      elim (decLt at (length l))
-      [ yes h ↦ rw (blocks-step l 2 at h) (rw e)
-      | no f ↦
-          let past : length l ≤ at = omega (arith, f) in
-          rw (blocks-end l 2 at past) ]
+      elim (decLt at (length l)) [
+        | yes h ↦ rw (blocks-step l 2 at h) (rw e)
+        | no f ↦
+            let past : length l ≤ at = omega (arith, f) in
+            rw (blocks-end l 2 at past)
+      ]
 
   module _ (percent : Block) (e : beginsWith 79 (textFrom (drop at l)) ≡ true) where
     under-opening :

@@ -1,31 +1,30 @@
 -- Items and words by their places.
-use Prim.Native.Nat.{ℕ, zero, suc, _+_, _≤_, _<_}
+use Prim.Native.Nat.{ℕ, suc, _+_, _≤_, _<_}
 use mathlib.Core.Path.{_≡_, refl, sym, _∙_, ap}
-use mathlib.Core.Bool.{Bool, true, false, _&&_, _||_}
+use mathlib.Core.Bool.{Bool, true, false, _||_}
 use mathlib.Core.Option.{Option, none, some}
 use mathlib.Core.List.{List, [], _∷_}
 use native.Mathlib.Omega.{arith}
 use native.Mathlib.Decide.{ℕ-discrete}
-use borrow.Author.Tests.{eq-eqb, ne-eqb, le-leb, lt-leb, eqb-true}
+use borrow.Author.Tests.{ne-eqb, le-leb, lt-leb}
 use lib.Dec.{eqb}
-use lib.ListN.{length, take, drop, getD, length-drop}
+use lib.ListN.{length, drop, getD, length-drop}
 use lib.Seq.{drop-drop, take-length, slice}
 use Rattle.terms.specs.Terms.{if_then_else_}
-use Rattle.terms.proofs.Laws.{both-left, both-right}
 use Rattle.lines.specs.Blocks.{beginsWith, textFrom, noText, lengthFrom, endsAt}
 use Rattle.words.specs.Numbers.{isDigit, isPoint, signOf, signLength, run, numberBy, numberIn, Written}
 use Rattle.words.specs.Words as Words
-use Rattle.words.specs.Words.{isBlank, isCapital, closing, gap, word, unreadable, commentItem, wordItem, itemAt, these, badAt, withWord, itemThen, wordsAfter, wordsOf}
+use Rattle.words.specs.Words.{isBlank, isCapital, closing, gap, word, unreadable, commentItem, wordItem, itemAt, these, badAt, withWord, itemThen, wordsAfter}
 use Rattle.words.specs.declared.Number.{Number}
 use Rattle.words.specs.declared.Numbered.{Numbered}
 use Rattle.words.specs.declared.Numbered.the-variants.{Is, Unreadable}
 use Rattle.words.specs.declared.Sign.{Sign}
-use Rattle.words.specs.declared.Sign.the-variants.{Plain, Plus, Minus}
+use Rattle.words.specs.declared.Sign.the-variants.{Plain}
 use Rattle.words.specs.declared.Word.{Word}
 use Rattle.words.proofs.Numbers.{number-short, numberIn-written}
-use Rattle.gaps.specs.Gaps.{commentBy, commentAt}
+use Rattle.gaps.specs.Gaps.{commentAt}
 use Rattle.gaps.specs.declared.Comment.the-variants.{Closed, Open}
-use Rattle.gaps.proofs.Laws.{text-drop, text-none, text-inside, text-at, text-length, text-next, words-pass, open-by, Way, comment-way, closing-within}
+use Rattle.gaps.proofs.Laws.{text-drop, text-none, text-inside, text-at, text-length, text-next, words-pass, open-by, comment-way, closing-within}
 use Rattle.reading.specs.Items.{placed, wordsAt, statusAfter}
 use Rattle.reading.specs.declared.Item.{Item}
 use Rattle.reading.specs.declared.Item.the-variants as item
@@ -38,16 +37,19 @@ run-text : (test : ℕ → Bool) → test 10 ≡ false → test 13 ≡ false →
 unfolding run textFrom
 run-text test lf cr [] = refl
 run-text test lf cr (b ∷ bs) =
-    elim (ℕ-discrete b 10)
-    [ yes e ↦ rw e (rw lf)
-    | no f ↦
-        (elim (ℕ-discrete b 13)
-        [ yes e ↦ rw e (rw cr (go-cr (beginsWith 10 bs)))
-        | no g ↦ rw (ne-eqb b 10 f, ne-eqb b 13 g) (go (run-text test lf cr bs) (test b)) ]) ]
+    elim (ℕ-discrete b 10) [
+      | yes e ↦ rw e (rw lf)
+      | no f ↦
+          (elim (ℕ-discrete b 13) [
+            | yes e ↦ rw e (rw cr (go-cr (beginsWith 10 bs)))
+            | no g ↦ rw (ne-eqb b 10 f, ne-eqb b 13 g) (go (run-text test lf cr bs) (test b))
+          ])
+    ]
   where
     go-cr : (t : Bool) → run test (if t then [] else 13 ∷ textFrom bs) ≡ []
     go-cr true = refl
     go-cr false = rw cr
+
     go : run test (textFrom bs) ≡ run test bs → (t : Bool) → (if t then b ∷ run test (textFrom bs) else []) ≡ (if t then b ∷ run test bs else [])
     go e true = ap (b ∷_) e
     go e false = refl
@@ -57,12 +59,14 @@ sign-text : (bs : List ℕ) → (signOf (textFrom bs) ≡ signOf bs) × (signLen
 unfolding signOf signLength textFrom
 sign-text [] = (refl, omega arith)
 sign-text (b ∷ bs) =
-    elim (ℕ-discrete b 43)
-    [ yes e ↦ rw e (refl, omega arith)
-    | no f ↦
-        (elim (ℕ-discrete b 45)
-        [ yes e ↦ rw e (refl, omega arith)
-        | no g ↦ rw (ne-eqb b 43 f, ne-eqb b 45 g) (go f g (endsAt b bs), omega arith) ]) ]
+    elim (ℕ-discrete b 43) [
+      | yes e ↦ rw e (refl, omega arith)
+      | no f ↦
+          (elim (ℕ-discrete b 45) [
+            | yes e ↦ rw e (refl, omega arith)
+            | no g ↦ rw (ne-eqb b 43 f, ne-eqb b 45 g) (go f g (endsAt b bs), omega arith)
+          ])
+    ]
   where
     go : (b ≡ 43 → ⊥) → (b ≡ 45 → ⊥) → (t : Bool) → signOf (if t then [] else b ∷ textFrom bs) ≡ Plain
     go f g true = refl
@@ -91,9 +95,11 @@ item-fits i b rest = by (isBlank b) (eqb b 40) (isCapital b)
     by-comment : (o : Option ℕ) → ((k : ℕ) → o ≡ some k → k ≤ length rest) → Fits (commentItem o) rest
     by-comment none h = tt
     by-comment (some k) h = h k refl
+
     by-number : (n : Numbered) → ((m : Number) (k : ℕ) → n ≡ Is m k → (k ≤ length rest) × Written m) → Fits (wordItem i b n) rest
     by-number (Is m k) h = h m k refl
     by-number Unreadable h = tt
+
     by : (blank paren capital : Bool) → Fits (if blank then gap 0 else if paren then commentItem (closing rest) else if capital then wordItem i b (numberIn rest) else unreadable) rest
     by true paren capital = omega arith
     by false true capital = by-comment (closing rest) (closing-within rest)
@@ -184,13 +190,14 @@ module _ (l : List ℕ) (i : ℕ) (going : noText (drop i l) ≡ false) where
   gone : (k : ℕ) → k ≤ length (rest l i) → Gone l i (i + 1 + k)
   gone k h =
       record {
-          forward = omega arith;
-          inside = omega (arith, text-length (drop (i + 1) l), length-drop (i + 1) l, inside);
-          block =
-              let e = text-next (suc k) (drop i l) (omega (arith, ap length (text-at l i going))) in
-              let f = ap (λ (n : ℕ). lengthFrom (drop n l)) (shifted k) in
-              let g = ap lengthFrom (drop-drop (suc k) i l) in
-              omega (arith, e, f, g) }
+        forward = omega arith;
+        inside = omega (arith, text-length (drop (i + 1) l), length-drop (i + 1) l, inside);
+        block =
+            let e = text-next (suc k) (drop i l) (omega (arith, ap length (text-at l i going))) in
+            let f = ap (λ (n : ℕ). lengthFrom (drop n l)) (shifted k) in
+            let g = ap lengthFrom (drop-drop (suc k) i l) in
+            omega (arith, e, f, g);
+      }
 
   at-item : wordsAt l i ≡ itemThen i (itemAt i (here l i) (rest l i)) (λ k. wordsAfter k (i + 1) (rest l i))
   unfolding wordsAfter
@@ -228,10 +235,11 @@ module _ (l : List ℕ) (i : ℕ) (going : noText (drop i l) ≡ false) where
       go (gap k) h f g = let never : _≡_ {A = ℕ} 0 1 = cc in absurd (omega arith)
       go (word v k) h f g =
           let is : i + 1 + k ≡ next = cc in
-          let same : v ≡ w = cc in
-          (f ∙ ap (withWord v) (pass k (h .0) ∙ ap (wordsAt l) is) ∙ ap (λ (x : Word). withWord x (wordsAt l next)) same,
-          rw is at (gone k (h .0)),
-          rw same at (h .1))
+          let same : v ≡ w = cc in (
+            f ∙ ap (withWord v) (pass k (h .0) ∙ ap (wordsAt l) is) ∙ ap (λ (x : Word). withWord x (wordsAt l next)) same,
+            rw is at (gone k (h .0)),
+            rw same at (h .1),
+          )
       go unreadable h f g = let never : _≡_ {A = ℕ} 0 1 = cc in absurd (omega arith)
 
 -- ---- after a word that may not stand

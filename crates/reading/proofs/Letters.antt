@@ -1,10 +1,10 @@
 -- Letters and their places among the known ones.
-use Prim.Native.Nat.{ℕ, zero, suc, _+_, _≤_, _<_}
+use Prim.Native.Nat.{ℕ, suc, _≤_, _<_}
 use mathlib.Core.Path.{_≡_, refl, sym, _∙_, ap}
 use mathlib.Core.Bool.{Bool, true, false, _||_}
 use mathlib.Core.List.{List, [], _∷_}
 use native.Mathlib.Omega.{arith}
-use borrow.Author.Tests.{ne-eqb, eqb-true, eqb-false, lt-ltb, le-ltb, ltb-true, ltb-false}
+use borrow.Author.Tests.{ne-eqb, eqb-true, lt-ltb, ltb-false}
 use lib.Dec.{eqb, ltb, leb·suc-suc}
 use lib.ListN.{length, getD}
 use Rattle.terms.specs.Terms.{if_then_else_, any, all}

@@ -10,6 +10,7 @@ use Rattle.settings.proofs.Opened.{opened as settings-opened}
 use Rattle.letters.proofs.Opened.{opened as letters-opened}
 use Rattle.reading.specs.Items.{placed, statusAfter}
 use Rattle.reading.specs.Seen.{indexIn, seenWith}
+use Rattle.reading.specs.Whole.{standing, statusOf}
 
 unfoldable pub opened : Unit {0}
 unfolding
@@ -26,4 +27,6 @@ unfolding
     statusAfter
     indexIn
     seenWith
+    standing
+    statusOf
 opened = tt

@@ -1,8 +1,8 @@
 -- What is kept of the words tells whether the next one may stand, and is kept with it.
-use Prim.Native.Nat.{ℕ, suc, _+_, _≤_, _<_}
+use Prim.Native.Nat.{ℕ, _≤_, _<_}
 use mathlib.Core.Path.{_≡_, refl, sym, _∙_, ap}
-use mathlib.Core.Bool.{Bool, true, false, false≢true, not, _&&_, _||_, or-false, or-true}
-use mathlib.Core.Option.{Option, none, some}
+use mathlib.Core.Bool.{Bool, true, false, false≢true, _&&_, _||_, or-false, or-true}
+use mathlib.Core.Option.{none, some}
 use mathlib.Core.List.{List, [], _∷_, _++_}
 use native.Mathlib.Omega.{arith}
 use native.Mathlib.Decide.{ℕ-discrete}
@@ -12,30 +12,13 @@ use lib.ListN.{length, getD, set, length-set, length-replicate, getD-replicate}
 use lib.Seq.{getD-set-same, getD-set-other}
 use Rattle.terms.specs.Terms.{if_then_else_, any, first}
 use Rattle.terms.proofs.Laws.{either-left, either-right, any-snoc, any-more, any-neither, any-false}
-use Rattle.codes.specs.declared.Misc.{Misc}
 use Rattle.codes.specs.declared.Code.{Code}
 use Rattle.codes.specs.declared.Code.the-variants.{GroupA, GroupB, GroupC, GroupD, GroupE, GroupF, G04, Unknown}
-use Rattle.codes.specs.Codes.{groupOf, isGroupA, isG04, clash, isNoM, isM, miscNumber}
+use Rattle.codes.specs.Codes.{groupOf, isGroupA, isG04, clash, isM, miscNumber}
 use Rattle.words.specs.declared.Word.{Word}
 use Rattle.settings.specs.declared.Modes.{Modes}
 use Rattle.settings.specs.Settings.{switched}
-use Rattle.letters.specs.Letters.{
-    known,
-    isKnown,
-    isG,
-    isMisc,
-    codeIn,
-    miscIn,
-    standsAlone,
-    wrongProgram,
-    repeats,
-    badG,
-    badM,
-    mayNotStand,
-    miscOrOther,
-    miscOfBlock,
-    modesIn
-}
+use Rattle.letters.specs.Letters.{known, isKnown, isG, isMisc, codeIn, miscIn, standsAlone, repeats, badG, badM, mayNotStand, miscOrOther, miscOfBlock, modesIn}
 use Rattle.reading.specs.Seen.{indexOf, hasLetter, hasGroup, isAlone, Sums, nothingSeen, seenWith, badMisc}
 use Rattle.reading.specs.declared.Seen.{Seen}
 use Rattle.reading.proofs.Letters.{known-index, index-letter, index-other}
@@ -46,13 +29,14 @@ pub sums-none : (m : Modes) → Sums m [] (nothingSeen m)
 unfolding any standsAlone isM miscNumber miscOfBlock miscOrOther first modesIn
 sums-none m =
     record {
-        places = length-replicate 13 false;
-        kinds = length-replicate 8 false;
-        letters = λ k h. getD-replicate 13 k false false h;
-        groups = λ g h. getD-replicate 8 g false false h;
-        alone = refl;
-        misc = refl;
-        modes = refl }
+      places = length-replicate 13 false;
+      kinds = length-replicate 8 false;
+      letters = λ k h. getD-replicate 13 k false false h;
+      groups = λ g h. getD-replicate 8 g false false h;
+      alone = refl;
+      misc = refl;
+      modes = refl;
+    }
 
 -- ---- one word more
 
@@ -95,56 +79,62 @@ no-misc test done h = any-neither (λ e. isMisc e && test e) isMisc isMisc (λ e
 module _ (m : Modes) (done : List Word) (seen : Seen) (s : Sums m done seen) (w : Word) (k : indexOf (w .letter) < 13) where
   letters-with : (j : ℕ) → j < 13 → getD (set (seen .letters) (indexOf (w .letter)) true) j false ≡ any (hasLetter (getD known j 0)) (done ++ w ∷ [])
   letters-with j h =
-      elim (ℕ-discrete j (indexOf (w .letter)))
-      [ yes e ↦
-          let same : hasLetter (getD known j 0) w ≡ true =
-                  eq-eqb (w .letter) (getD known j 0) (sym (ap (λ (i : ℕ). getD known i 0) e ∙ index-letter (w .letter) k)) in
-          ap (λ (i : ℕ). getD (set (seen .letters) (indexOf (w .letter)) true) i false) e
-          ∙ getD-set-same (seen .letters) (indexOf (w .letter)) true false (omega (arith, s .places))
-          ∙ sym (any-snoc (hasLetter (getD known j 0)) done w ∙ ap (any (hasLetter (getD known j 0)) done ||_) same ∙ or-true (any (hasLetter (getD known j 0)) done))
-      | no f ↦
-          getD-set-other (seen .letters) (indexOf (w .letter)) j true false f ∙ s .letters j h
-          ∙ sym
-          (any-snoc (hasLetter (getD known j 0)) done w
-          ∙ ap (any (hasLetter (getD known j 0)) done ||_) (index-other (w .letter) j h f) ∙ or-false (any (hasLetter (getD known j 0)) done)) ]
+      elim (ℕ-discrete j (indexOf (w .letter))) [
+        | yes e ↦
+            let same : hasLetter (getD known j 0) w ≡ true =
+            eq-eqb (w .letter) (getD known j 0) (sym (ap (λ (i : ℕ). getD known i 0) e ∙ index-letter (w .letter) k)) in
+            ap (λ (i : ℕ). getD (set (seen .letters) (indexOf (w .letter)) true) i false) e
+            ∙ getD-set-same (seen .letters) (indexOf (w .letter)) true false (omega (arith, s .places))
+            ∙ sym (any-snoc (hasLetter (getD known j 0)) done w ∙ ap (any (hasLetter (getD known j 0)) done ||_) same ∙ or-true (any (hasLetter (getD known j 0)) done))
+        | no f ↦
+            getD-set-other (seen .letters) (indexOf (w .letter)) j true false f ∙ s .letters j h
+            ∙ sym
+            (any-snoc (hasLetter (getD known j 0)) done w
+            ∙ ap (any (hasLetter (getD known j 0)) done ||_) (index-other (w .letter) j h f) ∙ or-false (any (hasLetter (getD known j 0)) done))
+      ]
 
   groups-with : (g : ℕ) → g < 8 → getD (if isG w then set (seen .groups) (groupOf (codeIn w)) true else seen .groups) g false ≡ any (hasGroup g) (done ++ w ∷ [])
   groups-with g h = go (isG w) ∙ sym (any-snoc (hasGroup g) done w)
     where
       kept : (t : Bool) → t ≡ false → getD (seen .groups) g false ≡ (any (hasGroup g) done || t)
       kept t e = s .groups g h ∙ sym (ap (any (hasGroup g) done ||_) e ∙ or-false (any (hasGroup g) done))
+
       go : (t : Bool) → getD (if t then set (seen .groups) (groupOf (codeIn w)) true else seen .groups) g false ≡ (any (hasGroup g) done || t && eqb (groupOf (codeIn w)) g)
       go false = kept false refl
       go true =
-          elim (ℕ-discrete g (groupOf (codeIn w)))
-          [ yes e ↦
-              ap (λ (i : ℕ). getD (set (seen .groups) (groupOf (codeIn w)) true) i false) e
-              ∙ getD-set-same (seen .groups) (groupOf (codeIn w)) true false (omega (arith, s .kinds, group-most (codeIn w)))
-              ∙ sym (ap (any (hasGroup g) done ||_) (eq-eqb (groupOf (codeIn w)) g (sym e)) ∙ or-true (any (hasGroup g) done))
-          | no f ↦
-              getD-set-other (seen .groups) (groupOf (codeIn w)) g true false f
-              ∙ kept (eqb (groupOf (codeIn w)) g) (ne-eqb (groupOf (codeIn w)) g (λ e. f (sym e))) ]
+          elim (ℕ-discrete g (groupOf (codeIn w))) [
+            | yes e ↦
+                ap (λ (i : ℕ). getD (set (seen .groups) (groupOf (codeIn w)) true) i false) e
+                ∙ getD-set-same (seen .groups) (groupOf (codeIn w)) true false (omega (arith, s .kinds, group-most (codeIn w)))
+                ∙ sym (ap (any (hasGroup g) done ||_) (eq-eqb (groupOf (codeIn w)) g (sym e)) ∙ or-true (any (hasGroup g) done))
+            | no f ↦
+                getD-set-other (seen .groups) (groupOf (codeIn w)) g true false f
+                ∙ kept (eqb (groupOf (codeIn w)) g) (ne-eqb (groupOf (codeIn w)) g (λ e. f (sym e)))
+          ]
 
   pub sums-with : (isMisc w ≡ true → any isMisc done ≡ false) → Sums m (done ++ w ∷ []) (seenWith seen w)
   unfolding seenWith miscOfBlock miscOrOther
   sums-with once =
       record {
-          places = length-set (seen .letters) (indexOf (w .letter)) true ∙ s .places;
-          kinds = kinds-with (isG w);
-          letters = letters-with;
-          groups = groups-with;
-          alone = any-snoc isAlone done w ∙ alone-with (isMisc w) refl once;
-          misc = misc-with (isMisc w) refl once;
-          modes = ap (λ (x : Modes). if isG w then switched x (codeIn w) else x) (s .modes) ∙ sym (modes-snoc m done w) }
+        places = length-set (seen .letters) (indexOf (w .letter)) true ∙ s .places;
+        kinds = kinds-with (isG w);
+        letters = letters-with;
+        groups = groups-with;
+        alone = any-snoc isAlone done w ∙ alone-with (isMisc w) refl once;
+        misc = misc-with (isMisc w) refl once;
+        modes = ap (λ (x : Modes). if isG w then switched x (codeIn w) else x) (s .modes) ∙ sym (modes-snoc m done w);
+      }
     where
       kinds-with : (t : Bool) → length (if t then set (seen .groups) (groupOf (codeIn w)) true else seen .groups) ≡ 8
       kinds-with true = length-set (seen .groups) (groupOf (codeIn w)) true ∙ s .kinds
       kinds-with false = s .kinds
+
       alone-with :
           (t : Bool) → isMisc w ≡ t → (t ≡ true → any isMisc done ≡ false)
           → (any isAlone done || t && standsAlone (miscIn w)) ≡ standsAlone (if t then miscIn w else seen .misc)
       alone-with true e h = rw (no-misc (λ x. standsAlone (miscIn x)) done (h refl))
       alone-with false e h = or-false (any isAlone done) ∙ s .alone
+
       misc-with :
           (t : Bool) → isMisc w ≡ t → (t ≡ true → any isMisc done ≡ false)
           → (if t then miscIn w else seen .misc) ≡ miscOrOther (first isMisc (done ++ w ∷ []))
@@ -196,28 +186,32 @@ module _ (m : Modes) (done : List Word) (seen : Seen) (s : Sums m done seen) (c 
   none-pair : (groupOf c ≡ 1 → getD (seen .groups) 7 false ≡ false) → (groupOf c ≡ 7 → getD (seen .groups) 1 false ≡ false) → any pair done ≡ false
   unfolding pair
   none-pair dwell motion =
-      elim (ℕ-discrete (groupOf c) 1)
-      [ yes e ↦
-          let none-seven = sym (s .groups 7 (lit< tt)) ∙ dwell e in
-          any-neither pair (hasGroup 7) (hasGroup 7) (λ x f. seven (isG x) (eqb (groupOf (codeIn x)) 1) (eqb (groupOf (codeIn x)) 7) (rw e at f)) done none-seven none-seven
-      | no g ↦
-          (elim (ℕ-discrete (groupOf c) 7)
-          [ yes e ↦
-              let none-one = sym (s .groups 1 (lit< tt)) ∙ motion e in
-              any-neither pair (hasGroup 1) (hasGroup 1) (λ x f. one (isG x) (eqb (groupOf (codeIn x)) 1) (eqb (groupOf (codeIn x)) 7) (rw e at f)) done none-one none-one
-          | no h ↦
-              any-false pair (λ x. rw (ne-eqb (groupOf c) 1 g, ne-eqb (groupOf c) 7 h) (neither (isG x) (eqb (groupOf (codeIn x)) 1) (eqb (groupOf (codeIn x)) 7))) done ]) ]
+      elim (ℕ-discrete (groupOf c) 1) [
+        | yes e ↦
+            let none-seven = sym (s .groups 7 (lit< tt)) ∙ dwell e in
+            any-neither pair (hasGroup 7) (hasGroup 7) (λ x f. seven (isG x) (eqb (groupOf (codeIn x)) 1) (eqb (groupOf (codeIn x)) 7) (rw e at f)) done none-seven none-seven
+        | no g ↦
+            (elim (ℕ-discrete (groupOf c) 7) [
+              | yes e ↦
+                  let none-one = sym (s .groups 1 (lit< tt)) ∙ motion e in
+                  any-neither pair (hasGroup 1) (hasGroup 1) (λ x f. one (isG x) (eqb (groupOf (codeIn x)) 1) (eqb (groupOf (codeIn x)) 7) (rw e at f)) done none-one none-one
+              | no h ↦
+                  any-false pair (λ x. rw (ne-eqb (groupOf c) 1 g, ne-eqb (groupOf c) 7 h) (neither (isG x) (eqb (groupOf (codeIn x)) 1) (eqb (groupOf (codeIn x)) 7))) done
+            ])
+      ]
     where
       seven : (t a b : Bool) → (t && (a && false || b && true)) ≡ true → (t && b || t && b) ≡ true
       seven false a b f = f
       seven true a true f = refl
       seven true true false f = f
       seven true false false f = f
+
       one : (t a b : Bool) → (t && (a && true || b && false)) ≡ true → (t && a || t && a) ≡ true
       one false a b f = f
       one true true b f = refl
       one true false true f = f
       one true false false f = f
+
       neither : (t a b : Bool) → (t && (a && false || b && false)) ≡ false
       neither false a b = refl
       neither true true true = refl
@@ -237,6 +231,7 @@ module _ (m : Modes) (done : List Word) (seen : Seen) (s : Sums m done seen) (c 
       split false x y z f = f
       split true true y z f = refl
       split true false y z f = f
+
       none-clash : any (λ e. isG e && clash (codeIn e) c) done ≡ false
       none-clash =
           any-neither (λ e. isG e && clash (codeIn e) c) (hasGroup (groupOf c)) pair

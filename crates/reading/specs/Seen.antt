@@ -1,8 +1,8 @@
 -- What the reader keeps of the words before a word, and that it is enough to tell whether the word may stand.
-use Prim.Native.Nat.{ℕ, suc, _≤_, _<_}
+use Prim.Native.Nat.{ℕ, suc, _<_}
 use mathlib.Core.Path.{_≡_}
 use mathlib.Core.Bool.{Bool, true, false, _&&_, _||_}
-use mathlib.Core.List.{List, [], _∷_, _++_}
+use mathlib.Core.List.{List, [], _∷_}
 use lib.Dec.{eqb}
 use lib.ListN.{length, getD, set, replicate}
 use Rattle.terms.specs.Terms.{if_then_else_, any}
@@ -51,10 +51,11 @@ nothingSeen m = record { letters = replicate 13 false; groups = replicate 8 fals
 unfoldable pub seenWith : Seen → Word → Seen
 seenWith seen w =
     record {
-        letters = set (seen .letters) (indexOf (w .letter)) true;
-        groups = if isG w then set (seen .groups) (groupOf (codeIn w)) true else seen .groups;
-        misc = if isMisc w then miscIn w else seen .misc;
-        modes = if isG w then switched (seen .modes) (codeIn w) else seen .modes }
+      letters = set (seen .letters) (indexOf (w .letter)) true;
+      groups = if isG w then set (seen .groups) (groupOf (codeIn w)) true else seen .groups;
+      misc = if isMisc w then miscIn w else seen .misc;
+      modes = if isG w then switched (seen .modes) (codeIn w) else seen .modes;
+    }
 
 -- the answer about a word is the rule's, whatever the words were of which this much is kept
 pub record Tells (main : Bool) (seen : Seen) (w : Word) (r : Bool) : Type 0 where

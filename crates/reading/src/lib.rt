@@ -3,16 +3,20 @@ use codes::Code;
 use codes::Misc;
 use gaps::Comment;
 use settings::Modes;
+use words::Number;
 use words::Numbered;
+use words::Sign;
 use words::Word;
 ghost use mathlib.Core.Path.{_≡_};
+ghost use mathlib.Core.Bool.{_||_};
 ghost use Prim.Native.Nat.{_+_, _≤_, _<_};
 ghost use lib.ListN.{length, drop, getD};
 ghost use Rattle.lines.specs.Blocks.{textFrom};
 ghost use Rattle.words.specs.Words.{itemAt};
-ghost use Rattle.letters.specs.Letters.{codeIn, miscIn, standsAlone, wrongProgram};
+ghost use Rattle.letters.specs.Letters.{isG, isMisc, codeIn, miscIn, standsAlone, wrongProgram};
 ghost use Rattle.reading.specs.Items.{placed, wordsAt, statusAfter};
 ghost use Rattle.reading.specs.Seen.{indexOf, Tells, TellsG, badMisc, nothingSeen, seenWith};
+ghost use Rattle.reading.specs.Whole.{IsRead};
 
 // What begins at a place of a block: a blank or a comment, or a word, each with the place after it; or nothing readable.
 pub enum Item {
@@ -36,6 +40,16 @@ pub struct Seen {
     pub groups: [bool; 8],
     pub misc: Misc,
     pub modes: Modes,
+}
+
+// What the reading of a block answers. Where the status is fine, `words` holds the words with a value in their order, and
+// `end` is where the block's text ends.
+pub struct Reading {
+    pub status: Status,
+    pub seen: Seen,
+    pub count: usize,
+    pub words: [Word; 13],
+    pub end: usize,
 }
 
 fn item_at(s: &[u8], i: usize) -> Item
@@ -155,11 +169,7 @@ fn is_wrong_program(main: bool, m: Misc) -> bool
     ensures { λ r. ⌜ r ≡ wrongProgram main m ⌝ }
 {
     let n = codes::misc_number(m);
-    if main {
-        n == 99
-    } else {
-        (n == 2) | (n == 30)
-    }
+    if main { n == 99 } else { (n == 2) | (n == 30) }
 }
 
 // An M code that may not stand; `after` tells that a G code stands before it.
@@ -252,5 +262,92 @@ fn with_word(seen: Seen, w: Word) -> Seen
         groups,
         misc,
         modes,
+    }
+}
+
+fn nothing_seen(modes: Modes) -> Seen
+    ensures { λ r. ⌜ r ≡ nothingSeen modes ⌝ }
+{
+    Seen {
+        letters: [false; 13],
+        groups: [false; 8],
+        misc: Misc::Other,
+        modes,
+    }
+}
+
+// A G or M word is kept as a code and not as a word.
+fn is_coded(w: Word) -> bool
+    ensures { λ r. ⌜ r ≡ (isG w || isMisc w) ⌝ }
+{
+    (w.letter == b'G') | (w.letter == b'M')
+}
+
+fn no_word() -> Word {
+    let number = Number {
+        sign: Sign::Plain,
+        point: false,
+        digits: 0,
+        decimals: 0,
+    };
+    Word {
+        letter: 0,
+        number,
+        at: 0,
+    }
+}
+
+// The words of the block's text from a place on, under the modes that held before.
+pub fn read_words(s: &[u8], from: usize, main: bool, modes: Modes) -> Reading
+    requires { ⌜ from ≤ length (now s) ⌝ }
+    ensures { λ r. ⌜ IsRead main modes (now (s .entry)) from r ⌝ }
+{
+    let mut words = [no_word(); 13];
+    let mut count: usize = 0;
+    let mut seen = nothing_seen(modes);
+    let mut i = from;
+    loop {
+        if lines::text_ends(s, i) {
+            return Reading {
+                status: Status::Fine,
+                seen,
+                count,
+                words,
+                end: i,
+            };
+        }
+        match item_at(s, i) {
+            Item::Unreadable => {
+                return Reading {
+                    status: Status::Unreadable(i),
+                    seen,
+                    count,
+                    words,
+                    end: i,
+                };
+            }
+            Item::Gap(next) => {
+                i = next;
+            }
+            Item::Says(w, next) => {
+                if may_not_stand(main, seen, w) {
+                    let status = status_after(s, next, w.at);
+                    return Reading {
+                        status,
+                        seen,
+                        count,
+                        words,
+                        end: i,
+                    };
+                }
+                i = next;
+                seen = with_word(seen, w);
+                if is_coded(w) {
+                    continue;
+                }
+                words[count] = w;
+                count += 1;
+            }
+        }
     }
 }

@@ -104,13 +104,14 @@ missing = record { stands = false; v = len (pos 0) }
 abbrev pub noValues : Values
 noValues =
     record {
-        x = missing;
-        y = missing;
-        z = missing;
-        i = missing;
-        j = missing;
-        k = missing;
-        r = missing;
-        p = missing;
-        f = missing;
-        s = missing }
+      x = missing;
+      y = missing;
+      z = missing;
+      i = missing;
+      j = missing;
+      k = missing;
+      r = missing;
+      p = missing;
+      f = missing;
+      s = missing;
+    }

@@ -10,10 +10,6 @@ use Rattle.gaps.proofs.Laws.{gaps-end, text-inside, gaps-at-blank, gaps
 use Rattle.words.specs.Words.{isBlank}
 use Rattle.gaps.proofs.only_gaps.Statement.{statement}
 use Rattle.gaps.proofs.only_gaps.Tie as tie
-use Rattle.gaps.proofs.only_gaps.Reads as reads
-use Rattle.gaps.proofs.only_gaps.Lts as lts
-use Rattle.gaps.proofs.comment_end.Reads as comment-end-reads
-use Rattle.lines.proofs.text_ends.Reads as text-ends-reads
 
 abbrev Inv-loop : tie.InvT-loop
 Inv-loop s at i₀ i = (i ≤ length s) × (onlyGaps (textFrom (drop at s)) ≡ onlyGaps (textFrom (drop i s)))
@@ -21,11 +17,9 @@ Inv-loop s at i₀ i = (i ≤ length s) × (onlyGaps (textFrom (drop at s)) ≡ 
 abbrev μ-loop : tie.MeasureT-loop
 μ-loop s at i₀ i = length s - i
 
--- src/lib.rt:40:5
 loop-holds : tie.Need-loop-holds Inv-loop μ-loop
 loop-holds c = (omega arith, refl)
 
--- src/lib.rt:41:12
 text-ends-requires : tie.Need-text-ends-requires Inv-loop μ-loop
 text-ends-requires c κs = omega arith
 
@@ -38,33 +32,26 @@ going :
     → noText (drop (at-loop c .loop .i) (at-loop c .before .before .args .s .now)) ≡ false
 going c = sym (c .before .before .text-ends .ensures) ∙ c .before .if1 .left
 
--- src/lib.rt:42:13
 returns : tie.Need-returns Inv-loop μ-loop
 returns c =
     let d = c .before .before in
     sym (d .loop .inv .1 ∙ gaps-end (d .before .before .args .s .now) (d .loop .i) (sym (c .before .text-ends .ensures) ∙ c .if1 .taken))
 
--- src/lib.rt:44:17
 shared-slice-read-b : tie.Need-shared-slice-read-b Inv-loop μ-loop
 shared-slice-read-b c = let d = c .before .before .before in text-inside (d .before .before .args .s .now) (d .loop .i) (going c)
 
--- src/lib.rt:45:9
 add-i : tie.Need-add-i Inv-loop μ-loop
 add-i c = let d = c .before .before .before in omega (arith, text-inside (d .before .before .args .s .now) (d .loop .i) (going c))
 
--- src/lib.rt:47:41
 comment-end-requires : tie.Need-comment-end-requires Inv-loop μ-loop
 comment-end-requires c κs = let d = c .before .before .before .before in omega (arith, text-inside (d .before .before .args .s .now) (d .loop .i) (going (c .before)))
 
--- src/lib.rt:47:33
 enum-known-next : tie.Need-enum-known-next Inv-loop μ-loop
 enum-known-next c = search needs
 
--- src/lib.rt:48:17
 enum-told : tie.Need-enum-told Inv-loop μ-loop
 enum-told c = search needs
 
--- src/lib.rt:48:17
 returns-2 : tie.Need-returns-2 Inv-loop μ-loop
 returns-2 c =
     let e = c .before .before .before .before in
@@ -89,12 +76,13 @@ loop-less c = let w = passed c in omega (arith, w .is, w .within)
 loop-again : tie.Need-loop-again Inv-loop μ-loop
 loop-again c =
     let e = c .before .before .before .before .before in
-    let d = at-loop e in
-    (passed c .within,
-    d .loop .inv .1
-    ∙ gaps-at-comment (d .before .before .args .s .now) (d .loop .i) (c .before .next .given .0 .0) (going e)
-    (c .before .before .before .before .if2 .taken)
-    (sym (c .before .before .before .comment-end .ensures) ∙ c .before .next .given .1))
+    let d = at-loop e in (
+      passed c .within,
+      d .loop .inv .1
+          ∙ gaps-at-comment (d .before .before .args .s .now) (d .loop .i) (c .before .next .given .0 .0) (going e)
+          (c .before .before .before .before .if2 .taken)
+          (sym (c .before .before .before .comment-end .ensures) ∙ c .before .next .given .1),
+    )
 
 returns-3 : tie.Need-returns-3 Inv-loop μ-loop
 returns-3 c =
@@ -113,9 +101,10 @@ loop-less-2 c =
 -- past a blank
 over-blank : (e : tie.After-shared-slice-known2 Inv-loop μ-loop) → isBlank (getD (at-loop e .before .before .args .s .now) (at-loop e .loop .i) 0) ≡ true → Inv-loop (at-loop e .before .before .args .s .now) (at-loop e .before .before .args .at) (at-loop e .before .before .args .at) (at-loop e .loop .i + 1)
 over-blank e b =
-    let d = at-loop e in
-    (omega (arith, text-inside (d .before .before .args .s .now) (d .loop .i) (going e)),
-    d .loop .inv .1 ∙ gaps-at-blank (d .before .before .args .s .now) (d .loop .i) (going e) b)
+    let d = at-loop e in (
+      omega (arith, text-inside (d .before .before .args .s .now) (d .loop .i) (going e)),
+      d .loop .inv .1 ∙ gaps-at-blank (d .before .before .args .s .now) (d .loop .i) (going e) b,
+    )
 
 loop-again-2 : tie.Need-loop-again-2 Inv-loop μ-loop
 loop-again-2 c = over-blank (c .before .before .before) (blank-tab _ (c .if4 .left))

@@ -4,35 +4,26 @@ use Rattle.programs.proofs.Entries.{entry-taken, entry-full, entry-new}
 use borrow.Author.Needs.{needs}
 use Rattle.programs.proofs.entry_of.Statement.{statement}
 use Rattle.programs.proofs.entry_of.Tie as tie
-use Rattle.programs.proofs.entry_of.Reads as reads
-use Rattle.programs.proofs.entry_of.Lts as lts
-use Rattle.programs.proofs.is_taken.Reads as is-taken-reads
 
--- src/lib.rt:131:25
 enum-known-o : tie.Need-enum-known-o
 enum-known-o c = search needs
 
--- src/lib.rt:132:31
 enum-told : tie.Need-enum-told
 enum-told c = search needs
 
--- src/lib.rt:132:9
 returns : tie.Need-returns
 unfolding entryOf
 returns c = rw (c .enum-told .given .1)
 
--- src/lib.rt:134:8
 is-taken-requires : tie.Need-is-taken-requires
 is-taken-requires c κs = search needs
 
--- src/lib.rt:135:9
 returns-2 : tie.Need-returns-2
 returns-2 c =
     let a = c .before .before .before .before .before in
     let o = c .before .before .before .o .given in
     rw (o .1) (sym (entry-taken (a .args .t) (a .pre) (o .0 .0) (sym (c .before .is-taken .ensures) ∙ c .if1 .taken)))
 
--- src/lib.rt:138:9
 returns-3 : tie.Need-returns-3
 returns-3 c =
     let a = c .before .before .before .before .before .before .before in
@@ -40,7 +31,6 @@ returns-3 c =
     rw (o .1)
     (sym (entry-full (a .args .t) (a .pre) (o .0 .0) (sym (c .before .before .before .is-taken .ensures) ∙ c .before .before .if1 .left) (c .if2 .taken)))
 
--- src/lib.rt:127:1
 returns-4 : tie.Need-returns-4
 returns-4 c =
     let a = c .before .before .before .before .before .before .before in

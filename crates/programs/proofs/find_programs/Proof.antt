@@ -11,33 +11,21 @@ use Rattle.programs.proofs.Scanning.{next-inside, opens-at, found-plain
 use borrow.Author.Needs.{needs}
 use Rattle.programs.proofs.find_programs.Statement.{statement}
 use Rattle.programs.proofs.find_programs.Tie as tie
-use Rattle.programs.proofs.find_programs.Reads as reads
-use Rattle.programs.proofs.find_programs.Lts as lts
-use Rattle.lines.proofs.begins_with.Reads as begins-with-reads
-use Rattle.lines.proofs.next_block.Reads as next-block-reads
-use Rattle.programs.proofs.only_main.Reads as only-main-reads
-use Rattle.programs.proofs.read_opening.Reads as read-opening-reads
-use Rattle.programs.proofs.scan_openings.Reads as scan-openings-reads
 
--- src/lib.rt:222:9
 next-block-requires : tie.Need-next-block-requires
 next-block-requires c κs = search needs
 
--- src/lib.rt:223:9
 begins-with-requires : tie.Need-begins-with-requires
 begins-with-requires c κs = omega (arith, c .next-block .ensures, next-inside (c .before .before .args .s .now) 0 (omega arith))
 
--- src/lib.rt:229:40
 only-main-requires : tie.Need-only-main-requires
 only-main-requires c κs = search needs
 
--- src/lib.rt:229:9
 scan-openings-requires : tie.Need-scan-openings-requires
 scan-openings-requires c κs =
     let d = c .before .before .before in
     ((omega (arith, d .next-block .ensures, next-inside (d .before .before .args .s .now) 0 (omega arith)), omega (arith, d .next-block .ensures, length-some (d .before .before .args .s .now) 0 (omega arith))), c .only-main .ensures .ready)
 
--- src/lib.rt:229:9
 returns : tie.Need-returns
 returns c =
     let d = c .before .before .before .before in
@@ -52,46 +40,40 @@ begins c = sym (c .before .begins-with .ensures) ∙ not-false _ (c .if1 .left)
 opened : (c : tie.Else1) → (c .before .before .next-block .result < length (c .before .before .before .before .args .s .now)) × (getD (c .before .before .before .before .args .s .now) (c .before .before .next-block .result) 0 ≡ 79)
 opened c = opens-at (c .before .before .before .before .args .s .now) (c .before .before .next-block .result) (begins c)
 
--- src/lib.rt:231:27
 add-read-opening : tie.Need-add-read-opening
 add-read-opening c = let o = opened c in omega (arith, o .0)
 
--- src/lib.rt:231:11
 read-opening-requires : tie.Need-read-opening-requires
 read-opening-requires c κs = let o = opened c in omega (arith, o .0)
 
--- src/lib.rt:233:39
 enum-told : tie.Need-enum-told
 enum-told c = search needs
 
--- src/lib.rt:234:23
 only-main-requires-2 : tie.Need-only-main-requires-2
 only-main-requires-2 c κs = search needs
 
--- src/lib.rt:240:25
 enum-known-number : tie.Need-enum-known-number
 enum-known-number c = search needs
 
--- src/lib.rt:241:17
 next-block-requires-2 : tie.Need-next-block-requires-2
 next-block-requires-2 c κs = let o = opened (c .before .before .before .before) in omega (arith, o .0)
 
--- src/lib.rt:247:39
 only-main-requires-3 : tie.Need-only-main-requires-3
 only-main-requires-3 c κs = search needs
 
--- src/lib.rt:247:13
 scan-openings-requires-2 : tie.Need-scan-openings-requires-2
 scan-openings-requires-2 c κs =
     let e = c .before .before .before .before .before .before in
     let o = opened e in
     let l = e .before .before .before .before .args .s .now in
-    let at = e .before .before .next-block .result in
-    ((omega (arith, c .before .next-block2 .ensures, next-inside l at (omega (arith, o .0))),
-    omega (arith, c .before .next-block2 .ensures, length-some l at (o .0), e .before .before .next-block .ensures, length-some l 0 (omega (arith, o .0)))),
-    c .only-main3 .ensures .ready)
+    let at = e .before .before .next-block .result in (
+      (
+        omega (arith, c .before .next-block2 .ensures, next-inside l at (omega (arith, o .0))),
+        omega (arith, c .before .next-block2 .ensures, length-some l at (o .0), e .before .before .next-block .ensures, length-some l 0 (omega (arith, o .0))),
+      ),
+      c .only-main3 .ensures .ready,
+    )
 
--- src/lib.rt:218:1
 returns-2 : tie.Need-returns-2
 unfolding tableBy
 returns-2 c =
@@ -99,7 +81,6 @@ returns-2 c =
     found-bad (e .before .before .before .before .args .s .now) (e .before .before .next-block .result) (e .before .before .next-block .ensures) (begins e)
     (sym (c .before .before .before .read-opening .ensures) ∙ c .before .enum-told .given .1)
 
--- src/lib.rt:218:1
 returns-3 : tie.Need-returns-3
 returns-3 c =
     let e = c .before .before .before .before .before .before .before in

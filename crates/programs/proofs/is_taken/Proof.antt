@@ -5,8 +5,6 @@ use native.Mathlib.Omega.{arith}
 use Rattle.programs.proofs.Entries.{taken-main, taken-rest, Search, search-start, search-done, search-found, search-past}
 use Rattle.programs.proofs.is_taken.Statement.{statement}
 use Rattle.programs.proofs.is_taken.Tie as tie
-use Rattle.programs.proofs.is_taken.Reads as reads
-use Rattle.programs.proofs.is_taken.Lts as lts
 
 abbrev Inv-loop : tie.InvT-loop
 Inv-loop n subs count i₀ i = (i ≤ count) × (count ≤ 10) × Search n subs count i
@@ -14,23 +12,18 @@ Inv-loop n subs count i₀ i = (i ≤ count) × (count ≤ 10) × Search n subs 
 abbrev μ-loop : tie.MeasureT-loop
 μ-loop n subs count i₀ i = count - i
 
--- src/lib.rt:112:9
 returns : tie.Need-returns Inv-loop μ-loop
 returns c = let a = c .before .before .before .args in sym (taken-main (a .t .main) (subsOf (a .t)) (a .n) (c .if1 .taken))
 
--- src/lib.rt:117:5
 loop-holds : tie.Need-loop-holds Inv-loop μ-loop
 loop-holds c = let a = c .before .before .before .before in (omega arith, a .pre .used, search-start (a .args .n) (a .args .t .subs) (a .args .t .count) (omega arith))
 
--- src/lib.rt:118:17
 mul-p : tie.Need-mul-p Inv-loop μ-loop
 mul-p c = omega arith
 
--- src/lib.rt:118:17
 array-copy-out-p : tie.Need-array-copy-out-p Inv-loop μ-loop
 array-copy-out-p c = omega arith
 
--- src/lib.rt:120:13
 returns-2 : tie.Need-returns-2 Inv-loop μ-loop
 returns-2 c =
     let d = c .before .before .before .before in
@@ -39,22 +32,18 @@ returns-2 c =
     (taken-rest (a .t .main) (subsOf (a .t)) (a .n) (d .before .before .if1 .left)
     ∙ search-found (a .n) (a .t .subs) (a .t .count) (d .loop .i) _ (d .loop .inv .2) (omega arith) (c .if2 .taken))
 
--- src/lib.rt:122:9
 add-i : tie.Need-add-i Inv-loop μ-loop
 add-i c = omega arith
 
--- src/lib.rt:117:5
 loop-less : tie.Need-loop-less Inv-loop μ-loop
 loop-less c = omega arith
 
--- src/lib.rt:117:5
 loop-again : tie.Need-loop-again Inv-loop μ-loop
 loop-again c =
     let d = c .before .before .before .before in
     let a = c .before .before .before .before .before .before .before .before .before .args in
     (omega arith, d .loop .inv .1, search-past (a .n) (a .t .subs) (a .t .count) (d .loop .i) _ (d .loop .inv .2) (omega arith) (c .if2 .left))
 
--- src/lib.rt:106:1
 returns-3 : tie.Need-returns-3 Inv-loop μ-loop
 returns-3 c =
     let d = c .before in

@@ -4,8 +4,6 @@ use lib.ListN.{length}
 use Rattle.programs.proofs.Figures.{Passed, none-passed, one-passed, nine-passed, ended-other, ended-end, all-passed, digit-low, digit-high, at-most-eight}
 use Rattle.programs.proofs.read_digits.Statement.{statement}
 use Rattle.programs.proofs.read_digits.Tie as tie
-use Rattle.programs.proofs.read_digits.Reads as reads
-use Rattle.programs.proofs.read_digits.Lts as lts
 
 abbrev Inv-loop : tie.InvT-loop
 Inv-loop s at count₀ value₀ i₀ count value i = Passed s at count value i
@@ -13,60 +11,48 @@ Inv-loop s at count₀ value₀ i₀ count value i = Passed s at count value i
 abbrev μ-loop : tie.MeasureT-loop
 μ-loop s at count₀ value₀ i₀ count value i = length s - i
 
--- src/lib.rt:55:5
 loop-holds : tie.Need-loop-holds Inv-loop μ-loop
 loop-holds c = none-passed (c .args .s .now) (c .args .at) (c .pre)
 
--- src/lib.rt:56:17
 shared-slice-read-b : tie.Need-shared-slice-read-b Inv-loop μ-loop
 shared-slice-read-b c = omega arith
 
--- src/lib.rt:64:13
 returns : tie.Need-returns Inv-loop μ-loop
 returns c =
     let d = c .before .before .before .before .before in
     record {
-        few = λ h. absurd (omega arith);
-        many = λ h. nine-passed (d .loop .inv) (omega arith) (c .before .before .if1 .left) (c .before .if2 .left) (c .if3 .taken);
-        value = λ h. absurd (omega arith) }
+      few = λ h. absurd (omega arith);
+      many = λ h. nine-passed (d .loop .inv) (omega arith) (c .before .before .if1 .left) (c .before .if2 .left) (c .if3 .taken);
+      value = λ h. absurd (omega arith);
+    }
 
--- src/lib.rt:66:17
 mul-value : tie.Need-mul-value Inv-loop μ-loop
 mul-value c = let p = c .before .before .before .before .before .loop .inv in omega (arith, at-most-eight (c .before .before .before .before .before .loop .count) (p .few) (p .small))
 
--- src/lib.rt:66:30
 cast-value : tie.Need-cast-value Inv-loop μ-loop
 cast-value c = omega arith
 
--- src/lib.rt:66:17
 add-value : tie.Need-add-value Inv-loop μ-loop
 add-value c = let p = c .before .before .before .before .before .loop .inv in omega (arith, at-most-eight (c .before .before .before .before .before .loop .count) (p .few) (p .small))
 
--- src/lib.rt:67:9
 add-count : tie.Need-add-count Inv-loop μ-loop
 add-count c = omega (arith, c .before .before .before .before .before .loop .inv .few)
 
--- src/lib.rt:68:9
 add-i : tie.Need-add-i Inv-loop μ-loop
 add-i c = omega arith
 
--- src/lib.rt:55:5
 loop-less : tie.Need-loop-less Inv-loop μ-loop
 loop-less c = omega arith
 
--- src/lib.rt:55:5
 loop-again : tie.Need-loop-again Inv-loop μ-loop
 loop-again c = one-passed (c .before .before .before .before .before .loop .inv) (omega arith) (c .before .before .if1 .left) (c .before .if2 .left) (c .if3 .left)
 
--- src/lib.rt:48:1
 returns-2 : tie.Need-returns-2 Inv-loop μ-loop
 returns-2 c = let p = c .before .loop .inv in all-passed p (ended-end p (omega arith))
 
--- src/lib.rt:48:1
 returns-3 : tie.Need-returns-3 Inv-loop μ-loop
 returns-3 c = let p = c .before .before .before .loop .inv in all-passed p (ended-other p (omega arith) (digit-low _ (c .if1 .taken)))
 
--- src/lib.rt:48:1
 returns-4 : tie.Need-returns-4 Inv-loop μ-loop
 returns-4 c = let p = c .before .before .before .before .loop .inv in all-passed p (ended-other p (omega arith) (digit-high _ (c .if2 .taken)))
 

@@ -5,42 +5,30 @@ use Rattle.programs.proofs.Numbers.{opening-few, opening-many, opening-
 use borrow.Author.Needs.{needs}
 use Rattle.programs.proofs.read_opening.Statement.{statement}
 use Rattle.programs.proofs.read_opening.Tie as tie
-use Rattle.programs.proofs.read_opening.Reads as reads
-use Rattle.programs.proofs.read_opening.Lts as lts
-use Rattle.gaps.proofs.only_gaps.Reads as only-gaps-reads
-use Rattle.programs.proofs.read_digits.Reads as read-digits-reads
 
--- src/lib.rt:78:9
 read-digits-requires : tie.Need-read-digits-requires
 read-digits-requires c κs = search needs
 
--- src/lib.rt:80:9
 returns : tie.Need-returns
 returns c = sym (opening-few (c .before .before .read-digits .ensures) (c .if1 .taken))
 
--- src/lib.rt:83:9
 returns-2 : tie.Need-returns-2
 returns-2 c = sym (opening-many (c .before .before .before .before .read-digits .ensures) (c .if2 .taken))
 
--- src/lib.rt:86:9
 returns-3 : tie.Need-returns-3
 returns-3 c = sym (opening-zero (c .before .before .before .before .before .before .read-digits .ensures) (c .before .before .before .before .if1 .left) (c .before .before .if2 .left) (c .if3 .taken))
 
--- src/lib.rt:89:9
 returns-4 : tie.Need-returns-4
 returns-4 c = sym (opening-large (c .before .before .before .before .before .before .before .before .read-digits .ensures) (c .before .before .before .before .before .before .if1 .left) (c .before .before .before .before .if2 .left) (c .if4 .taken))
 
--- src/lib.rt:91:27
 add-only-gaps : tie.Need-add-only-gaps
 add-only-gaps c = search needs
 
--- src/lib.rt:91:8
 only-gaps-requires : tie.Need-only-gaps-requires
 only-gaps-requires c κs =
     let d = c .before .before .before .before .before .before .before .before .before in
     digits-inside (d .before .before .args .s .now) (d .before .before .args .at) (d .read-digits .result) (omega arith) (d .read-digits .ensures) (c .before .before .before .before .before .if2 .left)
 
--- src/lib.rt:74:1
 returns-5 : tie.Need-returns-5
 returns-5 c =
     let d = c .before .before .before .before .before .before .before .before .before .before .before in
@@ -51,7 +39,6 @@ returns-5 c =
     (ap onlyGaps (after-digits (d .before .before .args .s .now) (d .before .before .args .at) (d .read-digits .result) (omega arith) is few)
     ∙ sym (c .before .only-gaps .ensures) ∙ c .if5 .taken))
 
--- src/lib.rt:74:1
 returns-6 : tie.Need-returns-6
 returns-6 c =
     let d = c .before .before .before .before .before .before .before .before .before .before .before in

@@ -11,13 +11,6 @@ use Rattle.programs.specs.Openings.{entryOf}
 use Rattle.programs.specs.Found.{subsOf, tableBy}
 use Rattle.programs.proofs.scan_openings.Statement.{statement}
 use Rattle.programs.proofs.scan_openings.Tie as tie
-use Rattle.programs.proofs.scan_openings.Reads as reads
-use Rattle.programs.proofs.scan_openings.Lts as lts
-use Rattle.lines.proofs.is_percent.Reads as is-percent-reads
-use Rattle.lines.proofs.next_block.Reads as next-block-reads
-use Rattle.programs.proofs.entry_of.Reads as entry-of-reads
-use Rattle.programs.proofs.read_opening.Reads as read-opening-reads
-use Rattle.programs.proofs.with_program.Reads as with-program-reads
 
 abbrev Inv-loop : tie.InvT-loop
 Inv-loop s from number programs at₀ block₀ at block =
@@ -32,37 +25,29 @@ Inv-blocks2 s from number programs₀ at₀ block₀ programs at block = Scan s 
 abbrev μ-blocks2 : tie.MeasureT-blocks2
 μ-blocks2 s from number programs₀ at₀ block₀ programs at block = length s - at
 
--- src/lib.rt:163:5
 blocks2-holds : tie.Need-blocks2-holds Inv-loop μ-loop Inv-blocks2 μ-blocks2
 blocks2-holds c =
     let a = c .before in
     scan-start (a .args .s .now) (a .args .from) (a .args .number) (a .args .found) (a .pre .0 .0) (a .pre .0 .1) (a .pre .1)
 
--- src/lib.rt:164:12
 is-percent-requires : tie.Need-is-percent-requires Inv-loop μ-loop Inv-blocks2 μ-blocks2
 is-percent-requires c κs = omega arith
 
--- src/lib.rt:167:12
 shared-slice-read-if2 : tie.Need-shared-slice-read-if2 Inv-loop μ-loop Inv-blocks2 μ-blocks2
 shared-slice-read-if2 c = omega arith
 
--- src/lib.rt:168:54
 add-read-opening : tie.Need-add-read-opening Inv-loop μ-loop Inv-blocks2 μ-blocks2
 add-read-opening c = omega arith
 
--- src/lib.rt:168:38
 read-opening-requires : tie.Need-read-opening-requires Inv-loop μ-loop Inv-blocks2 μ-blocks2
 read-opening-requires c κs = omega arith
 
--- src/lib.rt:168:19
 entry-of-requires : tie.Need-entry-of-requires Inv-loop μ-loop Inv-blocks2 μ-blocks2
 entry-of-requires c κs = search needs
 
--- src/lib.rt:169:32
 enum-known-refusal : tie.Need-enum-known-refusal Inv-loop μ-loop Inv-blocks2 μ-blocks2
 enum-known-refusal c = search needs
 
--- src/lib.rt:170:21
 returns : tie.Need-returns Inv-loop μ-loop Inv-blocks2 μ-blocks2
 unfolding tableBy
 returns c =
@@ -72,33 +57,28 @@ returns c =
     (ap (entryOf (d .blocks2 .programs .main) (subsOf (d .blocks2 .programs))) (sym (c .before .before .before .before .read-opening .ensures))
     ∙ sym (c .before .before .before .entry-of .ensures) ∙ c .before .refusal .given .1)
 
--- src/lib.rt:175:31
 enum-known-n : tie.Need-enum-known-n Inv-loop μ-loop Inv-blocks2 μ-blocks2
 enum-known-n c = search needs
 
--- src/lib.rt:176:21
 add-block : tie.Need-add-block Inv-loop μ-loop Inv-blocks2 μ-blocks2
 add-block c = omega arith
 
--- src/lib.rt:177:21
 next-block-requires : tie.Need-next-block-requires Inv-loop μ-loop Inv-blocks2 μ-blocks2
 next-block-requires c κs = omega arith
 
--- src/lib.rt:178:21
 with-program-requires : tie.Need-with-program-requires Inv-loop μ-loop Inv-blocks2 μ-blocks2
 with-program-requires c κs =
-    let d = c .before .before .before .before .before .before .before .before .before .before .before in
-    (d .blocks2 .inv .ready,
-    entry-room (d .blocks2 .programs) (d .blocks2 .inv .ready) (c .before .before .before .before .before .read-opening .result) _
-    (sym (c .before .before .before .before .entry-of .ensures) ∙ c .before .before .n .given .1))
+    let d = c .before .before .before .before .before .before .before .before .before .before .before in (
+      d .blocks2 .inv .ready,
+      entry-room (d .blocks2 .programs) (d .blocks2 .inv .ready) (c .before .before .before .before .before .read-opening .result) _
+          (sym (c .before .before .before .before .entry-of .ensures) ∙ c .before .before .n .given .1),
+    )
 
--- src/lib.rt:163:5
 blocks2-less : tie.Need-blocks2-less Inv-loop μ-loop Inv-blocks2 μ-blocks2
 blocks2-less c =
     let d = c .before .before .before .before .before .before .before .before .before .before .before .before in
     omega (arith, c .before .next-block .ensures, length-at-more (d .before .before .args .s .now) (d .blocks2 .at) (omega arith) (λ e. omega (arith, c .before .before .before .before .before .before .before .if2 .taken)))
 
--- src/lib.rt:163:5
 blocks2-again : tie.Need-blocks2-again Inv-loop μ-loop Inv-blocks2 μ-blocks2
 blocks2-again c =
     let d = c .before .before .before .before .before .before .before .before .before .before .before .before in
@@ -108,15 +88,12 @@ blocks2-again c =
     ∙ sym (c .before .before .before .before .before .entry-of .ensures) ∙ c .before .before .before .n .given .1)
     (c .before .next-block .ensures) (c .with-program .ensures)
 
--- src/lib.rt:190:9
 loop-holds : tie.Need-loop-holds Inv-loop μ-loop Inv-blocks2 μ-blocks2
 loop-holds c = (c .before .before .before .before .before .blocks2 .inv .inside, omega arith, refl, refl)
 
--- src/lib.rt:163:5
 blocks2-less-2 : tie.Need-blocks2-less-2 Inv-loop μ-loop Inv-blocks2 μ-blocks2
 blocks2-less-2 c = omega arith
 
--- src/lib.rt:163:5
 blocks2-again-2 : tie.Need-blocks2-again-2 Inv-loop μ-loop Inv-blocks2 μ-blocks2
 blocks2-again-2 c =
     let d = c .before .before .before .before .before .before .before in
@@ -125,23 +102,18 @@ blocks2-again-2 c =
     (passed-last (d .blocks2 .inv) (omega arith) (sym (c .before .before .before .before .before .is-percent .ensures) ∙ c .before .before .before .before .if1 .left) (c .before .loop .at) (c .before .before .if2 .left)
     (omega (arith, i .3, length-at-end (d .before .before .args .s .now) (c .before .loop .at) (omega arith))) (omega arith))
 
--- src/lib.rt:191:21
 shared-slice-read-b : tie.Need-shared-slice-read-b Inv-loop μ-loop Inv-blocks2 μ-blocks2
 shared-slice-read-b c = omega arith
 
--- src/lib.rt:192:13
 add-at : tie.Need-add-at Inv-loop μ-loop Inv-blocks2 μ-blocks2
 add-at c = omega arith
 
--- src/lib.rt:194:17
 add-block-2 : tie.Need-add-block-2 Inv-loop μ-loop Inv-blocks2 μ-blocks2
 add-block-2 c = omega arith
 
--- src/lib.rt:163:5
 blocks2-less-3 : tie.Need-blocks2-less-3 Inv-loop μ-loop Inv-blocks2 μ-blocks2
 blocks2-less-3 c = omega arith
 
--- src/lib.rt:163:5
 blocks2-again-3 : tie.Need-blocks2-again-3 Inv-loop μ-loop Inv-blocks2 μ-blocks2
 blocks2-again-3 c =
     let d = c .before .before .before .before .before .before .before .before .before in
@@ -150,24 +122,23 @@ blocks2-again-3 c =
     (passed-plain (d .blocks2 .inv) (omega arith) (sym (c .before .before .before .before .before .before .before .is-percent .ensures) ∙ c .before .before .before .before .before .before .if1 .left) (c .before .before .before .loop .at + 1) (c .before .before .before .before .if2 .left)
     (omega (arith, i .3, length-at-lf (d .before .before .args .s .now) (c .before .before .before .loop .at) (omega arith) (c .if3 .taken))) (omega arith))
 
--- src/lib.rt:190:9
 loop-less : tie.Need-loop-less Inv-loop μ-loop Inv-blocks2 μ-blocks2
 loop-less c = omega arith
 
--- src/lib.rt:190:9
 loop-again : tie.Need-loop-again Inv-loop μ-loop Inv-blocks2 μ-blocks2
 loop-again c =
     let d = c .before .before .before .before .before .before .before .before .before in
-    let i = c .before .before .before .loop .inv in
-    (omega arith, omega arith, i .2,
-    omega (arith, i .3, length-at-more (d .before .before .args .s .now) (c .before .before .before .loop .at) (omega arith) (c .if3 .left)))
+    let i = c .before .before .before .loop .inv in (
+      omega arith,
+      omega arith,
+      i .2,
+      omega (arith, i .3, length-at-more (d .before .before .args .s .now) (c .before .before .before .loop .at) (omega arith) (c .if3 .left)),
+    )
 
--- src/lib.rt:155:1
 returns-2 : tie.Need-returns-2 Inv-loop μ-loop Inv-blocks2 μ-blocks2
 unfolding tableBy
 returns-2 c = stopped-end (c .before .blocks2 .inv) (omega arith)
 
--- src/lib.rt:155:1
 returns-3 : tie.Need-returns-3 Inv-loop μ-loop Inv-blocks2 μ-blocks2
 unfolding tableBy
 returns-3 c = stopped-percent (c .before .before .before .blocks2 .inv) (omega arith) (sym (c .before .is-percent .ensures) ∙ c .if1 .taken)

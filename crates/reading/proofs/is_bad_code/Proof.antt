@@ -6,60 +6,47 @@ use Rattle.reading.proofs.Seeing.{group-most, told-unknown, told-group,
 use borrow.Author.Needs.{needs}
 use Rattle.reading.proofs.is_bad_code.Statement.{statement}
 use Rattle.reading.proofs.is_bad_code.Tie as tie
-use Rattle.reading.proofs.is_bad_code.Reads as reads
-use Rattle.reading.proofs.is_bad_code.Lts as lts
-use Rattle.codes.proofs.group_of.Reads as group-of-reads
-use Rattle.reading.proofs.stands_alone.Reads as stands-alone-reads
 
--- src/lib.rt:177:13
 group-of-requires : tie.Need-group-of-requires
 group-of-requires c κs = search needs
 
--- src/lib.rt:179:9
 returns : tie.Need-returns
 returns c = let a = c .before .before .args in record { is = λ m done s. told-unknown m done (a .seen) s (a .c) (sym (c .before .group-of .ensures) ∙ c .if1 .taken) }
 
--- src/lib.rt:182:8
 array-read-if2 : tie.Need-array-read-if2
 array-read-if2 c = rw (c .before .before .group-of .ensures) (group-most (c .before .before .before .args .c))
 
--- src/lib.rt:183:9
 returns-2 : tie.Need-returns-2
 returns-2 c = let a = c .before .before .before .before .args in record { is = λ m done s. told-group m done (a .seen) s (a .c) (ap (λ (g : ℕ). getD (c .before .before .before .before .args .seen .groups) g false) (sym (c .before .before .before .group-of .ensures)) ∙ c .if2 .taken) }
 
--- src/lib.rt:186:9
 stands-alone-requires : tie.Need-stands-alone-requires
 stands-alone-requires c κs = search needs
 
--- src/lib.rt:189:16
 array-read-result : tie.Need-array-read-result
 array-read-result c = search needs
 
--- src/lib.rt:189:9
 returns-3 : tie.Need-returns-3
 returns-3 c =
     let a = c .before .before .before .before .before .before .args in
     record { is = λ m done s. told-one m done (a .seen) s (a .c) _ (c .before .stands-alone .ensures) (ap (λ (g : ℕ). getD (c .before .before .before .before .before .before .args .seen .groups) g false) (sym (c .before .before .before .before .before .group-of .ensures)) ∙ c .before .before .if2 .left) (sym (c .before .before .before .before .before .group-of .ensures) ∙ c .if3 .taken) }
 
--- src/lib.rt:192:16
 array-read-result-2 : tie.Need-array-read-result-2
 array-read-result-2 c = search needs
 
--- src/lib.rt:192:9
 returns-4 : tie.Need-returns-4
 returns-4 c =
     let a = c .before .before .before .before .before .before .before .args in
     record { is = λ m done s. told-seven m done (a .seen) s (a .c) _ (c .before .before .stands-alone .ensures) (ap (λ (g : ℕ). getD (c .before .before .before .before .before .before .before .args .seen .groups) g false) (sym (c .before .before .before .before .before .before .group-of .ensures)) ∙ c .before .before .before .if2 .left) (sym (c .before .before .before .before .before .before .group-of .ensures) ∙ c .if4 .taken) }
 
--- src/lib.rt:174:1
 returns-5 : tie.Need-returns-5
 returns-5 c =
     let a = c .before .before .before .before .before .before .before .args in
     let is = c .before .before .before .before .before .before .group-of .ensures in
     record {
-        is = λ m done s.
-            told-rest m done (a .seen) s (a .c) _ (c .before .before .stands-alone .ensures) (λ e. c .before .before .before .before .before .if1 .left (is ∙ e)) (ap (λ (g : ℕ). getD (c .before .before .before .before .before .before .before .args .seen .groups) g false) (sym (c .before .before .before .before .before .before .group-of .ensures)) ∙ c .before .before .before .if2 .left)
-            (λ e. absurd (c .before .if3 .left (is ∙ e))) (λ e. absurd (c .if4 .left (is ∙ e))) }
+      is = λ m done s.
+          told-rest m done (a .seen) s (a .c) _ (c .before .before .stands-alone .ensures) (λ e. c .before .before .before .before .before .if1 .left (is ∙ e)) (ap (λ (g : ℕ). getD (c .before .before .before .before .before .before .before .args .seen .groups) g false) (sym (c .before .before .before .before .before .before .group-of .ensures)) ∙ c .before .before .before .if2 .left)
+          (λ e. absurd (c .before .if3 .left (is ∙ e))) (λ e. absurd (c .if4 .left (is ∙ e)));
+    }
 
 pub is-bad-code-spec : {M : Type 1} → statement M
 is-bad-code-spec =

@@ -7,20 +7,14 @@ use Rattle.letters.specs.Letters.{wrongProgram}
 use borrow.Author.Needs.{needs}
 use Rattle.reading.proofs.is_wrong_program.Statement.{statement}
 use Rattle.reading.proofs.is_wrong_program.Tie as tie
-use Rattle.reading.proofs.is_wrong_program.Reads as reads
-use Rattle.reading.proofs.is_wrong_program.Lts as lts
-use Rattle.codes.proofs.misc_number.Reads as misc-number-reads
 
--- src/lib.rt:157:9
 misc-number-requires : tie.Need-misc-number-requires
 misc-number-requires c κs = search needs
 
--- src/lib.rt:154:1
 returns : tie.Need-returns
 unfolding wrongProgram isM
 returns c = rw (c .if1 .taken) (ap (λ (n : ℕ). eqb n 99) (c .before .misc-number .ensures))
 
--- src/lib.rt:154:1
 returns-2 : tie.Need-returns-2
 unfolding wrongProgram isM
 returns-2 c = rw (c .if1 .left) (ap (λ (n : ℕ). eqb n 2 || eqb n 30) (c .before .misc-number .ensures))

@@ -1,5 +1,5 @@
 use Prim.Native.Nat.{ℕ}
-use mathlib.Core.Bool.{Bool, false}
+use mathlib.Core.Bool.{false}
 use lib.ListN.{getD}
 use Rattle.codes.specs.declared.Code.{Code}
 use Rattle.codes.specs.declared.Misc.{Misc}
@@ -11,82 +11,67 @@ use Rattle.reading.proofs.Seeing.{tells-unknown, tells-code, tells-repe
 use borrow.Author.Needs.{needs}
 use Rattle.reading.proofs.may_not_stand.Statement.{statement}
 use Rattle.reading.proofs.may_not_stand.Tie as tie
-use Rattle.reading.proofs.may_not_stand.Reads as reads
-use Rattle.reading.proofs.may_not_stand.Lts as lts
-use Rattle.reading.proofs.code_in.Reads as code-in-reads
-use Rattle.reading.proofs.is_bad_code.Reads as is-bad-code-reads
-use Rattle.reading.proofs.is_bad_misc.Reads as is-bad-misc-reads
-use Rattle.reading.proofs.letter_index.Reads as letter-index-reads
-use Rattle.reading.proofs.misc_in.Reads as misc-in-reads
 
--- src/lib.rt:204:9
 letter-index-requires : tie.Need-letter-index-requires
 letter-index-requires c κs = search needs
 
--- src/lib.rt:206:9
 returns : tie.Need-returns
 returns c = let a = c .before .before .args in record { is = λ m done s. tells-unknown (a .main) m done (a .seen) s (a .w) (omega (arith, c .before .letter-index .ensures)) }
 
--- src/lib.rt:209:34
 code-in-requires : tie.Need-code-in-requires
 code-in-requires c κs = search needs
 
--- src/lib.rt:209:9
 is-bad-code-requires : tie.Need-is-bad-code-requires
 is-bad-code-requires c κs = search needs
 
--- src/lib.rt:209:9
 returns-2 : tie.Need-returns-2
 returns-2 c =
     let a = c .before .before .before .before .before .before .args in
     record {
-        is = λ m done s.
-            tells-code (a .main) m done (a .seen) s (a .w) (omega (arith, c .before .before .before .before .before .letter-index .ensures, c .before .before .before .before .if1 .left)) _ (c .before .before .if2 .taken)
-            (c .is-bad-code .ensures .is m done s ∙ ap (λ (x : Code). toldG x done) (c .before .code-in .ensures)) }
+      is = λ m done s.
+          tells-code (a .main) m done (a .seen) s (a .w) (omega (arith, c .before .before .before .before .before .letter-index .ensures, c .before .before .before .before .if1 .left)) _ (c .before .before .if2 .taken)
+          (c .is-bad-code .ensures .is m done s ∙ ap (λ (x : Code). toldG x done) (c .before .code-in .ensures));
+    }
 
--- src/lib.rt:212:8
 array-read-if3 : tie.Need-array-read-if3
 array-read-if3 c = search needs
 
--- src/lib.rt:213:9
 returns-3 : tie.Need-returns-3
 returns-3 c =
     let a = c .before .before .before .before .before .before .args in
     record {
-        is = λ m done s.
-            tells-repeat (a .main) m done (a .seen) s (a .w) (omega (arith, c .before .before .before .before .before .letter-index .ensures, c .before .before .before .before .if1 .left)) (c .before .before .if2 .left)
-            (ap (λ (i : ℕ). getD (c .before .before .before .before .before .before .args .seen .letters) i false) (sym (c .before .before .before .before .before .letter-index .ensures)) ∙ c .if3 .taken) }
+      is = λ m done s.
+          tells-repeat (a .main) m done (a .seen) s (a .w) (omega (arith, c .before .before .before .before .before .letter-index .ensures, c .before .before .before .before .if1 .left)) (c .before .before .if2 .left)
+          (ap (λ (i : ℕ). getD (c .before .before .before .before .before .before .args .seen .letters) i false) (sym (c .before .before .before .before .before .letter-index .ensures)) ∙ c .if3 .taken);
+    }
 
--- src/lib.rt:216:34
 array-read-is-bad-misc : tie.Need-array-read-is-bad-misc
 array-read-is-bad-misc c = search needs
 
--- src/lib.rt:216:46
 misc-in-requires : tie.Need-misc-in-requires
 misc-in-requires c κs = search needs
 
--- src/lib.rt:216:9
 is-bad-misc-requires : tie.Need-is-bad-misc-requires
 is-bad-misc-requires c κs = search needs
 
--- src/lib.rt:216:9
 returns-4 : tie.Need-returns-4
 returns-4 c =
     let a = c .before .before .before .before .before .before .before .before .before .before .args in
     record {
-        is = λ m done s.
-            tells-misc (a .main) m done (a .seen) s (a .w) (omega (arith, c .before .before .before .before .before .before .before .before .before .letter-index .ensures, c .before .before .before .before .before .before .before .before .if1 .left)) (c .before .before .before .before .before .before .if2 .left) _
-            (ap (λ (i : ℕ). getD (c .before .before .before .before .before .before .before .before .before .before .args .seen .letters) i false) (sym (c .before .before .before .before .before .before .before .before .before .letter-index .ensures)) ∙ c .before .before .before .before .if3 .left) (c .before .before .if4 .taken)
-            (c .is-bad-misc .ensures ∙ ap (λ (x : Misc). badMisc (a .main) (getD (a .seen .letters) 1 false) x) (c .before .misc-in .ensures)) }
+      is = λ m done s.
+          tells-misc (a .main) m done (a .seen) s (a .w) (omega (arith, c .before .before .before .before .before .before .before .before .before .letter-index .ensures, c .before .before .before .before .before .before .before .before .if1 .left)) (c .before .before .before .before .before .before .if2 .left) _
+          (ap (λ (i : ℕ). getD (c .before .before .before .before .before .before .before .before .before .before .args .seen .letters) i false) (sym (c .before .before .before .before .before .before .before .before .before .letter-index .ensures)) ∙ c .before .before .before .before .if3 .left) (c .before .before .if4 .taken)
+          (c .is-bad-misc .ensures ∙ ap (λ (x : Misc). badMisc (a .main) (getD (a .seen .letters) 1 false) x) (c .before .misc-in .ensures));
+    }
 
--- src/lib.rt:201:1
 returns-5 : tie.Need-returns-5
 returns-5 c =
     let a = c .before .before .before .before .before .before .before .before .args in
     record {
-        is = λ m done s.
-            tells-other (a .main) m done (a .seen) s (a .w) (omega (arith, c .before .before .before .before .before .before .before .letter-index .ensures, c .before .before .before .before .before .before .if1 .left)) (c .before .before .before .before .if2 .left)
-            (ap (λ (i : ℕ). getD (c .before .before .before .before .before .before .before .before .args .seen .letters) i false) (sym (c .before .before .before .before .before .before .before .letter-index .ensures)) ∙ c .before .before .if3 .left) (c .if4 .left) }
+      is = λ m done s.
+          tells-other (a .main) m done (a .seen) s (a .w) (omega (arith, c .before .before .before .before .before .before .before .letter-index .ensures, c .before .before .before .before .before .before .if1 .left)) (c .before .before .before .before .if2 .left)
+          (ap (λ (i : ℕ). getD (c .before .before .before .before .before .before .before .before .args .seen .letters) i false) (sym (c .before .before .before .before .before .before .before .letter-index .ensures)) ∙ c .before .before .if3 .left) (c .if4 .left);
+    }
 
 pub may-not-stand-spec : {M : Type 1} → statement M
 may-not-stand-spec =

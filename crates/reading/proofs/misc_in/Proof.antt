@@ -3,25 +3,17 @@ use Rattle.letters.specs.Letters.{miscIn}
 use borrow.Author.Needs.{needs}
 use Rattle.reading.proofs.misc_in.Statement.{statement}
 use Rattle.reading.proofs.misc_in.Tie as tie
-use Rattle.reading.proofs.misc_in.Reads as reads
-use Rattle.reading.proofs.misc_in.Lts as lts
-use Rattle.codes.proofs.misc_of.Reads as misc-of-reads
-use Rattle.words.proofs.is_plain.Reads as is-plain-reads
 
--- src/lib.rt:138:8
 is-plain-requires : tie.Need-is-plain-requires
 is-plain-requires c κs = search needs
 
--- src/lib.rt:139:9
 misc-of-requires : tie.Need-misc-of-requires
 misc-of-requires c κs = search needs
 
--- src/lib.rt:134:1
 returns : tie.Need-returns
 unfolding miscIn
 returns c = rw (sym (c .before .before .is-plain .ensures) ∙ c .before .if1 .taken) (c .misc-of .ensures)
 
--- src/lib.rt:134:1
 returns-2 : tie.Need-returns-2
 unfolding miscIn
 returns-2 c = rw (sym (c .before .is-plain .ensures) ∙ c .if1 .left)

@@ -10,10 +10,6 @@ use Rattle.reading.specs.Items.{wordsAt, statusAfter}
 use Rattle.reading.proofs.Items.{Gone, step-bad, step-gap, step-word, status-word, status-end}
 use Rattle.reading.proofs.status_after.Statement.{statement}
 use Rattle.reading.proofs.status_after.Tie as tie
-use Rattle.reading.proofs.status_after.Reads as reads
-use Rattle.reading.proofs.status_after.Lts as lts
-use Rattle.lines.proofs.text_ends.Reads as text-ends-reads
-use Rattle.reading.proofs.item_at.Reads as item-at-reads
 
 abbrev Inv-loop : tie.InvT-loop
 Inv-loop s from wrong i₀ i = (i ≤ length s) × (statusAfter wrong (wordsAt s from) ≡ statusAfter wrong (wordsAt s i))
@@ -21,15 +17,12 @@ Inv-loop s from wrong i₀ i = (i ≤ length s) × (statusAfter wrong (wordsAt s
 abbrev μ-loop : tie.MeasureT-loop
 μ-loop s from wrong i₀ i = length s - i
 
--- src/lib.rt:69:5
 loop-holds : tie.Need-loop-holds Inv-loop μ-loop
 loop-holds c = (omega arith, refl)
 
--- src/lib.rt:70:12
 text-ends-requires : tie.Need-text-ends-requires Inv-loop μ-loop
 text-ends-requires c κs = omega arith
 
--- src/lib.rt:71:13
 returns : tie.Need-returns Inv-loop μ-loop
 returns c =
     let d = c .before .before in
@@ -46,27 +39,21 @@ over-gap c =
     step-gap (e .before .before .before .before .args .s .now) (e .before .before .loop .i) (going e) (c .before .next .given .0 .0)
     (sym (c .before .before .before .item-at .ensures) ∙ c .before .next .given .1)
 
--- src/lib.rt:73:15
 item-at-requires : tie.Need-item-at-requires Inv-loop μ-loop
 item-at-requires c κs = text-inside (c .before .before .before .before .args .s .now) (c .before .before .loop .i) (going c)
 
--- src/lib.rt:74:23
 enum-known-next : tie.Need-enum-known-next Inv-loop μ-loop
 enum-known-next c = search needs
 
--- src/lib.rt:69:5
 loop-less : tie.Need-loop-less Inv-loop μ-loop
 loop-less c = let g = over-gap c .1 in omega (arith, g .forward, g .inside)
 
--- src/lib.rt:69:5
 loop-again : tie.Need-loop-again Inv-loop μ-loop
 loop-again c = (over-gap c .1 .inside, c .before .before .before .before .before .before .loop .inv .1 ∙ ap (statusAfter (c .before .before .before .before .before .before .before .before .args .wrong)) (over-gap c .0))
 
--- src/lib.rt:77:27
 enum-known-next-2 : tie.Need-enum-known-next-2 Inv-loop μ-loop
 enum-known-next-2 c = search needs
 
--- src/lib.rt:69:5
 loop-less-2 : tie.Need-loop-less-2 Inv-loop μ-loop
 loop-less-2 c =
     let e = c .before .before .before .before in
@@ -74,20 +61,18 @@ loop-less-2 c =
     let g = step-word l (e .before .before .loop .i) (going e) (c .before .next2 .given .0 .0) (c .before .next2 .given .0 .1 .0) (sym (c .before .before .before .item-at .ensures) ∙ c .before .next2 .given .1) in
     omega (arith, g .1 .forward, g .1 .inside)
 
--- src/lib.rt:69:5
 loop-again-2 : tie.Need-loop-again-2 Inv-loop μ-loop
 loop-again-2 c =
     let e = c .before .before .before .before in
     let l = e .before .before .before .before .args .s .now in
-    let g = step-word l (e .before .before .loop .i) (going e) (c .before .next2 .given .0 .0) (c .before .next2 .given .0 .1 .0) (sym (c .before .before .before .item-at .ensures) ∙ c .before .next2 .given .1) in
-    (g .1 .inside,
-    c .before .before .before .before .before .before .loop .inv .1 ∙ ap (statusAfter (c .before .before .before .before .before .before .before .before .args .wrong)) (g .0) ∙ status-word (c .before .before .before .before .before .before .before .before .args .wrong) (c .before .next2 .given .0 .0) (wordsAt l (c .before .next2 .given .0 .1 .0)))
+    let g = step-word l (e .before .before .loop .i) (going e) (c .before .next2 .given .0 .0) (c .before .next2 .given .0 .1 .0) (sym (c .before .before .before .item-at .ensures) ∙ c .before .next2 .given .1) in (
+      g .1 .inside,
+      c .before .before .before .before .before .before .loop .inv .1 ∙ ap (statusAfter (c .before .before .before .before .before .before .before .before .args .wrong)) (g .0) ∙ status-word (c .before .before .before .before .before .before .before .before .args .wrong) (c .before .next2 .given .0 .0) (wordsAt l (c .before .next2 .given .0 .1 .0)),
+    )
 
--- src/lib.rt:81:17
 enum-told : tie.Need-enum-told Inv-loop μ-loop
 enum-told c = search needs
 
--- src/lib.rt:81:17
 returns-2 : tie.Need-returns-2 Inv-loop μ-loop
 unfolding statusAfter
 returns-2 c =

@@ -1,64 +1,51 @@
 use native.Mathlib.Omega.{arith}
 use borrow.Author.Tests.{eq-eqb, ne-eqb}
-use mathlib.Core.Path.{sym, _∙_, ap}
 use Rattle.reading.proofs.Seeing.{group-most}
 use Rattle.reading.specs.Seen.{seenWith}
 use borrow.Author.Needs.{needs}
 use Rattle.reading.proofs.with_word.Statement.{statement}
 use Rattle.reading.proofs.with_word.Tie as tie
-use Rattle.reading.proofs.with_word.Reads as reads
-use Rattle.reading.proofs.with_word.Lts as lts
-use Rattle.codes.proofs.group_of.Reads as group-of-reads
-use Rattle.reading.proofs.code_in.Reads as code-in-reads
-use Rattle.reading.proofs.letter_index.Reads as letter-index-reads
-use Rattle.reading.proofs.misc_in.Reads as misc-in-reads
-use Rattle.settings.proofs.switched.Reads as switched-reads
 
--- src/lib.rt:226:9
 letter-index-requires : tie.Need-letter-index-requires
 letter-index-requires c κs = search needs
 
--- src/lib.rt:228:5
 array-write-letters : tie.Need-array-write-letters
 array-write-letters c = search needs
 
--- src/lib.rt:233:13
 code-in-requires : tie.Need-code-in-requires
 code-in-requires c κs = search needs
 
--- src/lib.rt:234:17
 group-of-requires : tie.Need-group-of-requires
 group-of-requires c κs = search needs
 
--- src/lib.rt:235:9
 array-write-groups : tie.Need-array-write-groups
 array-write-groups c = rw (c .group-of .ensures, c .before .code-in .ensures) (group-most _)
 
--- src/lib.rt:236:13
 switched-requires : tie.Need-switched-requires
 switched-requires c κs = search needs
 
--- src/lib.rt:237:9
 returns : tie.Need-returns
 unfolding seenWith
 returns c =
     let w = c .before .before .before .before .before .before .before .before .before .args .w in
-    rw
-    (c .before .before .before .before .before .before .before .before .letter-index .ensures, c .switched .ensures, c .before .group-of .ensures, c .before .before .code-in .ensures, eq-eqb (w .letter) 71 (c .before .before .before .if1 .taken),
-    ne-eqb (w .letter) 77 (λ e. omega (arith, c .before .before .before .if1 .taken)))
+    rw (
+      c .before .before .before .before .before .before .before .before .letter-index .ensures,
+      c .switched .ensures,
+      c .before .group-of .ensures,
+      c .before .before .code-in .ensures,
+      eq-eqb (w .letter) 71 (c .before .before .before .if1 .taken),
+      ne-eqb (w .letter) 77 (λ e. omega (arith, c .before .before .before .if1 .taken)),
+    )
 
--- src/lib.rt:245:13
 misc-in-requires : tie.Need-misc-in-requires
 misc-in-requires c κs = search needs
 
--- src/lib.rt:246:9
 returns-2 : tie.Need-returns-2
 unfolding seenWith
 returns-2 c =
     let w = c .before .before .before .before .before .before .before .before .before .args .w in
     rw (c .before .before .before .before .before .before .before .before .letter-index .ensures, c .misc-in .ensures, ne-eqb (w .letter) 71 (c .before .before .before .if1 .left), eq-eqb (w .letter) 77 (c .before .if2 .taken))
 
--- src/lib.rt:222:1
 returns-3 : tie.Need-returns-3
 unfolding seenWith
 returns-3 c =

@@ -1,0 +1,86 @@
+-- A block's G and M words change nothing in the judgement of its words: their use is to be codes, which is never refused here
+-- and is no value. Assumes nothing.
+use Prim.Native.Nat.{ℕ}
+use mathlib.Core.Path.{_≡_, refl}
+use mathlib.Core.Bool.{Bool, true, false, _||_}
+use mathlib.Core.Option.{some}
+use mathlib.Core.List.{List, [], _∷_}
+use borrow.Author.Tests.{eqb-true}
+use Rattle.terms.specs.Terms.{if_then_else_, byte, first, lookup}
+use Rattle.codes.specs.declared.Plane.{Plane}
+use Rattle.words.specs.declared.Word.{Word}
+use Rattle.words.specs.declared.Given.{Given}
+use Rattle.words.specs.declared.Use.the-variants.{Codes}
+use Rattle.words.specs.declared.Values.{Values}
+use Rattle.words.specs.Values.{valueOf, noValues}
+use Rattle.settings.specs.declared.Modes.{Modes}
+use Rattle.letters.specs.declared.Speeds.{Speeds}
+use Rattle.letters.specs.declared.BlockCode.{BlockCode}
+use Rattle.letters.specs.Letters.{isG, isMisc, useOf, isNothing, firstUnused, wordValue, isBad, firstBadValue, givenBy, withValue, valuesAfter, valuesOf}
+use Rattle.letters.specs.Judging.{judgedBy, valued}
+
+-- what holds of the letters G and M holds of a word that is one of the two
+code-word :
+    (P : ℕ → Type 0) (w : Word) → P (byte "G") → P (byte "M") → isG w || isMisc w ≡ true → P (w .letter)
+code-word P w g m e = go (isG w) refl e
+  where
+    go : (t : Bool) → isG w ≡ t → t || isMisc w ≡ true → P (w .letter)
+    go true f h = rw (eqb-true (w .letter) (byte "G") f) g
+    go false f h = rw (eqb-true (w .letter) (byte "M") h) m
+
+-- a search through a block that passes every G and M word
+first-valued :
+    (test : Word → Bool) → ((w : Word) → isG w || isMisc w ≡ true → test w ≡ false)
+    → (ws : List Word) → first test (valued ws) ≡ first test ws
+unfolding first valued
+first-valued test passes [] = refl
+first-valued test passes (w ∷ ws) = go (isG w || isMisc w) refl (first-valued test passes ws)
+  where
+    go :
+        (t : Bool) → isG w || isMisc w ≡ t → first test (valued ws) ≡ first test ws
+        → first test (if t then valued ws else w ∷ valued ws) ≡ (if test w then some w else first test ws)
+    go true e rest = rw (passes w e) rest
+    go false e rest = rw rest
+
+module _ (code : BlockCode) (plane : Plane) where
+  code-use : (w : Word) → isG w || isMisc w ≡ true → useOf code plane (w .letter) ≡ Codes
+  unfolding useOf lookup
+  code-use w e = code-word (λ n. useOf code plane n ≡ Codes) w refl refl e
+
+  pub unused-valued : (ws : List Word) → firstUnused code plane (valued ws) ≡ firstUnused code plane ws
+  unfolding firstUnused isNothing
+  unused-valued ws = first-valued (λ w. isNothing (useOf code plane (w .letter))) (λ w e. rw (code-use w e)) ws
+
+module _ (speeds : Speeds) (m : Modes) (code : BlockCode) where
+  pub bad-valued : (ws : List Word) → firstBadValue speeds m code (valued ws) ≡ firstBadValue speeds m code ws
+  unfolding firstBadValue wordValue valueOf isBad
+  bad-valued ws =
+      first-valued (λ w. isBad (wordValue speeds m code w)) (λ w e. rw (code-use code (m .plane) w e)) ws
+
+  code-value : (v : Values) (g : Given) (w : Word) → isG w || isMisc w ≡ true → withValue v (w .letter) g ≡ v
+  unfolding withValue
+  code-value v g w e = code-word (λ n. withValue v n g ≡ v) w refl refl e
+
+  after-valued :
+      (ws : List Word) (v : Values) → valuesAfter v speeds m code (valued ws) ≡ valuesAfter v speeds m code ws
+  unfolding valued valuesAfter
+  after-valued [] v = refl
+  after-valued (w ∷ ws) v = go (isG w || isMisc w) refl (after-valued ws)
+    where
+      g : Given
+      g = givenBy (wordValue speeds m code w)
+
+      go :
+          (t : Bool) → isG w || isMisc w ≡ t
+          → ((u : Values) → valuesAfter u speeds m code (valued ws) ≡ valuesAfter u speeds m code ws)
+          → valuesAfter v speeds m code (if t then valued ws else w ∷ valued ws)
+          ≡ valuesAfter (withValue v (w .letter) g) speeds m code ws
+      go true e rest = rw (code-value v g w e) (rest v)
+      go false e rest = rest (withValue v (w .letter) g)
+
+  pub values-valued : (ws : List Word) → valuesOf speeds m code (valued ws) ≡ valuesOf speeds m code ws
+  values-valued ws = after-valued ws noValues
+
+  pub judged-valued : (ws : List Word) → judgedBy speeds m code (valued ws) ≡ judgedBy speeds m code ws
+  unfolding judgedBy
+  judged-valued ws = rw (unused-valued code (m .plane) ws, bad-valued ws, values-valued ws)

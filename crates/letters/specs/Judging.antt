@@ -1,0 +1,61 @@
+-- The judgement of a block's words by the refusals 2 and then 1, and how it is made word by word.
+use Prim.Native.Nat.{ℕ, _≤_, _<_}
+use mathlib.Core.Bool.{_||_}
+use mathlib.Core.Option.{Option, none, some}
+use mathlib.Core.List.{List, [], _∷_}
+use lib.ListN.{getD}
+use Rattle.terms.specs.Terms.{if_then_else_}
+use Rattle.words.specs.declared.Word.{Word}
+use Rattle.words.specs.declared.Value.{Value}
+use Rattle.words.specs.declared.Value.the-variants as value
+use Rattle.words.specs.declared.Values.{Values}
+use Rattle.words.specs.Numbers.{Written}
+use Rattle.settings.specs.declared.Modes.{Modes}
+use Rattle.letters.specs.declared.Speeds.{Speeds}
+use Rattle.letters.specs.declared.BlockCode.{BlockCode}
+use Rattle.letters.specs.declared.Judged.{Judged}
+use Rattle.letters.specs.declared.Judged.the-variants.{Fine, Unused, Bad}
+use Rattle.letters.specs.Letters.{isG, isMisc, wordValue, firstUnused, firstBadValue, givenBy, withValue, valuesOf}
+
+-- "2 leftmost; 1 leftmost by value": the word at fault, or else what is left to say
+unfoldable pub unusedOr : Option Word → Judged → Judged
+unusedOr none other = other
+unusedOr (some w) other = Unused (w .at)
+
+unfoldable pub badOr : Option Word → Values → Judged
+badOr none v = Fine v
+badOr (some w) v = Bad (w .at)
+
+unfoldable pub judgedBy : Speeds → Modes → BlockCode → List Word → Judged
+judgedBy speeds m code ws =
+    unusedOr (firstUnused code (m .plane) ws) (badOr (firstBadValue speeds m code ws) (valuesOf speeds m code ws))
+
+-- a block without its G and M words, which are kept as codes and not as words
+unfoldable pub valued : List Word → List Word
+valued [] = []
+valued (w ∷ ws) = if isG w || isMisc w then valued ws else w ∷ valued ws
+
+-- ---- the same word by word
+
+-- one word more, by its value alone: what is no longer fine stays as it is, so that the first bad value is named
+unfoldable pub valueNext : Values → Word → Value → Judged
+valueNext v w (value.Fit x) = Fine (withValue v (w .letter) (givenBy (value.Fit x)))
+valueNext v w value.Bad = Bad (w .at)
+
+unfoldable pub judgedNext : Speeds → Modes → BlockCode → Judged → Word → Judged
+judgedNext speeds m code (Fine v) w = valueNext v w (wordValue speeds m code w)
+judgedNext speeds m code (Unused at) w = Unused at
+judgedNext speeds m code (Bad at) w = Bad at
+
+unfoldable pub judgedAll : Speeds → Modes → BlockCode → Judged → List Word → Judged
+judgedAll speeds m code passed [] = passed
+judgedAll speeds m code passed (w ∷ ws) = judgedAll speeds m code (judgedNext speeds m code passed w) ws
+
+-- what the words that are left make of the judgement so far: one without a use is named whatever its value
+unfoldable pub judgedAfter : Speeds → Modes → BlockCode → Judged → List Word → Judged
+judgedAfter speeds m code passed ws = unusedOr (firstUnused code (m .plane) ws) (judgedAll speeds m code passed ws)
+
+-- the first `count` of an array's words are a block's: each has a number that was read
+pub record Stored (words : List Word) (count : ℕ) : Type 0 where
+  pub few : count ≤ 13
+  pub written : (i : ℕ) (d : Word) → i < count → Written (getD words i d .number)
