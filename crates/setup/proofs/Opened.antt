@@ -4,7 +4,7 @@ use Rattle.lengths.proofs.Opened.{opened as lengths-opened}
 use Rattle.codes.proofs.Opened.{opened as codes-opened}
 use Rattle.points.proofs.Opened.{opened as points-opened}
 use Rattle.setup.specs.Frame.{offset, startOf, travelOf, originAt, switchOn}
-use Rattle.setup.specs.Limits.{onEachAxis, travelFits, startFits, offsetsFit, feedFits, speedsFit, switchFits, validSetup}
+use Rattle.setup.specs.Limits.{axisFits, travelFits, axesWithin, offsetsFit, feedFits, speedsFit, switchFits, validSetup}
 
 unfoldable pub opened : Unit {0}
 unfolding
@@ -17,9 +17,9 @@ unfolding
     travelOf
     originAt
     switchOn
-    onEachAxis
+    axisFits
     travelFits
-    startFits
+    axesWithin
     offsetsFit
     feedFits
     speedsFit

@@ -1,4 +1,5 @@
 -- Document 01, "Lengths and the setup": the limits that a setup keeps, or is refused with 12.
+use Prim.Native.Nat.{ℕ}
 use mathlib.Core.Bool.{Bool, _&&_}
 use lib.IntN.{ℤ, pos}
 use lib.Signed.{leZ}
@@ -6,23 +7,24 @@ use Rattle.terms.specs.Terms.{all, between, within}
 use Rattle.setup.specs.declared.Axes.{Axes}
 use Rattle.setup.specs.declared.Setup.{Setup}
 
--- "per axis X, Y, Z": a test of one number of an `Axes` holds for each of the three
-unfoldable pub onEachAxis : ((Axes → ℤ) → Bool) → Bool
-onEachAxis test = test (λ a. a .x) && test (λ a. a .y) && test (λ a. a .z)
+-- "a low and high travel, low not above high, both within ±100,000,000; a start point inside the travel", of one axis
+unfoldable pub axisFits : ℤ → ℤ → ℤ → Bool
+axisFits low high start = leZ low high && within 100_000_000 low && within 100_000_000 high && between low high start
 
--- "a low and high travel, low not above high, both within ±100,000,000"
-unfoldable pub travelFits : Setup → (Axes → ℤ) → Bool
-travelFits s of =
-    leZ (of (s .low)) (of (s .high)) && within 100_000_000 (of (s .low)) && within 100_000_000 (of (s .high))
-
--- "a start point inside the travel"
-unfoldable pub startFits : Setup → (Axes → ℤ) → Bool
-startFits s of = between (of (s .low)) (of (s .high)) (of (s .start))
+-- "per axis X, Y, Z"
+unfoldable pub travelFits : Setup → Bool
+travelFits s =
+    axisFits (s .low .x) (s .high .x) (s .start .x)
+    && axisFits (s .low .y) (s .high .y) (s .start .y)
+    && axisFits (s .low .z) (s .high .z) (s .start .z)
 
 -- "the common offset (EXOFS), and a table of six workpiece origins by three axes, every offset and origin within
 -- ±1,000,000,000"
-unfoldable pub offsetsFit : Setup → (Axes → ℤ) → Bool
-offsetsFit s of = within 1_000_000_000 (of (s .exofs)) && all (λ o. within 1_000_000_000 (of o)) (s .origins)
+unfoldable pub axesWithin : ℕ → Axes → Bool
+axesWithin n a = within n (a .x) && within n (a .y) && within n (a .z)
+
+unfoldable pub offsetsFit : Setup → Bool
+offsetsFit s = axesWithin 1_000_000_000 (s .exofs) && all (axesWithin 1_000_000_000) (s .origins)
 
 -- "a feed from 1 to 1,000,000,000 units/min"
 unfoldable pub feedFits : Setup → Bool
@@ -41,6 +43,4 @@ unfoldable pub switchFits : Setup → Bool
 switchFits s = between (pos 0) (pos 1) (s .skip)
 
 unfoldable pub validSetup : Setup → Bool
-validSetup s =
-    onEachAxis (travelFits s) && onEachAxis (startFits s) && onEachAxis (offsetsFit s) && feedFits s && speedsFit s
-    && switchFits s
+validSetup s = travelFits s && offsetsFit s && (feedFits s && speedsFit s && switchFits s)
