@@ -10,7 +10,7 @@ use Rattle.settings.proofs.Opened.{opened as settings-opened}
 use Rattle.letters.proofs.Opened.{opened as letters-opened}
 use Rattle.arcs.proofs.Opened.{opened as arcs-opened}
 use Rattle.cycles.proofs.Opened.{opened as cycles-opened}
-use Rattle.blocks.specs.Exec.{saidBy, set, spindleRecords, movesIn, lastRecords, madeBy, settled, controlOf, atWord, lacksCentre, lacksParameter, isG17, drills, cannotDrill, allFit, callTo, unknownCall, tooDeep, blames, unless, judged, execWords, exec}
+use Rattle.blocks.specs.Exec.{saidBy, working, spindleRecords, movesIn, lastRecords, madeBy, settled, controlOf, atWord, lacksCentre, lacksParameter, isG17, drills, cannotDrill, callTo, unknownCall, tooDeep, atStart, blames, unless, judged, execWords, exec}
 use Rattle.blocks.specs.Motions.{centreWords, arcFor, arcMoves, cycleDone, cycleMoves, motionOf, movesOf}
 
 unfoldable pub opened : Unit {0}
@@ -27,7 +27,7 @@ unfolding
     arcs-opened
     cycles-opened
     saidBy
-    set
+    working
     spindleRecords
     movesIn
     lastRecords
@@ -40,10 +40,10 @@ unfolding
     isG17
     drills
     cannotDrill
-    allFit
     callTo
     unknownCall
     tooDeep
+    atStart
     blames
     unless
     judged

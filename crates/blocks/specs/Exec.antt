@@ -5,7 +5,7 @@ use mathlib.Core.Option.{Option, none, some}
 use mathlib.Core.List.{List, [], _∷_, _++_}
 use lib.Dec.{eqb, ltb}
 use lib.IntN.{natAbs}
-use Rattle.terms.specs.Terms.{if_then_else_, firstOf, when}
+use Rattle.terms.specs.Terms.{if_then_else_, all, firstOf, when}
 use Rattle.refusals.specs.declared.Refusal.{Refusal}
 use Rattle.refusals.specs.declared.Refusal.the-variants.{
   BadParameter,
@@ -76,8 +76,8 @@ saidBy machine before ws =
 -- "Effects in order: groups B to F, the F word, S, M03, motion or dwell, M05, M00, M02 or M30."
 
 -- the settings in which the block moves: after groups A to F, the F word, S and M03
-unfoldable pub set : State → Said → State
-set s b =
+unfoldable pub working : State → Said → State
+working s b =
     record {
       at = s .at;
       modes = b .modes;
@@ -89,10 +89,10 @@ set s b =
 -- "S with the spindle turning, or M03, writes one spindle record"
 unfoldable pub spindleRecords : State → Said → List Record
 spindleRecords s b =
-    if s .turning && b .values .s .stands || isM 3 (b .misc) then SP (set s b .speed) ∷ [] else []
+    if s .turning && b .values .s .stands || isM 3 (b .misc) then SP (working s b .speed) ∷ [] else []
 
 unfoldable pub movesIn : Machine → State → Said → Moves
-movesIn machine s b = movesOf (b .code) (b .named) (set s b) (machine .origin (b .modes .origin)) (b .values)
+movesIn machine s b = movesOf (b .code) (b .named) (working s b) (machine .origin (b .modes .origin)) (b .values)
 
 -- "M05 always writes `SO`"
 unfoldable pub lastRecords : Misc → List Record
@@ -111,9 +111,9 @@ settled machine s b =
     record {
       at = endOf (s .at) (madeBy machine s b);
       modes = b .modes;
-      feed = set s b .feed;
-      speed = set s b .speed;
-      turning = set s b .turning && not (isM 5 (b .misc));
+      feed = working s b .feed;
+      speed = working s b .speed;
+      turning = working s b .turning && not (isM 5 (b .misc));
     }
 
 unfoldable pub controlOf : Said → Control
@@ -166,11 +166,7 @@ drills (Moving G03) named v = false
 drills (Moving (Drilling cycle)) named v = cycleDone named v
 
 unfoldable pub cannotDrill : State → Said → Bool
-cannotDrill s b = drills (b .code) (b .named) (b .values) && (not (isG17 (b .modes .plane)) || not (set s b .turning))
-
-unfoldable pub allFit : (Record → Bool) → List Record → Bool
-allFit fits [] = true
-allFit fits (r ∷ rs) = fits r && allFit fits rs
+cannotDrill s b = drills (b .code) (b .named) (b .values) && (not (isG17 (b .modes .plane)) || not (working s b .turning))
 
 -- What the block is in: the levels left for calls, of which the main has four, and the numbers that can be called.
 pub record Calls : Type 0 where
@@ -194,22 +190,26 @@ unfoldable pub tooDeep : Calls → Option ℕ → Bool
 tooDeep calls none = false
 tooDeep calls (some n) = eqb (calls .left) 0
 
+unfoldable pub atStart : ℕ → Refusal → Bool → Option Blame
+atStart start refusal test = when test (record { refusal = refusal; byte = start })
+
 unfoldable pub blames : Machine → Calls → ℕ → State → ℕ → Said → List (Option Blame)
 blames machine calls room s start b =
-    let here : Refusal → Bool → Option Blame =
-    λ refusal test. when test (record { refusal = refusal; byte = start }) in
+    -- "4 leftmost for unknown or repeated letters (not G) and codes that may not stand; 2 leftmost; 1 leftmost by value"
     atWord CannotExecute (firstThatMayNot (inMain calls) [] (b .words))
     ∷ atWord AddressUndefined (firstUnused (b .code) (b .modes .plane) (b .words))
     ∷ atWord BadParameter (firstBadValue (machine .speeds) (b .modes) (b .code) (b .words))
-    ∷ here ParameterUndefined (lacksParameter (b .code) (b .values))
-    ∷ here NumberNotFound (unknownCall calls (callTo (controlOf b)))
-    ∷ here NestOver (tooDeep calls (callTo (controlOf b)))
-    ∷ here CannotExecute (cannotDrill s b)
-    ∷ here BadParameter (not (movesIn machine s b .sound))
-    ∷ here CentreTooFar (not (allFit (machine .fits) (madeBy machine s b)))
-    ∷ here LeavesTravel (not (pathStaysIn (machine .stays) (s .at) (madeBy machine s b)))
-    ∷ here NoRoom (ltb room (roomOf (madeBy machine s b)))
-    ∷ []
+    -- "3; 5; 6"
+    ∷ atStart start ParameterUndefined (lacksParameter (b .code) (b .values))
+    ∷ atStart start NumberNotFound (unknownCall calls (callTo (controlOf b)))
+    ∷ atStart start NestOver (tooDeep calls (callTo (controlOf b)))
+    -- "4 for a cycle outside G17 or with the spindle off (K0 too; the block's M03 counts); 1 by geometry"
+    ∷ atStart start CannotExecute (cannotDrill s b)
+    ∷ atStart start BadParameter (not (movesIn machine s b .sound))
+    -- "16; 9; 10"
+    ∷ atStart start CentreTooFar (not (all (machine .fits) (madeBy machine s b)))
+    ∷ atStart start LeavesTravel (not (pathStaysIn (machine .stays) (s .at) (madeBy machine s b)))
+    ∷ atStart start NoRoom (ltb room (roomOf (madeBy machine s b))) ∷ []
 
 -- The verdict on a block: refused, which changes nothing and adds nothing, or accepted with its next settings, where the
 -- run goes, and its records.
