@@ -1,0 +1,29 @@
+-- `settings::target` meets its contract, axis by axis. Assumes nothing.
+use borrow.Author.Needs.{needs}
+use Rattle.settings.specs.Target.{target}
+use Rattle.settings.proofs.Near.{target-near}
+use Rattle.settings.proofs.target.Statement.{statement}
+use Rattle.settings.proofs.target.Tie as tie
+
+aimed-requires : tie.Need-aimed-requires
+aimed-requires c κs = search needs
+
+aimed-requires-2 : tie.Need-aimed-requires-2
+aimed-requires-2 c κs = search needs
+
+aimed-requires-3 : tie.Need-aimed-requires-3
+aimed-requires-3 c κs = search needs
+
+returns : tie.Need-returns
+unfolding target
+returns c =
+    let s = c .before .before .before in
+    record {
+      is = rw (c .before .before .aimed .ensures, c .before .aimed2 .ensures, c .aimed3 .ensures);
+      near =
+          rw (c .before .before .aimed .ensures, c .before .aimed2 .ensures, c .aimed3 .ensures)
+          (target-near (s .args .d) (s .args .origin) (s .args .from) (s .args .v) (s .pre));
+    }
+
+pub target-spec : {M : Type 1} → statement M
+target-spec = tie.close (tie.spec aimed-requires aimed-requires-2 aimed-requires-3 returns)
