@@ -1,1 +1,7 @@
 pub mod Opened
+pub mod Paths
+pub mod Passes
+pub mod Rooms
+pub mod Written
+pub mod Landing
+pub mod Putting

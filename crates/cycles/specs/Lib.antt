@@ -1,1 +1,4 @@
 pub mod Cycles
+pub mod Ways
+pub mod Bounds
+pub mod Writing

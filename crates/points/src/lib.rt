@@ -3,7 +3,7 @@ use codes::Plane;
 use lengths::Len;
 ghost use mathlib.Core.Path.{_≡_};
 ghost use Prim.Native.Nat.{_^_};
-ghost use Rattle.points.specs.Points.{flat, inside};
+ghost use Rattle.points.specs.Points.{atHeight, flat, inside};
 ghost use Rattle.points.specs.Near.{Near, Moved, MovedBack};
 
 pub struct Point {
@@ -22,6 +22,15 @@ pub struct Flat {
 pub struct Travel {
     pub low: Point,
     pub high: Point,
+}
+
+// X and Y of a point, at another height.
+pub fn at_height(p: Point, level: Len) -> Point
+    ensures { λ r. ⌜ r ≡ atHeight p level ⌝ }
+{
+    let x = p.x;
+    let y = p.y;
+    Point { x, y, z: level }
 }
 
 // A point by the first and second axis of a plane.

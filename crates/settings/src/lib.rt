@@ -199,7 +199,7 @@ pub fn aimed(d: Distance, origin: Len, from: Len, g: Given) -> Len
 }
 
 // Where the words of a straight move lead.
-pub fn target(d: Distance, origin: Point, from: Point, v: Values) -> Point
+pub fn target_point(d: Distance, origin: Point, from: Point, v: Values) -> Point
     requires { ⌜ Aims origin from v ⌝ }
     ensures { λ r. ⌜ Aimed d origin from v r ⌝ }
 {

@@ -1,9 +1,9 @@
--- `settings::target` meets its contract, axis by axis. Assumes nothing.
+-- `settings::target_point` meets its contract, axis by axis. Assumes nothing.
 use borrow.Author.Needs.{needs}
 use Rattle.settings.specs.Target.{target}
 use Rattle.settings.proofs.Near.{target-near}
-use Rattle.settings.proofs.target.Statement.{statement}
-use Rattle.settings.proofs.target.Tie as tie
+use Rattle.settings.proofs.target_point.Statement.{statement}
+use Rattle.settings.proofs.target_point.Tie as tie
 
 aimed-requires : tie.Need-aimed-requires
 aimed-requires c κs = search needs
@@ -25,5 +25,5 @@ returns c =
           (target-near (s .args .d) (s .args .origin) (s .args .from) (s .args .v) (s .pre));
     }
 
-pub target-spec : {M : Type 1} → statement M
-target-spec = tie.close (tie.spec aimed-requires aimed-requires-2 aimed-requires-3 returns)
+pub target-point-spec : {M : Type 1} → statement M
+target-point-spec = tie.close (tie.spec aimed-requires aimed-requires-2 aimed-requires-3 returns)

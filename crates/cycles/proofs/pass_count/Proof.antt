@@ -1,0 +1,29 @@
+-- `cycles::pass_count` meets its contract. Assumes nothing.
+use mathlib.Core.Path.{_≡_}
+use native.Mathlib.Omega.{arith}
+use borrow.Author.Needs.{needs}
+use lib.IntN.{natAbs}
+use Rattle.lengths.proofs.Laws.{abs-sum}
+use Rattle.cycles.specs.Cycles.{passCount}
+use Rattle.cycles.proofs.pass_count.Statement.{statement}
+use Rattle.cycles.proofs.pass_count.Tie as tie
+
+zero-requires : tie.Need-zero-requires
+zero-requires c κs = search needs
+
+apart-requires : tie.Need-apart-requires
+apart-requires c κs = search needs
+
+returns : tie.Need-returns
+unfolding passCount
+returns c =
+    let k = c .before .before .before .args .k in
+    let e : c .apart .result ≡ natAbs (k .v .v) = omega (arith, abs-sum (k .v .v)) in
+    record { is = rw (e, c .before .before .if1 .taken); few = omega (arith, abs-sum (k .v .v)) }
+
+returns-2 : tie.Need-returns-2
+unfolding passCount
+returns-2 c = record { is = rw (c .if1 .left); few = omega arith }
+
+pub pass-count-spec : {M : Type 1} → statement M
+pass-count-spec = tie.close (tie.spec zero-requires apart-requires returns returns-2)

@@ -1,0 +1,32 @@
+-- `cycles::pass_end` meets its contract, with Z and without. Assumes nothing.
+use mathlib.Core.Path.{sym, _∙_, ap}
+use borrow.Author.Needs.{needs}
+use Rattle.points.specs.Points.{atHeight}
+use Rattle.cycles.proofs.Passes.{ends-with-z, ends-without-z}
+use Rattle.cycles.proofs.pass_end.Statement.{statement}
+use Rattle.cycles.proofs.pass_end.Tie as tie
+
+return-level-requires : tie.Need-return-level-requires
+return-level-requires c κs = search needs
+
+at-height-requires : tie.Need-at-height-requires
+at-height-requires c κs = search needs
+
+at-height-requires-2 : tie.Need-at-height-requires-2
+at-height-requires-2 c κs = search needs
+
+returns : tie.Need-returns
+returns c =
+    let a = c .before .before .before .before .args in
+    λ level from.
+    c .at-height .ensures
+    ∙ ap (atHeight (a .p)) (c .before .return-level .ensures)
+    ∙ sym (ends-with-z (a .h) (a .p) level from (c .before .before .if1 .taken))
+
+returns-2 : tie.Need-returns-2
+returns-2 c =
+    let a = c .before .before .before .args in
+    λ level from. c .at-height2 .ensures ∙ sym (ends-without-z (a .h) (a .p) level from (c .before .if1 .left))
+
+pub pass-end-spec : {M : Type 1} → statement M
+pass-end-spec = tie.close (tie.spec return-level-requires at-height-requires at-height-requires-2 returns returns-2)

@@ -1,0 +1,36 @@
+-- The bounds that a run keeps where a cycle is done, and what the functions under them answer.
+use Prim.Native.Nat.{ℕ, _≤_}
+use mathlib.Core.Path.{_≡_}
+use Rattle.lengths.specs.declared.Len.{Len}
+use Rattle.lengths.specs.View.{Within}
+use Rattle.words.specs.declared.Given.{Given}
+use Rattle.words.specs.declared.Values.{Values}
+use Rattle.points.specs.declared.Point.{Point}
+use Rattle.points.specs.declared.Travel.{Travel}
+use Rattle.points.specs.Near.{Near}
+use Rattle.records.specs.Layout.{roomOf}
+use Rattle.settings.specs.Bounds.{Aims}
+use Rattle.cycles.specs.declared.Hole.{Hole}
+use Rattle.cycles.specs.Cycles.{passTo, passCount}
+
+-- what the levels of a hole lead from
+pub record Holes (origin from : Point) (v : Values) : Type 0 where
+  pub aims : Aims origin from v
+  pub r : Within 1_000_000_000 (v .r .v .v)
+
+-- what passes lead from
+pub record Passing (t : Travel) (origin from : Point) (v : Values) : Type 0 where
+  pub low : Near 1_100_000_000 (t .low)
+  pub high : Near 1_100_000_000 (t .high)
+  pub aims : Aims origin from v
+  pub k : Within 9_999 (v .k .v .v)
+
+-- a number of passes
+pub record Counts (k : Given) (n : ℕ) : Type 0 where
+  pub is : n ≡ passCount k
+  pub few : n ≤ 9_999
+
+-- the room of one pass, at any level and wherever it is
+pub record PassRoom (h : Hole) (n : ℕ) : Type 0 where
+  pub is : (level : Len) (p : Point) → n ≡ roomOf (passTo h level p)
+  pub most : n ≤ 84
