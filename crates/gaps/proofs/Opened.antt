@@ -4,6 +4,7 @@ use Rattle.lengths.proofs.Opened.{opened as lengths-opened}
 use Rattle.codes.proofs.Opened.{opened as codes-opened}
 use Rattle.lines.proofs.Opened.{opened as lines-opened}
 use Rattle.words.proofs.Opened.{opened as words-opened}
+use Rattle.gaps.specs.Comments.{insideAt}
 use Rattle.gaps.specs.Gaps.{commentBy, noWords, onlyGaps}
 
 unfoldable pub opened : Unit {0}
@@ -13,6 +14,7 @@ unfolding
     codes-opened
     lines-opened
     words-opened
+    insideAt
     commentBy
     noWords
     onlyGaps

@@ -4,3 +4,5 @@ pub mod Figures
 pub mod Numbers
 pub mod Entries
 pub mod Scanning
+pub mod Zeros
+pub mod Comments
