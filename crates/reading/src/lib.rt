@@ -283,7 +283,10 @@ fn is_coded(w: Word) -> bool
     (w.letter == b'G') | (w.letter == b'M')
 }
 
-fn no_word() -> Word {
+// What fills a place that holds no word: no word has the letter 0.
+fn no_word() -> Word
+    ensures { λ r. ⌜ r .letter ≡ 0 ⌝ }
+{
     let number = Number {
         sign: Sign::Plain,
         point: false,
