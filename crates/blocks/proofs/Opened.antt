@@ -5,12 +5,17 @@ use Rattle.codes.proofs.Opened.{opened as codes-opened}
 use Rattle.lines.proofs.Opened.{opened as lines-opened}
 use Rattle.words.proofs.Opened.{opened as words-opened}
 use Rattle.points.proofs.Opened.{opened as points-opened}
+use Rattle.setup.proofs.Opened.{opened as setup-opened}
+use Rattle.gaps.proofs.Opened.{opened as gaps-opened}
+use Rattle.programs.proofs.Opened.{opened as programs-opened}
 use Rattle.records.proofs.Opened.{opened as records-opened}
 use Rattle.settings.proofs.Opened.{opened as settings-opened}
 use Rattle.letters.proofs.Opened.{opened as letters-opened}
 use Rattle.arcs.proofs.Opened.{opened as arcs-opened}
 use Rattle.cycles.proofs.Opened.{opened as cycles-opened}
-use Rattle.blocks.specs.Exec.{saidBy, working, spindleRecords, movesIn, lastRecords, madeBy, settled, controlOf, atWord, lacksCentre, lacksParameter, isG17, drills, cannotDrill, callTo, unknownCall, tooDeep, atStart, blames, unless, judged, execWords, exec}
+use Rattle.blocks.specs.Exec.{saidBy, working, spindleRecords, movesIn, lastRecords, madeBy, settled, controlOf, atWord, lacksCentre, lacksParameter, isG17, drills, cannotDrill, callsIn, callTo, unknownCall, tooDeep, atStart, blames, unless, judged, execWords, exec}
+use Rattle.blocks.specs.Machine.{machineOf}
+use Rattle.blocks.specs.Doing.{madeOf, executed}
 use Rattle.blocks.specs.Motions.{centreWords, arcFor, arcMoves, cycleDone, cycleMoves, motionOf, movesOf}
 
 unfoldable pub opened : Unit {0}
@@ -21,6 +26,9 @@ unfolding
     lines-opened
     words-opened
     points-opened
+    setup-opened
+    gaps-opened
+    programs-opened
     records-opened
     settings-opened
     letters-opened
@@ -40,6 +48,7 @@ unfolding
     isG17
     drills
     cannotDrill
+    callsIn
     callTo
     unknownCall
     tooDeep
@@ -49,6 +58,9 @@ unfolding
     judged
     execWords
     exec
+    machineOf
+    madeOf
+    executed
     centreWords
     arcFor
     arcMoves

@@ -5,7 +5,7 @@ use mathlib.Core.Option.{Option, none, some}
 use mathlib.Core.List.{List, [], _∷_, _++_}
 use lib.Dec.{eqb, ltb}
 use lib.IntN.{natAbs}
-use Rattle.terms.specs.Terms.{if_then_else_, all, firstOf, when}
+use Rattle.terms.specs.Terms.{if_then_else_, all, firstOf, stands, when}
 use Rattle.refusals.specs.declared.Refusal.{Refusal}
 use Rattle.refusals.specs.declared.Refusal.the-variants.{
   BadParameter,
@@ -25,6 +25,8 @@ use Rattle.codes.specs.declared.Motion.the-variants.{Off, G00, G01, G02, G03, D
 use Rattle.codes.specs.declared.Plane.{Plane}
 use Rattle.codes.specs.declared.Plane.the-variants.{G17, G18, G19}
 use Rattle.codes.specs.Codes.{isM, endsProgram}
+use Rattle.programs.specs.declared.Program.{Program}
+use Rattle.programs.specs.Openings.{known}
 use Rattle.words.specs.declared.Word.{Word}
 use Rattle.words.specs.declared.Values.{Values}
 use Rattle.words.specs.Words.{Words, these, badAt, wordsOf}
@@ -49,23 +51,15 @@ use Rattle.letters.specs.Letters.{
 use Rattle.blocks.specs.Motions.{Moves, endStands, centreStands, cycleDone, movesOf}
 use Rattle.letters.specs.declared.BlockCode.{BlockCode}
 use Rattle.letters.specs.declared.BlockCode.the-variants.{Calling, Returning, Dwelling, Moving}
+use Rattle.blocks.specs.declared.Said.{Said}
 use Rattle.blocks.specs.declared.Control.{Control}
 use Rattle.blocks.specs.declared.Control.the-variants.{On, Call, Back, Stop}
 
--- A block that reads as words, with all that they say: the modes that hold in it, its code, M code and values.
-pub record Said : Type 0 where
-  pub words : List Word
-  pub modes : Modes
-  pub code : BlockCode
-  pub misc : Misc
-  pub named : Bool
-  pub values : Values
-
+-- what the words of a block say
 unfoldable pub saidBy : Machine → Modes → List Word → Said
 saidBy machine before ws =
     let m = modesIn before ws in
     record {
-      words = ws;
       modes = m;
       code = blockCode m ws;
       misc = miscOfBlock ws;
@@ -168,10 +162,14 @@ drills (Moving (Drilling cycle)) named v = cycleDone named v
 unfoldable pub cannotDrill : State → Said → Bool
 cannotDrill s b = drills (b .code) (b .named) (b .values) && (not (isG17 (b .modes .plane)) || not (working s b .turning))
 
--- What the block is in: the levels left for calls, of which the main has four, and the numbers that can be called.
+-- What the block is in: the levels left for calls, of which the main has four, and the numbers that can be called: "5 where
+-- no subprogram has that number".
 pub record Calls : Type 0 where
   pub left : ℕ
   pub known : ℕ → Bool
+
+unfoldable pub callsIn : List Program → ℕ → Calls
+callsIn programs left = record { left = left; known = λ n. stands (known programs n) }
 
 abbrev pub inMain : Calls → Bool
 inMain calls = eqb (calls .left) 4
@@ -193,12 +191,12 @@ tooDeep calls (some n) = eqb (calls .left) 0
 unfoldable pub atStart : ℕ → Refusal → Bool → Option Blame
 atStart start refusal test = when test (record { refusal = refusal; byte = start })
 
-unfoldable pub blames : Machine → Calls → ℕ → State → ℕ → Said → List (Option Blame)
-blames machine calls room s start b =
+unfoldable pub blames : Machine → Calls → ℕ → State → ℕ → List Word → Said → List (Option Blame)
+blames machine calls room s start ws b =
     -- "4 leftmost for unknown or repeated letters (not G) and codes that may not stand; 2 leftmost; 1 leftmost by value"
-    atWord CannotExecute (firstThatMayNot (inMain calls) [] (b .words))
-    ∷ atWord AddressUndefined (firstUnused (b .code) (b .modes .plane) (b .words))
-    ∷ atWord BadParameter (firstBadValue (machine .speeds) (b .modes) (b .code) (b .words))
+    atWord CannotExecute (firstThatMayNot (inMain calls) [] ws)
+    ∷ atWord AddressUndefined (firstUnused (b .code) (b .modes .plane) ws)
+    ∷ atWord BadParameter (firstBadValue (machine .speeds) (b .modes) (b .code) ws)
     -- "3; 5; 6"
     ∷ atStart start ParameterUndefined (lacksParameter (b .code) (b .values))
     ∷ atStart start NumberNotFound (unknownCall calls (callTo (controlOf b)))
@@ -221,14 +219,14 @@ unfoldable pub unless : Option Blame → Verdict → Verdict
 unless none verdict = verdict
 unless (some blame) verdict = refused blame
 
-unfoldable pub judged : Machine → Calls → ℕ → State → ℕ → Said → Verdict
-judged machine calls room s start b =
-    unless (firstOf (blames machine calls room s start b))
+unfoldable pub judged : Machine → Calls → ℕ → State → ℕ → List Word → Said → Verdict
+judged machine calls room s start ws b =
+    unless (firstOf (blames machine calls room s start ws b))
     (accepted (settled machine s b) (controlOf b) (madeBy machine s b))
 
 unfoldable pub execWords : Machine → Calls → ℕ → State → ℕ → Words → Verdict
 execWords machine calls room s start (badAt at) = refused (record { refusal = Unreadable; byte = at })
-execWords machine calls room s start (these ws) = judged machine calls room s start (saidBy machine (s .modes) ws)
+execWords machine calls room s start (these ws) = judged machine calls room s start ws (saidBy machine (s .modes) ws)
 
 -- A block whose first byte is at `start` and whose words begin at the byte `at` with the bytes of `text`.
 unfoldable pub exec : Machine → Calls → ℕ → State → ℕ → ℕ → List ℕ → Verdict

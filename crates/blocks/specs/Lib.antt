@@ -1,3 +1,5 @@
 pub mod Machine
 pub mod Motions
 pub mod Exec
+pub mod Reach
+pub mod Doing

@@ -3,8 +3,12 @@
 use Prim.Native.Nat.{ℕ}
 use mathlib.Core.Bool.{Bool}
 use Rattle.points.specs.declared.Point.{Point}
+use Rattle.setup.specs.declared.Bed.{Bed}
+use Rattle.setup.specs.Frame.{originAt}
 use Rattle.letters.specs.declared.Speeds.{Speeds}
 use Rattle.records.specs.declared.Record.{Record}
+use Rattle.records.specs.Path.{pathOf, recordMoved}
+use Rattle.arcs.specs.Arcs.{pathStays, centreFits}
 
 pub record Machine : Type 0 where
   -- the origin at a place of the table
@@ -14,3 +18,13 @@ pub record Machine : Type 0 where
   pub fits : Record → Bool
   -- the path of a record that begins at a point stays in the travel
   pub stays : Point → Record → Bool
+
+-- the machine of a bed, in the frame of the common offset
+unfoldable pub machineOf : Bed → Machine
+machineOf b =
+    record {
+      origin = originAt b;
+      speeds = record { lowest = b .lowest; highest = b .highest };
+      fits = λ r. centreFits (pathOf (recordMoved (b .offset) r));
+      stays = λ from r. pathStays (b .travel) from (pathOf r);
+    }

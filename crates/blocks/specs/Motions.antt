@@ -24,6 +24,10 @@ endStands v = v .x .stands || v .y .stands || v .z .stands
 abbrev pub centreStands : Values → Bool
 centreStands v = v .i .stands || v .j .stands || v .k .stands
 
+-- "No end and no centre word: mode only."
+abbrev pub arcStands : Values → Bool
+arcStands v = endStands v || centreStands v
+
 -- A block's motion: its records, and whether its geometry holds.
 pub record Moves : Type 0 where
   pub records : List Record
@@ -69,11 +73,9 @@ motionOf Off named s origin v = none
 motionOf G00 named s origin v = if endStands v then one (RP (target (s .modes .distance) origin (s .at) v)) else none
 motionOf G01 named s origin v =
     if endStands v then one (LN (target (s .modes .distance) origin (s .at) v) (s .feed)) else none
--- "No end and no centre word: mode only." `AR` is clockwise, as G02 is
-motionOf G02 named s origin v =
-    if endStands v || centreStands v then arcMoves AR s (arcFor s origin v) else none
-motionOf G03 named s origin v =
-    if endStands v || centreStands v then arcMoves AL s (arcFor s origin v) else none
+-- `AR` is clockwise, as G02 is
+motionOf G02 named s origin v = if arcStands v then arcMoves AR s (arcFor s origin v) else none
+motionOf G03 named s origin v = if arcStands v then arcMoves AL s (arcFor s origin v) else none
 motionOf (Drilling cycle) named s origin v = if cycleDone named v then cycleMoves cycle s origin v else none
 
 unfoldable pub movesOf : BlockCode → Bool → State → Point → Values → Moves

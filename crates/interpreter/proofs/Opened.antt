@@ -13,8 +13,8 @@ use Rattle.arcs.proofs.Opened.{opened as arcs-opened}
 use Rattle.cycles.proofs.Opened.{opened as cycles-opened}
 use Rattle.blocks.proofs.Opened.{opened as blocks-opened}
 use Rattle.programs.proofs.Opened.{opened as programs-opened}
-use Rattle.interpreter.specs.Run.{machineOf, firstOf, finishOf, runTable, runBlocks, outcome, recordsOf, answerBy, answerOf}
-use Rattle.interpreter.specs.Walk.{isSpent, oneLess, after, goingOn, thenRest, follow, obey, known, callsFrom, isSkipped, slashLength, verdictOn, runBlock, reached, walk, blocksFor, callees}
+use Rattle.interpreter.specs.Run.{firstOf, finishOf, runTable, runBlocks, outcome, recordsOf, answerBy, answerOf}
+use Rattle.interpreter.specs.Walk.{isSpent, oneLess, after, goingOn, thenRest, follow, obey, isSkipped, slashLength, verdictOn, runBlock, reached, walk, blocksFor, callees}
 
 unfoldable pub opened : Unit {0}
 unfolding
@@ -32,7 +32,6 @@ unfolding
     cycles-opened
     blocks-opened
     programs-opened
-    machineOf
     firstOf
     finishOf
     runTable
@@ -48,8 +47,6 @@ unfolding
     thenRest
     follow
     obey
-    known
-    callsFrom
     isSkipped
     slashLength
     verdictOn

@@ -11,13 +11,12 @@ use Rattle.refusals.specs.declared.Refusal.the-variants.{FirstBlock, BadSetup, 
 use Rattle.refusals.specs.declared.Place.{Place}
 use Rattle.setup.specs.declared.Setup.{Setup}
 use Rattle.setup.specs.Limits.{validSetup}
-use Rattle.setup.specs.Frame.{offset, startOf, travelOf, originAt, switchOn}
+use Rattle.setup.specs.Frame.{offset, startOf, bedOf, switchOn}
 use Rattle.records.specs.declared.Record.{Record}
-use Rattle.records.specs.Path.{pathOf, recordMoved}
+use Rattle.records.specs.Path.{recordMoved}
 use Rattle.settings.specs.declared.State.{State}
 use Rattle.settings.specs.Settings.{firstState}
-use Rattle.arcs.specs.Arcs.{pathStays, centreFits}
-use Rattle.blocks.specs.Machine.{Machine}
+use Rattle.blocks.specs.Machine.{machineOf}
 use Rattle.lines.specs.Blocks.{Block, blocksOf, closes}
 use Rattle.programs.specs.Openings.{Table, table, refusedAt, programsFrom, blocksAt}
 use Rattle.interpreter.specs.Walk.{Job, How, ended, returned, unfinished, Outcome, just, walk, callees}
@@ -25,16 +24,6 @@ use Rattle.interpreter.specs.Walk as Walk
 use Rattle.interpreter.specs.declared.Budget.{Budget}
 use Rattle.interpreter.specs.declared.Answer.{Answer}
 use Rattle.interpreter.specs.declared.Answer.the-variants.{Done, Unfinished, Refused}
-
--- what the blocks ask of the machine of a setup, in the frame of the common offset
-unfoldable pub machineOf : Setup → Machine
-machineOf s =
-    record {
-      origin = originAt s;
-      speeds = record { lowest = len (s .lowest); highest = len (s .highest) };
-      fits = λ r. centreFits (pathOf (recordMoved (offset s) r));
-      stays = λ from r. pathStays (travelOf s) from (pathOf r);
-    }
 
 unfoldable pub firstOf : Setup → State
 firstOf s = firstState (startOf s) (len (s .feed)) (len (s .speed))
@@ -52,7 +41,7 @@ runTable s bytes bs room budget (refusedAt refusal place) = just (Walk.refusedAt
 runTable s bytes bs room budget (table main subs) =
     let job : Job =
     record {
-      machine = machineOf s;
+      machine = machineOf (bedOf s);
       skips = switchOn s;
       blocks = bs;
       finish = finishOf bytes bs;

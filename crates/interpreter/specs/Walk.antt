@@ -5,7 +5,7 @@ use mathlib.Core.Option.{Option, none, some}
 use mathlib.Core.List.{List, [], _∷_, _++_}
 use lib.Dec.{eqb}
 use lib.ListN.{drop}
-use Rattle.terms.specs.Terms.{if_then_else_, first, stands}
+use Rattle.terms.specs.Terms.{if_then_else_}
 use Rattle.refusals.specs.declared.Refusal.{Refusal}
 use Rattle.refusals.specs.declared.Refusal.the-variants.{NoEnd}
 use Rattle.refusals.specs.declared.Place.{Place}
@@ -15,9 +15,9 @@ use Rattle.settings.specs.declared.State.{State}
 use Rattle.blocks.specs.Machine.{Machine}
 use Rattle.blocks.specs.declared.Control.{Control}
 use Rattle.blocks.specs.declared.Control.the-variants.{On, Call, Back, Stop}
-use Rattle.blocks.specs.Exec.{Verdict, refused, accepted, exec, Calls}
+use Rattle.blocks.specs.Exec.{Verdict, refused, accepted, exec, callsIn}
 use Rattle.lines.specs.Blocks.{Block, closes, opens, isSlashed}
-use Rattle.programs.specs.Openings.{placeOf, blocksAt}
+use Rattle.programs.specs.Openings.{placeOf, known, blocksAt}
 use Rattle.programs.specs.declared.Program.{Program}
 use Rattle.interpreter.specs.declared.Budget.{Budget}
 use Rattle.interpreter.specs.declared.Budget.the-variants.{Whole, First}
@@ -84,12 +84,6 @@ obey (refused blame) b callee rest g =
     just (refusedAt (blame .refusal) (record { block = b .number; byte = blame .byte }))
 obey (accepted s control made) b callee rest g = after made (follow control callee rest (goingOn g s made))
 
-unfoldable pub known : List Program → ℕ → Option Program
-known programs n = first (λ p. eqb (p .number) n) programs
-
-unfoldable pub callsFrom : Job → ℕ → Calls
-callsFrom job left = record { left = left; known = λ n. stands (known (job .programs) n) }
-
 -- "`/` as first byte: the block is skipped unread when the switch is on, and the slash ignored when off."
 unfoldable pub isSkipped : Job → Block → Bool
 isSkipped job b = isSlashed b && job .skips
@@ -99,7 +93,7 @@ slashLength b = if isSlashed b then 1 else 0
 
 unfoldable pub verdictOn : Job → ℕ → Block → Going → Verdict
 verdictOn job left b g =
-    exec (job .machine) (callsFrom job left) (g .room) (g .state) (b .start) (b .start + slashLength b)
+    exec (job .machine) (callsIn (job .programs) left) (g .room) (g .state) (b .start) (b .start + slashLength b)
     (drop (slashLength b) (b .text))
 
 unfoldable pub runBlock : Bool → Job → ℕ → (ℕ → Going → Outcome) → Block → (Going → Outcome) → Going → Outcome

@@ -6,7 +6,7 @@ use Rattle.lines.proofs.Opened.{opened as lines-opened}
 use Rattle.words.proofs.Opened.{opened as words-opened}
 use Rattle.gaps.proofs.Opened.{opened as gaps-opened}
 use Rattle.programs.specs.Found.{tableBy}
-use Rattle.programs.specs.Openings.{numberAfterO, openingOf, isTaken, entryOf, entered, scanBlock, scan, mainAs, programsFrom}
+use Rattle.programs.specs.Openings.{numberAfterO, openingOf, isTaken, entryOf, entered, scanBlock, scan, mainAs, programsFrom, known}
 
 unfoldable pub opened : Unit {0}
 unfolding
@@ -26,4 +26,5 @@ unfolding
     scan
     mainAs
     programsFrom
+    known
 opened = tt

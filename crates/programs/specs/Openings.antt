@@ -1,10 +1,11 @@
 -- Document 01, "Data set and blocks": the openings, the main program and the subprograms.
 use Prim.Native.Nat.{ℕ, _+_, _-_}
 use mathlib.Core.Bool.{Bool, true, false, _&&_, _||_}
+use mathlib.Core.Option.{Option}
 use mathlib.Core.List.{List, [], _∷_, _++_}
 use lib.Dec.{eqb, leb}
 use lib.ListN.{length, drop}
-use Rattle.terms.specs.Terms.{if_then_else_, any, fromTo}
+use Rattle.terms.specs.Terms.{if_then_else_, any, first, fromTo}
 use Rattle.refusals.specs.declared.Refusal.{Refusal}
 use Rattle.refusals.specs.declared.Refusal.the-variants.{BadParameter, DuplicateNumber, TableOver}
 use Rattle.refusals.specs.declared.Place.{Place}
@@ -79,6 +80,10 @@ unfoldable pub programsFrom : Block → List Block → Table
 programsFrom percent [] = table (programAfter 0 percent) []
 programsFrom percent (b ∷ bs) =
     if opens b then mainAs (openingOf b) b bs else scan (programAfter 0 percent) (b ∷ bs) []
+
+-- the subprogram of a number
+unfoldable pub known : List Program → ℕ → Option Program
+known programs n = first (λ p. eqb (p .number) n) programs
 
 -- the blocks of a program, and what follows them
 abbrev pub blocksAt : List Block → Program → List Block

@@ -3,7 +3,7 @@ use Rattle.terms.proofs.Opened.{opened as terms-opened}
 use Rattle.lengths.proofs.Opened.{opened as lengths-opened}
 use Rattle.codes.proofs.Opened.{opened as codes-opened}
 use Rattle.points.proofs.Opened.{opened as points-opened}
-use Rattle.setup.specs.Frame.{offset, startOf, travelOf, originAt, switchOn}
+use Rattle.setup.specs.Frame.{offset, startOf, travelOf, bedOf, originAt, switchOn}
 use Rattle.setup.specs.Limits.{axisFits, travelFits, axesWithin, offsetsFit, feedFits, speedsFit, switchFits, validSetup}
 
 unfoldable pub opened : Unit {0}
@@ -15,6 +15,7 @@ unfolding
     offset
     startOf
     travelOf
+    bedOf
     originAt
     switchOn
     axisFits

@@ -3,6 +3,7 @@
 -- travel and the step from a record to machine units know EXOFS.
 use Prim.Native.Nat.{ℕ}
 use mathlib.Core.Bool.{Bool}
+use mathlib.Core.List.{map}
 use lib.IntN.{pos}
 use lib.Signed.{ltZ}
 use lib.ListN.{getD}
@@ -12,6 +13,7 @@ use Rattle.points.specs.declared.Travel.{Travel}
 use Rattle.points.specs.Points.{movedBack}
 use Rattle.setup.specs.declared.Axes.{Axes}
 use Rattle.setup.specs.declared.Setup.{Setup}
+use Rattle.setup.specs.declared.Bed.{Bed}
 
 abbrev pub pointOf : Axes → Point
 pointOf a = record { x = len (a .x); y = len (a .y); z = len (a .z) }
@@ -29,9 +31,19 @@ travelOf s =
       high = movedBack (offset s) (pointOf (s .high));
     }
 
+unfoldable pub bedOf : Setup → Bed
+bedOf s =
+    record {
+      offset = offset s;
+      travel = travelOf s;
+      origins = map pointOf (s .origins);
+      lowest = len (s .lowest);
+      highest = len (s .highest);
+    }
+
 -- the origin at a place of the table, from 0 for G54 to 5 for G59
-unfoldable pub originAt : Setup → ℕ → Point
-originAt s k = pointOf (getD (s .origins) k (record { x = pos 0; y = pos 0; z = pos 0 }))
+unfoldable pub originAt : Bed → ℕ → Point
+originAt b k = getD (b .origins) k (record { x = len (pos 0); y = len (pos 0); z = len (pos 0) })
 
 unfoldable pub switchOn : Setup → Bool
 switchOn s = ltZ (pos 0) (s .skip)

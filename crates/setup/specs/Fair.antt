@@ -1,0 +1,19 @@
+-- The bounds that every valid setup keeps, as linear facts, in the frame of the common offset.
+use Prim.Native.Nat.{ℕ}
+use mathlib.Core.Path.{_≡_}
+use lib.ListN.{length}
+use Rattle.lengths.specs.View.{Within}
+use Rattle.points.specs.Points.{moved}
+use Rattle.points.specs.Near.{Near}
+use Rattle.setup.specs.declared.Bed.{Bed}
+use Rattle.setup.specs.Frame.{originAt}
+
+pub record Fair (b : Bed) : Type 0 where
+  pub offset : Near 1_000_000_000 (b .offset)
+  -- the travel's ends in machine units
+  pub low : Near 100_000_000 (moved (b .offset) (b .travel .low))
+  pub high : Near 100_000_000 (moved (b .offset) (b .travel .high))
+  pub places : length (b .origins) ≡ 6
+  pub origins : (k : ℕ) → Near 1_000_000_000 (originAt b k)
+  pub lowest : Within 99_999 (b .lowest .v)
+  pub highest : Within 99_999 (b .highest .v)
