@@ -1,6 +1,7 @@
 -- The bounds that a run keeps where a cycle is done, and what the functions under them answer.
 use Prim.Native.Nat.{ℕ, _≤_}
 use mathlib.Core.Path.{_≡_}
+use lib.ListN.{length}
 use Rattle.lengths.specs.declared.Len.{Len}
 use Rattle.lengths.specs.View.{Within}
 use Rattle.words.specs.declared.Given.{Given}
@@ -34,3 +35,8 @@ pub record Counts (k : Given) (n : ℕ) : Type 0 where
 pub record PassRoom (h : Hole) (n : ℕ) : Type 0 where
   pub is : (level : Len) (p : Point) → n ≡ roomOf (passTo h level p)
   pub most : n ≤ 84
+
+-- the records of one pass, at any level and wherever it is
+pub record PassLength (h : Hole) (n : ℕ) : Type 0 where
+  pub is : (level : Len) (p : Point) → n ≡ length (passTo h level p)
+  pub most : n ≤ 6

@@ -1,9 +1,11 @@
 // Cycles: the levels of a hole and its passes. All passes of a block are tested before a byte of them is written.
+mod counting;
 mod writing;
 
 use codes::Cycle;
 use codes::Distance;
 use codes::Return;
+pub use counting::passes_length;
 use lengths::Len;
 use points::Point;
 use points::Travel;
@@ -187,7 +189,7 @@ fn pass_room(h: Hole) -> usize
 // The room of so many passes, wherever they lead.
 pub fn passes_room(h: Hole, count: u64) -> usize
     requires { ⌜ count ≤ 9_999 ⌝ }
-    ensures { λ n. ⌜ ((d : Distance) (origin from : Point) (v : Values) → passCount (v .k) ≡ count → n ≡ roomOf (passes h d origin from v)) ⌝ }
+    ensures { λ n. ⌜ ((d : Distance) (origin from : Point) (v : Values) → passCount (v .k) ≡ count → n ≡ roomOf (passes h d origin from v)) × (n ≤ 839_916) ⌝ }
 {
     count as usize * pass_room(h)
 }

@@ -2,3 +2,4 @@ pub mod Layout
 pub mod Writing
 pub mod Reading
 pub mod Path
+pub mod Displacing

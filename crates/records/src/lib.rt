@@ -1,9 +1,11 @@
 // The record list that the motor card and the viewer read.
+mod displacing;
 mod kinds;
 mod reading;
 mod writing;
 
 use codes::Plane;
+pub use displacing::displaced;
 pub use kinds::room;
 use lengths::Len;
 use points::Point;

@@ -19,10 +19,12 @@ mul-result c = omega (arith, mul-le-mul (c .before .pre) (c .pass-room .ensures 
 returns : tie.Need-returns
 unfolding passes
 returns c =
-    let a = c .before .args in
-    λ d origin from v e.
-    ap (λ (k : ℕ). k * c .pass-room .result) (sym e)
-    ∙ passes-room (a .h) (c .pass-room .result) (c .pass-room .ensures .is) _ (λ p. target d origin p v) (a .h .initial) from
+    let a = c .before .args in (
+      λ d origin from v e.
+          ap (λ (k : ℕ). k * c .pass-room .result) (sym e)
+          ∙ passes-room (a .h) (c .pass-room .result) (c .pass-room .ensures .is) _ (λ p. target d origin p v) (a .h .initial) from,
+      omega (arith, mul-le-mul (c .before .pre) (c .pass-room .ensures .most)),
+    )
 
 pub passes-room-spec : {M : Type 1} → statement M
 passes-room-spec = tie.close (tie.spec pass-room-requires mul-result returns)

@@ -1,0 +1,91 @@
+-- `records::displacing::displaced` meets its contract, mark by mark. Assumes nothing.
+use mathlib.Core.Path.{_≡_, refl, sym}
+use mathlib.Core.List.{[], _∷_}
+use denote.Enum.Declared.{tagOf}
+use types.Run.{OneOf, miss}
+use borrow.Author.Needs.{needs}
+use Rattle.points.specs.declared.Point.{Point}
+use Rattle.records.proofs.Record.{the-type}
+use Rattle.records.specs.declared.Record.{Record}
+use Rattle.records.specs.declared.Record.the-variants.{RP, LN, AR, AL, DW, SP, SO, PA, EN}
+use Rattle.records.specs.Path.{pathOf, recordMoved}
+use Rattle.records.proofs.displacing.displaced.Statement.{statement}
+use Rattle.records.proofs.displacing.displaced.Tie as tie
+
+-- the marks that have no arm of their own
+others : (by : Point) (r : Record) → OneOf (4 ∷ 5 ∷ 6 ∷ 7 ∷ 8 ∷ []) (tagOf the-type r) → recordMoved by r ≡ r
+unfolding recordMoved
+others by (RP p) h = absurd (miss (4 ∷ 5 ∷ 6 ∷ 7 ∷ 8 ∷ []) 0 tt h)
+others by (LN p feed) h = absurd (miss (4 ∷ 5 ∷ 6 ∷ 7 ∷ 8 ∷ []) 1 tt h)
+others by (AR a) h = absurd (miss (4 ∷ 5 ∷ 6 ∷ 7 ∷ 8 ∷ []) 2 tt h)
+others by (AL a) h = absurd (miss (4 ∷ 5 ∷ 6 ∷ 7 ∷ 8 ∷ []) 3 tt h)
+others by (DW ms) h = refl
+others by (SP speed) h = refl
+others by SO h = refl
+others by PA h = refl
+others by EN h = refl
+
+enum-known-r : tie.Need-enum-known-r
+enum-known-r c = search needs
+
+moved-requires : tie.Need-moved-requires
+unfolding pathOf
+moved-requires c κs = (c .before .before .before .pre .0, (rw (c .before .r .given .1) at (c .before .before .before .pre .1)))
+
+enum-known-r-2 : tie.Need-enum-known-r-2
+enum-known-r-2 c = search needs
+
+moved-requires-2 : tie.Need-moved-requires-2
+unfolding pathOf
+moved-requires-2 c κs = (c .before .before .before .pre .0, (rw (c .before .r2 .given .1) at (c .before .before .before .pre .1)))
+
+enum-known-r-3 : tie.Need-enum-known-r-3
+enum-known-r-3 c = search needs
+
+displaced-arc-requires : tie.Need-displaced-arc-requires
+unfolding pathOf
+displaced-arc-requires c κs = (c .before .before .before .pre .0, (rw (c .before .r3 .given .1) at (c .before .before .before .pre .1)))
+
+enum-known-r-4 : tie.Need-enum-known-r-4
+enum-known-r-4 c = search needs
+
+displaced-arc-requires-2 : tie.Need-displaced-arc-requires-2
+unfolding pathOf
+displaced-arc-requires-2 c κs = (c .before .before .before .pre .0, (rw (c .before .r4 .given .1) at (c .before .before .before .pre .1)))
+
+returns : tie.Need-returns
+unfolding recordMoved
+returns c = rw (c .before .before .r .given .1, c .moved .ensures .is)
+
+returns-2 : tie.Need-returns-2
+unfolding recordMoved
+returns-2 c = rw (c .before .before .r2 .given .1, c .moved2 .ensures .is)
+
+returns-3 : tie.Need-returns-3
+unfolding recordMoved
+returns-3 c = rw (c .before .before .r3 .given .1, c .displaced-arc .ensures)
+
+returns-4 : tie.Need-returns-4
+unfolding recordMoved
+returns-4 c = rw (c .before .before .r4 .given .1, c .displaced-arc2 .ensures)
+
+returns-5 : tie.Need-returns-5
+returns-5 c = sym (others (c .before .args .by) (c .before .args .r) (c .match .keys5))
+
+pub displaced-spec : {M : Type 1} → statement M
+displaced-spec =
+    tie.close
+    (tie.spec
+    enum-known-r
+    moved-requires
+    enum-known-r-2
+    moved-requires-2
+    enum-known-r-3
+    displaced-arc-requires
+    enum-known-r-4
+    displaced-arc-requires-2
+    returns
+    returns-2
+    returns-3
+    returns-4
+    returns-5)
