@@ -1,4 +1,5 @@
 pub mod Judging
 pub mod Opened
+pub mod Sizes
 pub mod Uses
 pub mod Valued
