@@ -1,0 +1,258 @@
+-- Points of a run and how near they are, in the frame of the common offset and in machine units. Assumes nothing.
+use Prim.Native.Nat.{ℕ, _^_}
+use mathlib.Core.Path.{_≡_, ap₂}
+use mathlib.Core.Bool.{true, false, _&&_}
+use native.Mathlib.Omega.{arith}
+use lib.IntN.{ℤ, _+ℤ_}
+use lib.Signed.{leZ}
+use Rattle.terms.specs.Terms.{if_then_else_, between}
+use Rattle.terms.proofs.Laws.{both-left, both-right}
+use Rattle.lengths.specs.declared.Len.{Len}
+use Rattle.lengths.specs.View.{Within, Short}
+use Rattle.lengths.proofs.Laws.{view, sum-bal}
+use Rattle.lengths.proofs.Four.{short-four}
+use Rattle.codes.specs.declared.Cycle.{Cycle}
+use Rattle.codes.specs.declared.Motion.the-variants.{Drilling}
+use Rattle.codes.specs.declared.Plane.{Plane}
+use Rattle.codes.specs.declared.Plane.the-variants.{G17, G18, G19}
+use Rattle.words.specs.declared.Given.{Given}
+use Rattle.points.specs.declared.Point.{Point}
+use Rattle.points.specs.Points.{moved, flat, inside}
+use Rattle.points.specs.Near.{Near}
+use Rattle.records.specs.declared.Arc.{Arc}
+use Rattle.records.specs.declared.Record.the-variants.{AR, AL}
+use Rattle.records.specs.Path.{pathOf, arcMoved, recordMoved}
+use Rattle.setup.specs.declared.Bed.{Bed}
+use Rattle.setup.specs.Frame.{originAt}
+use Rattle.setup.specs.Fair.{Fair}
+use Rattle.settings.specs.declared.State.{State}
+use Rattle.settings.specs.Settings.{orElse}
+use Rattle.settings.specs.Target.{target}
+use Rattle.settings.specs.Bounds.{Aims}
+use Rattle.settings.proofs.Near.{target-near}
+use Rattle.arcs.specs.Bounds.{Reach, Beside, Bounds}
+use Rattle.arcs.specs.Arcs.{centreFits}
+use Rattle.cycles.specs.declared.Hole.{Hole}
+use Rattle.cycles.specs.Cycles.{holeOf, passes}
+use Rattle.cycles.specs.Ways.{staysIn}
+use Rattle.cycles.specs.Bounds.{Holes, Passing}
+use Rattle.cycles.specs.Writing.{Framed, Puts}
+use Rattle.cycles.proofs.Paths.{inside-near}
+use Rattle.letters.specs.declared.BlockCode.the-variants.{Moving}
+use Rattle.blocks.specs.declared.Said.{Said}
+use Rattle.blocks.specs.Motions.{centreWords, arcFor}
+use Rattle.blocks.specs.Exec.{working}
+use Rattle.blocks.specs.Reach.{Steady}
+
+-- ---- points inside the travel
+
+-- what is within a bound once moved was within that and the move
+before-near : (by p : Point) → Near 1_000_000_000 by → Near 100_000_000 (moved by p) → Near 1_100_000_000 p
+unfolding moved
+before-near by p h k =
+    omega (arith, sum-bal (p .x .v) (by .x .v), sum-bal (p .y .v) (by .y .v), sum-bal (p .z .v) (by .z .v))
+
+axis-near :
+    (low high z by : ℤ) → between low high z ≡ true → Within 100_000_000 (low +ℤ by) → Within 100_000_000 (high +ℤ by)
+    → Within 100_000_000 (z +ℤ by)
+axis-near low high z by e l h =
+    let f : leZ low z ≡ true = both-left (leZ low z) (leZ z high) e in
+    let g : leZ z high ≡ true = both-right (leZ low z) (leZ z high) e in
+    omega (arith, view, sum-bal low by, sum-bal high by, sum-bal z by)
+
+module _ (bed : Bed) (fair : Fair bed) where
+  pub low-near : Near 1_100_000_000 (bed .travel .low)
+  low-near = before-near (bed .offset) (bed .travel .low) (fair .offset) (fair .low)
+
+  pub high-near : Near 1_100_000_000 (bed .travel .high)
+  high-near = before-near (bed .offset) (bed .travel .high) (fair .offset) (fair .high)
+
+  pub framed : Framed (bed .offset) (bed .travel)
+  framed = record { offset = fair .offset; lowest = omega (arith, fair .low); highest = omega (arith, fair .high) }
+
+  module _ (p : Point) (e : inside (bed .travel) p ≡ true) where
+    pub near-inside : Near 1_100_000_000 p
+    near-inside = inside-near (bed .travel) p low-near high-near e
+
+    -- the same point in machine units
+    pub near-machine : Near 100_000_000 (moved (bed .offset) p)
+    unfolding inside moved
+    near-machine =
+        let t = bed .travel in
+        let by = bed .offset in
+        let x = between (t .low .x .v) (t .high .x .v) (p .x .v) in
+        let y = between (t .low .y .v) (t .high .y .v) (p .y .v) in
+        let z = between (t .low .z .v) (t .high .z .v) (p .z .v) in
+        let l = fair .low in
+        let h = fair .high in
+        record {
+          x = axis-near (t .low .x .v) (t .high .x .v) (p .x .v) (by .x .v) (both-left x y (both-left (x && y) z e)) (l .x) (h .x);
+          y = axis-near (t .low .y .v) (t .high .y .v) (p .y .v) (by .y .v) (both-right x y (both-left (x && y) z e)) (l .y) (h .y);
+          z = axis-near (t .low .z .v) (t .high .z .v) (p .z .v) (by .z .v) (both-right (x && y) z e) (l .z) (h .z);
+        }
+
+    -- it can be moved by the common offset
+    pub inside-sums : (Near (2 ^ 61) (bed .offset)) × (Near (2 ^ 61) p)
+    inside-sums = omega (arith, fair .offset, near-inside)
+
+-- a value that stands, or else one that held before
+or-else-near : (n : ℕ) (g : Given) (other : Len) → Within n (g .v .v) → Within n (other .v) → Within n (orElse g other .v)
+unfolding orElse
+or-else-near n g other h k = elim (g .stands) as (λ t. Within n ((if t then g .v else other) .v)) [ true ↦ h | false ↦ k ]
+
+-- ---- the centre of an arc
+
+module _ (by p : Point) where
+  -- a point moved by numbers within a bound is that near on the two axes of a plane
+  moved-reach : {n : ℕ} → Near n by → (plane : Plane) → Reach n (flat plane (moved by p)) (flat plane p)
+  unfolding moved flat
+  moved-reach h G17 = omega (arith, sum-bal (p .x .v) (by .x .v), sum-bal (p .y .v) (by .y .v))
+  moved-reach h G18 = omega (arith, sum-bal (p .z .v) (by .z .v), sum-bal (p .x .v) (by .x .v))
+  moved-reach h G19 = omega (arith, sum-bal (p .y .v) (by .y .v), sum-bal (p .z .v) (by .z .v))
+
+  -- two points near the machine's zero are near each other, whatever the common offset
+  near-beside : (q : Point) → Near 100_000_000 (moved by p) → Near 100_000_000 (moved by q) → Beside 200_000_000 p q
+  unfolding moved
+  near-beside q h k =
+      omega (
+        arith,
+        sum-bal (p .x .v) (by .x .v),
+        sum-bal (p .y .v) (by .y .v),
+        sum-bal (p .z .v) (by .z .v),
+        sum-bal (q .x .v) (by .x .v),
+        sum-bal (q .y .v) (by .y .v),
+        sum-bal (q .z .v) (by .z .v),
+      )
+
+  axis-centre : (a w o : ℤ) → Within 1_000_000_000 w → Within 100_000_000 (a +ℤ o) → Within 1_100_000_000 (a +ℤ w +ℤ o)
+  axis-centre a w o h k = omega (arith, sum-bal a o, sum-bal a w, sum-bal (a +ℤ w) o)
+
+  -- a point of the machine displaced by centre words
+  module _ (words : Point) (h : Near 1_000_000_000 words) (k : Near 100_000_000 (moved by p)) where
+    centre-first : (plane : Plane) → Within 1_100_000_000 (flat plane (moved words p) .first .v +ℤ flat plane by .first .v)
+    unfolding moved flat
+    centre-first G17 = axis-centre (p .x .v) (words .x .v) (by .x .v) (h .x) (k .x)
+    centre-first G18 = axis-centre (p .z .v) (words .z .v) (by .z .v) (h .z) (k .z)
+    centre-first G19 = axis-centre (p .y .v) (words .y .v) (by .y .v) (h .y) (k .y)
+
+    centre-second : (plane : Plane) → Within 1_100_000_000 (flat plane (moved words p) .second .v +ℤ flat plane by .second .v)
+    unfolding moved flat
+    centre-second G17 = axis-centre (p .y .v) (words .y .v) (by .y .v) (h .y) (k .y)
+    centre-second G18 = axis-centre (p .x .v) (words .x .v) (by .x .v) (h .x) (k .x)
+    centre-second G19 = axis-centre (p .z .v) (words .z .v) (by .z .v) (h .z) (k .z)
+
+-- ---- what a motion leads from
+
+module _ (bed : Bed) (s : State) (b : Said) where
+  abbrev origin : Point
+  origin = originAt bed (b .modes .origin)
+
+  abbrev w : State
+  w = working s b
+
+  abbrev arc : Arc
+  arc = arcFor w origin (b .values)
+
+  abbrev hole : Cycle → Hole
+  hole cycle = holeOf cycle w origin (b .values)
+
+  module _ (steady : Steady bed s b) where
+    pub from-inside : inside (bed .travel) (w .at) ≡ true
+    unfolding working
+    from-inside = steady .state .at
+
+    pub feed-near : Within 1_000_000_000 (w .feed .v)
+    unfolding working
+    feed-near = or-else-near 1_000_000_000 (b .values .f) (s .feed) (steady .said .sizes .f) (steady .state .feed)
+
+    pub speed-near : Within 99_999 (w .speed .v)
+    unfolding working
+    speed-near = or-else-near 99_999 (b .values .s) (s .speed) (steady .said .sizes .s) (steady .state .speed)
+
+    pub aims : Aims origin (w .at) (b .values)
+    aims =
+        record {
+          origin = steady .fair .origins (b .modes .origin);
+          from = near-inside bed (steady .fair) (w .at) from-inside;
+          x = steady .said .sizes .x;
+          y = steady .said .sizes .y;
+          z = steady .said .sizes .z;
+        }
+
+    -- where the words lead can be moved by the common offset, inside the travel or not
+    pub target-sums : (Near (2 ^ 61) (bed .offset)) × (Near (2 ^ 61) (target (w .modes .distance) origin (w .at) (b .values)))
+    target-sums = omega (arith, steady .fair .offset, target-near (w .modes .distance) origin (w .at) (b .values) aims)
+
+    pub holes : Holes origin (w .at) (b .values)
+    holes = record { aims = aims; r = steady .said .sizes .r }
+
+    pub passing : (cycle : Cycle) → b .code ≡ Moving (Drilling cycle) → Passing (bed .travel) origin (w .at) (b .values)
+    passing cycle e =
+        record {
+          low = low-near bed (steady .fair);
+          high = high-near bed (steady .fair);
+          aims = aims;
+          k = steady .said .sizes .count cycle e;
+        }
+
+    module _ (cycle : Cycle) (e : b .code ≡ Moving (Drilling cycle)) where
+      pub hole-feed : Short (hole cycle .feed .v)
+      unfolding holeOf
+      hole-feed = omega (arith, feed-near)
+
+      pub hole-dwell : Short (hole cycle .dwell .v .v)
+      unfolding holeOf
+      hole-dwell = omega (arith, steady .said .sizes .moving (Drilling cycle) e)
+
+      pub puts :
+          staysIn (bed .travel) (w .at) (passes (hole cycle) (w .modes .distance) origin (w .at) (b .values)) ≡ true
+          → Puts (bed .offset) (hole cycle) (w .modes .distance) origin (w .at) (b .values)
+      puts stays =
+          record {
+            travel = bed .travel;
+            frame = framed bed (steady .fair);
+            passing = passing cycle e;
+            stays = stays;
+            feed = hole-feed;
+            dwell = hole-dwell;
+          }
+
+    -- the start can be moved by the centre words
+    words-near : Near 1_000_000_000 (centreWords (b .values))
+    unfolding centreWords
+    words-near = record { x = steady .said .sizes .i; y = steady .said .sizes .j; z = steady .said .sizes .k }
+
+    pub centre-sums : (Near (2 ^ 61) (centreWords (b .values))) × (Near (2 ^ 61) (w .at))
+    centre-sums = omega (arith, words-near, aims .from)
+
+    from-machine : Near 100_000_000 (moved (bed .offset) (w .at))
+    from-machine = near-machine bed (steady .fair) (w .at) from-inside
+
+    pub bounds : Bounds (bed .travel) (w .at) arc
+    unfolding arcFor
+    bounds =
+        let t = bed .travel in
+        let by = bed .offset in
+        record {
+          centre = moved-reach (centreWords (b .values)) (w .at) words-near (w .modes .plane);
+          low = near-beside by (t .low) (w .at) (steady .fair .low) from-machine;
+          high = near-beside by (t .high) (w .at) (steady .fair .high) from-machine;
+        }
+
+    -- the centre in machine units
+    pub first-near : Within 1_100_000_000 (arcMoved (bed .offset) arc .first .v)
+    unfolding arcMoved arcFor
+    first-near = centre-first (bed .offset) (w .at) (centreWords (b .values)) words-near from-machine (w .modes .plane)
+
+    pub second-near : Within 1_100_000_000 (arcMoved (bed .offset) arc .second .v)
+    unfolding arcMoved arcFor
+    second-near = centre-second (bed .offset) (w .at) (centreWords (b .values)) words-near from-machine (w .modes .plane)
+
+    -- refusal 16 never comes in a state that a run can reach
+    pub fits-always : centreFits (pathOf (recordMoved (bed .offset) (AR arc))) ≡ true
+    unfolding centreFits pathOf recordMoved
+    fits-always = ap₂ _&&_ (short-four (arcMoved (bed .offset) arc .first .v) (omega (arith, first-near))) (short-four (arcMoved (bed .offset) arc .second .v) (omega (arith, second-near)))
+
+    pub left-fits-always : centreFits (pathOf (recordMoved (bed .offset) (AL arc))) ≡ true
+    unfolding centreFits pathOf recordMoved
+    left-fits-always = fits-always
