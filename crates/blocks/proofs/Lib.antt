@@ -1,3 +1,4 @@
 pub mod Opened
 pub mod Meaning
 pub mod Nearness
+pub mod Shortness

@@ -1,0 +1,190 @@
+-- The numbers of a block's records fit four bytes in machine units: a point's since it is inside the travel, all others by their
+-- own limits. Assumes nothing.
+use mathlib.Core.Path.{_≡_, refl, ap₂}
+use mathlib.Core.Bool.{Bool, true, _&&_}
+use mathlib.Core.List.{List, [], _∷_, _++_, map}
+use native.Mathlib.Omega.{arith}
+use Rattle.terms.specs.Terms.{all}
+use Rattle.terms.proofs.Laws.{both-left, both-right}
+use Rattle.lengths.specs.declared.Len.{Len}
+use Rattle.lengths.specs.View.{Within, Short}
+use Rattle.lengths.proofs.Four.{short-four}
+use Rattle.points.specs.declared.Point.{Point}
+use Rattle.points.specs.declared.Flat.{Flat}
+use Rattle.points.specs.declared.Travel.{Travel}
+use Rattle.points.specs.Points.{moved, flat, inside}
+use Rattle.points.specs.Near.{Near}
+use Rattle.records.specs.declared.Arc.{Arc}
+use Rattle.records.specs.declared.Record.{Record}
+use Rattle.records.specs.declared.Record.the-variants.{RP, LN, AR, AL, DW, SP, SO, PA, EN}
+use Rattle.records.specs.Layout.{pointNumbers, arcNumbers, numbersOf}
+use Rattle.records.specs.Path.{Path, straight, clockwise, counter, still, pathOf, pathEnd, endOf, pathStaysIn, arcMoved, recordMoved}
+use Rattle.records.specs.Writing.{AllShort, ListShort}
+use Rattle.setup.specs.declared.Bed.{Bed}
+use Rattle.setup.specs.Frame.{originAt}
+use Rattle.setup.specs.Fair.{Fair}
+use Rattle.settings.specs.declared.State.{State}
+use Rattle.arcs.specs.Arcs.{centreOf, radius², extremesInside, leftWay, rightWay, arcStays, pathStays, centreFits}
+use Rattle.blocks.specs.Machine.{machineOf}
+use Rattle.blocks.specs.declared.Said.{Said}
+use Rattle.blocks.specs.Motions.{arcFor}
+use Rattle.blocks.specs.Exec.{working}
+use Rattle.blocks.specs.Reach.{Steady}
+use Rattle.blocks.proofs.Nearness.{near-machine, feed-near, first-near, second-near}
+
+-- the three numbers of a point near the machine's zero, with more after them
+point-short : (p : Point) (ns : List Len) → Near 100_000_000 p → AllShort ns → AllShort (pointNumbers p ns)
+point-short p ns h more = (omega arith, (omega arith, (omega arith, more)))
+
+-- ---- by the numbers that the travel does not bound
+
+-- of an arc: the centre in machine units, and the feed
+pub record ArcShort (by : Point) (a : Arc) : Type 0 where
+  pub first : Short (arcMoved by a .first .v)
+  pub second : Short (arcMoved by a .second .v)
+  pub feed : Short (a .feed .v)
+
+abbrev pub OthersShort : Point → Record → Type 0
+OthersShort by (RP p) = Unit
+OthersShort by (LN p feed) = Short (feed .v)
+OthersShort by (AR a) = ArcShort by a
+OthersShort by (AL a) = ArcShort by a
+OthersShort by (DW ms) = Short (ms .v)
+OthersShort by (SP speed) = Short (speed .v)
+OthersShort by SO = Unit
+OthersShort by PA = Unit
+OthersShort by EN = Unit
+
+abbrev pub AllOthers : Point → List Record → Type 0
+AllOthers by [] = Unit
+AllOthers by (r ∷ rs) = OthersShort by r × AllOthers by rs
+
+pub others-both : (by : Point) (a b : List Record) → AllOthers by a → AllOthers by b → AllOthers by (a ++ b)
+others-both by [] b h k = k
+others-both by (r ∷ a) b h k = (h .0, others-both by a b (h .1) k)
+
+-- a centre that fits is never refused with 16
+module _ (bed : Bed) where
+  one-fits : (r : Record) → OthersShort (bed .offset) r → machineOf bed .fits r ≡ true
+  unfolding machineOf centreFits pathOf recordMoved
+  one-fits (RP p) h = refl
+  one-fits (LN p feed) h = refl
+  one-fits (AR a) h = ap₂ _&&_ (short-four (arcMoved (bed .offset) a .first .v) (h .first)) (short-four (arcMoved (bed .offset) a .second .v) (h .second))
+  one-fits (AL a) h = ap₂ _&&_ (short-four (arcMoved (bed .offset) a .first .v) (h .first)) (short-four (arcMoved (bed .offset) a .second .v) (h .second))
+  one-fits (DW ms) h = refl
+  one-fits (SP speed) h = refl
+  one-fits SO h = refl
+  one-fits PA h = refl
+  one-fits EN h = refl
+
+  pub all-fit : (rs : List Record) → AllOthers (bed .offset) rs → all (machineOf bed .fits) rs ≡ true
+  unfolding all
+  all-fit [] h = refl
+  all-fit (r ∷ rs) h = ap₂ _&&_ (one-fits r (h .0)) (all-fit rs (h .1))
+
+-- ---- a path that stays ends inside
+
+module _ (t : Travel) (from : Point) where
+  arc-ends : (way : Point → Arc → Flat → Bool) (a : Arc) → arcStays way t from a ≡ true → inside t (a .end) ≡ true
+  unfolding arcStays
+  arc-ends way a e =
+      both-left (inside t (a .end))
+      (extremesInside (way from a) (centreOf a) (radius² from a) (flat (a .plane) (t .low)) (flat (a .plane) (t .high))) e
+
+  path-ends : (path : Path) → inside t from ≡ true → pathStays t from path ≡ true → inside t (pathEnd from path) ≡ true
+  unfolding pathStays pathEnd
+  path-ends (straight p) h e = e
+  path-ends (clockwise a) h e = arc-ends rightWay a e
+  path-ends (counter a) h e = arc-ends leftWay a e
+  path-ends still h e = h
+
+module _ (bed : Bed) where
+  pub stays-inside :
+      (from : Point) (rs : List Record) → inside (bed .travel) from ≡ true → pathStaysIn (machineOf bed .stays) from rs ≡ true
+      → inside (bed .travel) (endOf from rs) ≡ true
+  unfolding pathStaysIn endOf machineOf
+  stays-inside from [] h e = h
+  stays-inside from (r ∷ rs) h e =
+      let next = pathEnd from (pathOf r) in
+      let now = pathStays (bed .travel) from (pathOf r) in
+      let rest = pathStaysIn (machineOf bed .stays) next rs in
+      stays-inside next rs (path-ends (bed .travel) from (pathOf r) h (both-left now rest e)) (both-right now rest e)
+
+  -- ---- and its numbers are short
+
+  module _ (fair : Fair bed) where
+    inside-short : (p : Point) (ns : List Len) → inside (bed .travel) p ≡ true → AllShort ns → AllShort (pointNumbers (moved (bed .offset) p) ns)
+    inside-short p ns e more = point-short (moved (bed .offset) p) ns (near-machine bed fair p e) more
+
+    arc-numbers : (a : Arc) → inside (bed .travel) (a .end) ≡ true → ArcShort (bed .offset) a → AllShort (arcNumbers (arcMoved (bed .offset) a))
+    unfolding arcMoved
+    arc-numbers a e h =
+        let m = arcMoved (bed .offset) a in
+        inside-short (a .end) (m .first ∷ m .second ∷ m .feed ∷ []) e (h .first, (h .second, (h .feed, tt)))
+
+    pub record-short :
+        (from : Point) (r : Record) → machineOf bed .stays from r ≡ true → OthersShort (bed .offset) r
+        → AllShort (numbersOf (recordMoved (bed .offset) r))
+    unfolding machineOf pathStays pathOf numbersOf recordMoved
+    record-short from (RP p) e h = inside-short p [] e tt
+    record-short from (LN p feed) e h = inside-short p (feed ∷ []) e (h, tt)
+    record-short from (AR a) e h = arc-numbers a (arc-ends (bed .travel) from rightWay a e) h
+    record-short from (AL a) e h = arc-numbers a (arc-ends (bed .travel) from leftWay a e) h
+    record-short from (DW ms) e h = (h, tt)
+    record-short from (SP speed) e h = (h, tt)
+    record-short from SO e h = tt
+    record-short from PA e h = tt
+    record-short from EN e h = tt
+
+    pub records-short :
+        (from : Point) (rs : List Record) → pathStaysIn (machineOf bed .stays) from rs ≡ true → AllOthers (bed .offset) rs
+        → ListShort (map (recordMoved (bed .offset)) rs)
+    unfolding pathStaysIn
+    records-short from [] e h = tt
+    records-short from (r ∷ rs) e h =
+        let next = pathEnd from (pathOf r) in
+        let now = machineOf bed .stays from r in
+        let rest = pathStaysIn (machineOf bed .stays) next rs in
+        (record-short from r (both-left now rest e) (h .0), records-short next rs (both-right now rest e) (h .1))
+
+    -- ---- each record that a block makes
+
+    pub rapid-short : (p : Point) → inside (bed .travel) p ≡ true → AllShort (numbersOf (recordMoved (bed .offset) (RP p)))
+    unfolding numbersOf recordMoved
+    rapid-short p e = inside-short p [] e tt
+
+    pub cut-short :
+        (p : Point) (feed : Len) → inside (bed .travel) p ≡ true → Within 1_000_000_000 (feed .v)
+        → AllShort (numbersOf (recordMoved (bed .offset) (LN p feed)))
+    unfolding numbersOf recordMoved
+    cut-short p feed e h = inside-short p (feed ∷ []) e (omega arith, tt)
+
+pub dwell-short : (by : Point) (ms : Len) → Within 3_600_000 (ms .v) → AllShort (numbersOf (recordMoved by (DW ms)))
+unfolding numbersOf recordMoved
+dwell-short by ms h = (omega arith, tt)
+
+pub speed-short : (by : Point) (speed : Len) → Within 99_999 (speed .v) → AllShort (numbersOf (recordMoved by (SP speed)))
+unfolding numbersOf recordMoved
+speed-short by speed h = (omega arith, tt)
+
+module _ (bed : Bed) (s : State) (b : Said) where
+  abbrev arc : Arc
+  arc = arcFor (working s b) (originAt bed (b .modes .origin)) (b .values)
+
+  module _ (steady : Steady bed s b) where
+    pub arc-others : ArcShort (bed .offset) arc
+    unfolding arcFor
+    arc-others =
+        record {
+          first = omega (arith, first-near bed s b steady);
+          second = omega (arith, second-near bed s b steady);
+          feed = omega (arith, feed-near bed s b steady);
+        }
+
+    pub arc-short : inside (bed .travel) (arc .end) ≡ true → AllShort (numbersOf (recordMoved (bed .offset) (AR arc)))
+    unfolding numbersOf recordMoved
+    arc-short e = arc-numbers bed (steady .fair) arc e arc-others
+
+    pub left-arc-short : inside (bed .travel) (arc .end) ≡ true → AllShort (numbersOf (recordMoved (bed .offset) (AL arc)))
+    unfolding numbersOf recordMoved
+    left-arc-short e = arc-numbers bed (steady .fair) arc e arc-others
