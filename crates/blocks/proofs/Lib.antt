@@ -2,3 +2,4 @@ pub mod Opened
 pub mod Meaning
 pub mod Nearness
 pub mod Shortness
+pub mod Making

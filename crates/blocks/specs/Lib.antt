@@ -2,4 +2,5 @@ pub mod Machine
 pub mod Motions
 pub mod Exec
 pub mod Reach
+pub mod Keeping
 pub mod Doing

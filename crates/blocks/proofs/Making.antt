@@ -1,0 +1,167 @@
+-- The records that a whole block makes, and the state that it leaves. Assumes nothing.
+use Prim.Native.Nat.{ℕ, zero, suc}
+use mathlib.Core.Path.{_≡_, refl}
+use mathlib.Core.Bool.{Bool, true, false, _&&_, _||_}
+use mathlib.Core.List.{List, [], _∷_, _++_, map}
+use native.Mathlib.Omega.{arith}
+use Rattle.terms.specs.Terms.{if_then_else_, all}
+use Rattle.lengths.specs.declared.Len.{Len}
+use Rattle.lengths.specs.View.{Short}
+use Rattle.codes.specs.declared.Cycle.{Cycle}
+use Rattle.codes.specs.declared.Cycle.the-variants.{G81, G82, G85, G89}
+use Rattle.codes.specs.declared.Misc.{Misc}
+use Rattle.codes.specs.declared.Motion.{Motion}
+use Rattle.codes.specs.declared.Motion.the-variants.{Off, G00, G01, G02, G03, Drilling}
+use Rattle.codes.specs.declared.Return.{Return}
+use Rattle.codes.specs.declared.Return.the-variants.{ToInitial, ToR}
+use Rattle.codes.specs.Codes.{isM, endsProgram}
+use Rattle.words.specs.declared.Values.{Values}
+use Rattle.points.specs.declared.Point.{Point}
+use Rattle.points.specs.Points.{atHeight}
+use Rattle.records.specs.declared.Record.{Record}
+use Rattle.records.specs.declared.Record.the-variants.{RP, LN, AR, AL, DW, SP, SO, PA, EN}
+use Rattle.records.specs.Path.{pathStaysIn, recordMoved}
+use Rattle.records.specs.Writing.{ListShort}
+use Rattle.setup.specs.declared.Bed.{Bed}
+use Rattle.setup.specs.Frame.{originAt}
+use Rattle.settings.specs.declared.State.{State}
+use Rattle.settings.specs.Target.{target}
+use Rattle.cycles.specs.declared.Hole.{Hole}
+use Rattle.cycles.specs.Cycles.{holeOf, returnLevel, dwelling, upUnder, leaving, passTo, passesAt, passCount, passes}
+use Rattle.letters.specs.declared.BlockCode.{BlockCode}
+use Rattle.letters.specs.declared.BlockCode.the-variants.{Calling, Returning, Dwelling, Moving}
+use Rattle.blocks.specs.declared.Said.{Said}
+use Rattle.blocks.specs.Machine.{machineOf}
+use Rattle.blocks.specs.Motions.{Moves, none, one, endStands, arcStands, arcFor, arcMoves, cycleDone, cycleMoves, motionOf, movesOf}
+use Rattle.blocks.specs.Exec.{working, spindleRecords, movesIn, lastRecords, madeBy, settled}
+use Rattle.blocks.specs.Reach.{Reachable, Steady}
+use Rattle.blocks.proofs.Nearness.{feed-near, speed-near, hole-feed, hole-dwell}
+use Rattle.blocks.proofs.Shortness.{AllOthers, others-both, all-fit, stays-inside, records-short, arc-others}
+
+-- ---- the numbers that the travel does not bound, of each part of a block's records
+
+module _ (by : Point) where
+  either-others : (t : Bool) (a b : List Record) → AllOthers by a → AllOthers by b → AllOthers by (if t then a else b)
+  either-others true a b h k = h
+  either-others false a b h k = k
+
+  either-moves : (t : Bool) (a b : Moves) → AllOthers by (a .records) → AllOthers by (b .records) → AllOthers by ((if t then a else b) .records)
+  either-moves true a b h k = h
+  either-moves false a b h k = k
+
+  last-others : (m : Misc) → AllOthers by (lastRecords m)
+  unfolding lastRecords
+  last-others m =
+      either-others (isM 5 m) (SO ∷ []) (if isM 0 m then PA ∷ [] else if endsProgram m then EN ∷ [] else []) (tt, tt)
+      (either-others (isM 0 m) (PA ∷ []) (if endsProgram m then EN ∷ [] else []) (tt, tt)
+      (either-others (endsProgram m) (EN ∷ []) [] (tt, tt) tt))
+
+  module _ (h : Hole) (feed : Short (h .feed .v)) (dwell : Short (h .dwell .v .v)) where
+    dwelling-others : AllOthers by (dwelling (h .dwell))
+    unfolding dwelling
+    dwelling-others = either-others (h .dwell .stands) (DW (h .dwell .v) ∷ []) [] (dwell, tt) tt
+
+    up-others : (p : Point) (back : Return) → AllOthers by (upUnder back h p)
+    unfolding upUnder
+    up-others p ToInitial = (tt, tt)
+    up-others p ToR = tt
+
+    leaving-others : (p : Point) (cycle : Cycle) → AllOthers by (leaving cycle h p)
+    unfolding leaving
+    leaving-others p G81 = (tt, tt)
+    leaving-others p G82 = (tt, tt)
+    leaving-others p G85 = (feed, up-others p (h .back))
+    leaving-others p G89 = (feed, up-others p (h .back))
+
+    pass-others : (level : Len) (p : Point) → AllOthers by (passTo h level p)
+    unfolding passTo
+    pass-others level p =
+        either-others (h .z .stands)
+        (RP (atHeight p level) ∷ RP (atHeight p (h .r)) ∷ LN (atHeight p (h .z .v)) (h .feed) ∷ dwelling (h .dwell) ++ leaving (h .cycle) h p)
+        (RP (atHeight p (h .initial)) ∷ [])
+        (tt, (tt, (feed, others-both by (dwelling (h .dwell)) (leaving (h .cycle) h p) dwelling-others (leaving-others p (h .cycle)))))
+        (tt, tt)
+
+    passes-others : (k : ℕ) (next : Point → Point) (level : Len) (p : Point) → AllOthers by (passesAt k h next level p)
+    unfolding passesAt
+    passes-others zero next level p = tt
+    passes-others (suc k) next level p =
+        others-both by (passTo h level (next p)) (passesAt k h next (returnLevel h) (next p)) (pass-others level (next p))
+        (passes-others k next (returnLevel h) (next p))
+
+module _ (bed : Bed) (s : State) (b : Said) where
+  abbrev by : Point
+  by = bed .offset
+
+  abbrev origin : Point
+  origin = originAt bed (b .modes .origin)
+
+  abbrev w : State
+  w = working s b
+
+  abbrev v : Values
+  v = b .values
+
+  abbrev made : List Record
+  made = madeBy (machineOf bed) s b
+
+  module _ (steady : Steady bed s b) where
+    spindle-others : AllOthers by (spindleRecords s b)
+    unfolding spindleRecords
+    spindle-others =
+        either-others by (s .turning && v .s .stands || isM 3 (b .misc)) (SP (w .speed) ∷ []) []
+        (omega (arith, speed-near bed s b steady), tt) tt
+
+    cycle-others : (cycle : Cycle) → b .code ≡ Moving (Drilling cycle) → AllOthers by (cycleMoves cycle w origin v .records)
+    unfolding cycleMoves passes
+    cycle-others cycle e =
+        let h = holeOf cycle w origin v in
+        passes-others by h (hole-feed bed s b steady cycle e) (hole-dwell bed s b steady cycle e) (passCount (v .k))
+        (λ p. target (w .modes .distance) origin p v) (h .initial) (w .at)
+
+    motion-others : (motion : Motion) → b .code ≡ Moving motion → AllOthers by (motionOf motion (b .named) w origin v .records)
+    unfolding motionOf arcMoves
+    motion-others Off e = tt
+    motion-others G00 e = either-moves by (endStands v) (one (RP (target (w .modes .distance) origin (w .at) v))) none (tt, tt) tt
+    motion-others G01 e =
+        either-moves by (endStands v) (one (LN (target (w .modes .distance) origin (w .at) v) (w .feed))) none
+        (omega (arith, feed-near bed s b steady), tt) tt
+    motion-others G02 e =
+        let a = arcFor w origin v in
+        either-moves by (arcStands v) (arcMoves AR w a) none (arc-others bed s b steady, tt) tt
+    motion-others G03 e =
+        let a = arcFor w origin v in
+        either-moves by (arcStands v) (arcMoves AL w a) none (arc-others bed s b steady, tt) tt
+    motion-others (Drilling cycle) e =
+        either-moves by (cycleDone (b .named) v) (cycleMoves cycle w origin v) none (cycle-others cycle e) tt
+
+    code-others : (code : BlockCode) → b .code ≡ code → AllOthers by (movesOf code (b .named) w origin v .records)
+    unfolding movesOf
+    code-others Calling e = tt
+    code-others Returning e = tt
+    code-others Dwelling e = (omega (arith, steady .said .sizes .dwell e), tt)
+    code-others (Moving motion) e = motion-others motion e
+
+    made-others : AllOthers by made
+    unfolding madeBy movesIn machineOf
+    made-others =
+        let moves = movesIn (machineOf bed) s b .records in
+        others-both by (spindleRecords s b ++ moves) (lastRecords (b .misc))
+        (others-both by (spindleRecords s b) moves spindle-others (code-others (b .code) refl)) (last-others by (b .misc))
+
+    pub made-fits : all (machineOf bed .fits) made ≡ true
+    made-fits = all-fit bed made made-others
+
+    module _ (stays : pathStaysIn (machineOf bed .stays) (s .at) made ≡ true) where
+      pub made-short : ListShort (map (recordMoved by) made)
+      made-short = records-short bed (steady .fair) (s .at) made stays made-others
+
+      pub kept : Reachable bed (settled (machineOf bed) s b)
+      unfolding settled
+      kept =
+          record {
+            at = stays-inside bed (s .at) made (steady .state .at) stays;
+            origin = steady .said .origin;
+            feed = feed-near bed s b steady;
+            speed = speed-near bed s b steady;
+          }
