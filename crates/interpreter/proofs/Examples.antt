@@ -1,7 +1,8 @@
 -- What the rules give for the sample of document 01 and for small runs, by computation.
 use mathlib.Core.Path.{_≡_, refl}
 use mathlib.Core.List.{map}
-use Rattle.interpreter.specs.Examples.{setupT, roomT, sample, sampleRecords, rows, answerOfRow}
+use Rattle.setup.specs.Examples.{setupT}
+use Rattle.interpreter.specs.Examples.{roomT, sample, sampleRecords, rows, answerOfRow}
 use Rattle.interpreter.specs.Run.{answerOf, recordsOf}
 use Rattle.interpreter.specs.declared.Answer.the-variants.{Done}
 use Rattle.interpreter.specs.declared.Budget.the-variants.{Whole}

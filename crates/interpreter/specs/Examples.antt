@@ -1,5 +1,5 @@
--- Document 01, "Numbers to try": setup T, the sample of seven blocks with its list, and small runs of which the answer is
--- known.
+-- Document 01, "Numbers to try": the sample of seven blocks with its list, and small runs of which the answer is known,
+-- under setup T.
 use Prim.Native.Nat.{ℕ}
 use Prim.Native.String.{String}
 use mathlib.Core.List.{List, [], _∷_}
@@ -17,8 +17,7 @@ use Rattle.refusals.specs.declared.Refusal.the-variants.{
   NoEnd,
 }
 use Rattle.points.specs.declared.Point.{Point}
-use Rattle.setup.specs.declared.Axes.{Axes}
-use Rattle.setup.specs.declared.Setup.{Setup}
+use Rattle.setup.specs.Examples.{setupT}
 use Rattle.records.specs.declared.Record.{Record}
 use Rattle.records.specs.declared.Record.the-variants.{RP, LN, SP, SO, EN}
 use Rattle.interpreter.specs.Run.{answerOf}
@@ -27,30 +26,7 @@ use Rattle.interpreter.specs.declared.Answer.the-variants.{Done, Unfinis
 use Rattle.interpreter.specs.declared.Budget.{Budget}
 use Rattle.interpreter.specs.declared.Budget.the-variants.{Whole, First}
 
-abbrev axes : ℤ → ℤ → ℤ → Axes
-axes x y z = record { x = x; y = y; z = z }
-
-abbrev nought : Axes
-nought = axes (pos 0) (pos 0) (pos 0)
-
--- "Setup T: travel X 0 to 20,000,000, Y 0 to 15,000,000, Z −6,000,000 to 0; start 0 0 0; EXOFS 0; G54 at 1,000,000 1,000,000
--- −4,000,000, others 0; feed 30,000,000; speeds 3000 to 8000, speed 5000; switch off; list room 4,096 bytes."
-abbrev pub setupT : Setup
-setupT =
-    record {
-      low = axes (pos 0) (pos 0) (negsuc 5_999_999);
-      high = axes (pos 20_000_000) (pos 15_000_000) (pos 0);
-      start = nought;
-      exofs = nought;
-      origins =
-          axes (pos 1_000_000) (pos 1_000_000) (negsuc 3_999_999) ∷ nought ∷ nought ∷ nought ∷ nought ∷ nought ∷ [];
-      feed = pos 30_000_000;
-      lowest = pos 3_000;
-      highest = pos 8_000;
-      speed = pos 5_000;
-      skip = pos 0;
-    }
-
+-- setup T's "list room 4,096 bytes"
 abbrev pub roomT : ℕ
 roomT = 4_096
 

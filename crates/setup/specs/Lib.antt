@@ -1,3 +1,4 @@
 pub mod Limits
 pub mod Frame
 pub mod Fair
+pub mod Examples
