@@ -2,6 +2,11 @@
 use lengths::Len;
 use points::Point;
 use points::Travel;
+ghost use mathlib.Core.Path.{_≡_};
+ghost use Rattle.terms.specs.Terms.{all, between, within};
+ghost use Rattle.lengths.specs.Units.{len};
+ghost use Rattle.setup.specs.Limits.{axisFits, travelFits, axesWithin, offsetsFit, feedFits, speedsFit, switchFits, validSetup};
+ghost use Rattle.setup.specs.Frame.{pointOf};
 
 // One number for each axis.
 pub struct Axes {
@@ -30,4 +35,138 @@ pub struct Bed {
     pub origins: [Point; 6],
     pub lowest: Len,
     pub highest: Len,
+}
+
+// The numbers of three axes as lengths, so that what follows compares no raw number.
+fn point_of(a: Axes) -> Point
+    ensures { λ r. ⌜ r ≡ pointOf a ⌝ }
+{
+    Point {
+        x: Len::of(a.x),
+        y: Len::of(a.y),
+        z: Len::of(a.z),
+    }
+}
+
+fn is_within(n: u64, v: Len) -> bool
+    ensures { λ r. ⌜ r ≡ within n (v .v) ⌝ }
+{
+    v.apart(Len::zero()) <= n
+}
+
+fn is_between(low: Len, high: Len, v: Len) -> bool
+    ensures { λ r. ⌜ r ≡ between (low .v) (high .v) (v .v) ⌝ }
+{
+    low.at_most(v) & v.at_most(high)
+}
+
+fn axis_fits(low: Len, high: Len, start: Len) -> bool
+    ensures { λ r. ⌜ r ≡ axisFits (low .v) (high .v) (start .v) ⌝ }
+{
+    low.at_most(high)
+        & is_within(100_000_000, low)
+        & is_within(100_000_000, high)
+        & is_between(low, high, start)
+}
+
+fn travel_fits(s: Setup) -> bool
+    ensures { λ r. ⌜ r ≡ travelFits s ⌝ }
+{
+    let low = point_of(s.low);
+    let high = point_of(s.high);
+    let start = point_of(s.start);
+    axis_fits(low.x, high.x, start.x)
+        & axis_fits(low.y, high.y, start.y)
+        & axis_fits(low.z, high.z, start.z)
+}
+
+fn axes_within(n: u64, a: Axes) -> bool
+    ensures { λ r. ⌜ r ≡ axesWithin n a ⌝ }
+{
+    let p = point_of(a);
+    is_within(n, p.x) & is_within(n, p.y) & is_within(n, p.z)
+}
+
+fn origins_fit(origins: [Axes; 6]) -> bool
+    ensures { λ r. ⌜ r ≡ all (axesWithin 1_000_000_000) origins ⌝ }
+{
+    let mut i = 0;
+    while i < 6 {
+        let origin = origins[i];
+        if !axes_within(1_000_000_000, origin) {
+            return false;
+        }
+        i += 1;
+    }
+    true
+}
+
+fn offsets_fit(s: Setup) -> bool
+    ensures { λ r. ⌜ r ≡ offsetsFit s ⌝ }
+{
+    let origins = s.origins;
+    axes_within(1_000_000_000, s.exofs) & origins_fit(origins)
+}
+
+// The five numbers that belong to no axis, as lengths.
+pub fn feed_of(s: Setup) -> Len
+    ensures { λ r. ⌜ r ≡ len (s .feed) ⌝ }
+{
+    Len::of(s.feed)
+}
+
+pub fn speed_of(s: Setup) -> Len
+    ensures { λ r. ⌜ r ≡ len (s .speed) ⌝ }
+{
+    Len::of(s.speed)
+}
+
+fn lowest_of(s: Setup) -> Len
+    ensures { λ r. ⌜ r ≡ len (s .lowest) ⌝ }
+{
+    Len::of(s.lowest)
+}
+
+fn highest_of(s: Setup) -> Len
+    ensures { λ r. ⌜ r ≡ len (s .highest) ⌝ }
+{
+    Len::of(s.highest)
+}
+
+fn switch_of(s: Setup) -> Len
+    ensures { λ r. ⌜ r ≡ len (s .skip) ⌝ }
+{
+    Len::of(s.skip)
+}
+
+fn feed_fits(s: Setup) -> bool
+    ensures { λ r. ⌜ r ≡ feedFits s ⌝ }
+{
+    is_between(Len::of_count(1), Len::of_count(1_000_000_000), feed_of(s))
+}
+
+fn speeds_fit(s: Setup) -> bool
+    ensures { λ r. ⌜ r ≡ speedsFit s ⌝ }
+{
+    let one = Len::of_count(1);
+    let most = Len::of_count(99_999);
+    let lowest = lowest_of(s);
+    let highest = highest_of(s);
+    is_between(one, most, lowest)
+        & is_between(one, most, highest)
+        & lowest.at_most(highest)
+        & is_between(lowest, highest, speed_of(s))
+}
+
+fn switch_fits(s: Setup) -> bool
+    ensures { λ r. ⌜ r ≡ switchFits s ⌝ }
+{
+    is_between(Len::zero(), Len::of_count(1), switch_of(s))
+}
+
+// Whether the setup keeps every limit of document 01.
+pub fn is_valid(s: Setup) -> bool
+    ensures { λ r. ⌜ r ≡ validSetup s ⌝ }
+{
+    travel_fits(s) & offsets_fit(s) & (feed_fits(s) & speeds_fit(s) & switch_fits(s))
 }

@@ -1,0 +1,25 @@
+-- `setup::point_of` meets its contract: each axis is the number that the i64 holds. Assumes nothing.
+use Rattle.setup.proofs.Raw.{of-raw}
+use borrow.Author.Needs.{needs}
+use Rattle.setup.proofs.point_of.Statement.{statement}
+use Rattle.setup.proofs.point_of.Tie as tie
+
+of-requires : tie.Need-of-requires
+of-requires c κs = search needs
+
+of-requires-2 : tie.Need-of-requires-2
+of-requires-2 c κs = search needs
+
+of-requires-3 : tie.Need-of-requires-3
+of-requires-3 c κs = search needs
+
+returns : tie.Need-returns
+returns c =
+    let a = c .before .before .before .before .before .before .args .a in
+    let x = of-raw (a .x) (c .before .before .before .before .of .result) (search needs) (c .before .before .before .before .of .ensures) in
+    let y = of-raw (a .y) (c .before .before .of2 .result) (search needs) (c .before .before .of2 .ensures) in
+    let z = of-raw (a .z) (c .of3 .result) (search needs) (c .of3 .ensures) in
+    rw (x, y, z)
+
+pub point-of-spec : {M : Type 1} → statement M
+point-of-spec = tie.close (tie.spec of-requires of-requires-2 of-requires-3 returns)

@@ -1,0 +1,47 @@
+-- `setup::travel_fits` meets its contract: an axis at a time. Assumes nothing.
+use Rattle.setup.specs.Limits.{travelFits}
+use borrow.Author.Needs.{needs}
+use Rattle.setup.proofs.travel_fits.Statement.{statement}
+use Rattle.setup.proofs.travel_fits.Tie as tie
+
+point-of-requires : tie.Need-point-of-requires
+point-of-requires c κs = search needs
+
+point-of-requires-2 : tie.Need-point-of-requires-2
+point-of-requires-2 c κs = search needs
+
+point-of-requires-3 : tie.Need-point-of-requires-3
+point-of-requires-3 c κs = search needs
+
+axis-fits-requires : tie.Need-axis-fits-requires
+axis-fits-requires c κs = search needs
+
+axis-fits-requires-2 : tie.Need-axis-fits-requires-2
+axis-fits-requires-2 c κs = search needs
+
+axis-fits-requires-3 : tie.Need-axis-fits-requires-3
+axis-fits-requires-3 c κs = search needs
+
+returns : tie.Need-returns
+unfolding travelFits
+returns c =
+    rw (
+      c .before .before .axis-fits .ensures,
+      c .before .axis-fits2 .ensures,
+      c .axis-fits3 .ensures,
+      c .before .before .before .before .before .point-of .ensures,
+      c .before .before .before .before .point-of2 .ensures,
+      c .before .before .before .point-of3 .ensures,
+    )
+
+pub travel-fits-spec : {M : Type 1} → statement M
+travel-fits-spec =
+    tie.close
+    (tie.spec
+    point-of-requires
+    point-of-requires-2
+    point-of-requires-3
+    axis-fits-requires
+    axis-fits-requires-2
+    axis-fits-requires-3
+    returns)
