@@ -32,7 +32,7 @@ module _ (by : Point) where
       ∙ sym (append-assoc (recordBytes (recordMoved by r)) (movedBytes by a) (movedBytes by b))
 
   -- displaced records take the room that they took
-  moved-kind : (r : Record) → kindOf (recordMoved by r) ≡ kindOf r
+  pub moved-kind : (r : Record) → kindOf (recordMoved by r) ≡ kindOf r
   unfolding recordMoved
   moved-kind (RP p) = refl
   moved-kind (LN p feed) = refl
@@ -49,7 +49,7 @@ module _ (by : Point) where
   moved-room [] = refl
   moved-room (r ∷ rs) = omega (arith, ap kindLength (moved-kind r), moved-room rs)
 
-  put-one :
+  pub put-one :
       {was is : List ℕ} {at next : ℕ} (r : Record)
       → Wrote was at (recordBytes (recordMoved by r)) is next → Wrote was at (movedBytes by (r ∷ [])) is next
   unfolding listBytes

@@ -1,0 +1,4 @@
+pub mod Opened
+pub mod Planning
+pub mod Ways
+pub mod Putting

@@ -1,0 +1,12 @@
+-- `moves::centre_words` meets its contract. Assumes nothing.
+use mathlib.Core.Path.{refl}
+use Rattle.blocks.specs.Motions.{centreWords}
+use Rattle.moves.proofs.centre_words.Statement.{statement}
+use Rattle.moves.proofs.centre_words.Tie as tie
+
+returns : tie.Need-returns
+unfolding centreWords
+returns c = refl
+
+pub centre-words-spec : {M : Type 1} → statement M
+centre-words-spec = tie.close (tie.spec returns)

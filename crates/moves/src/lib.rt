@@ -1,0 +1,183 @@
+// The motion of a block as a plan: it is tested as a whole before a byte of it is written.
+mod testing;
+mod writing;
+
+use codes::Cycle;
+use codes::Motion;
+use cycles::Hole;
+use letters::BlockCode;
+use points::Point;
+use records::Arc;
+use records::Record;
+use settings::State;
+pub use testing::plan_count;
+pub use testing::plan_fits;
+pub use testing::plan_holds;
+pub use testing::plan_room;
+pub use testing::plan_way;
+use words::Values;
+pub use writing::put_plan;
+ghost use mathlib.Core.Path.{_≡_};
+ghost use mathlib.Core.Bool.{Bool};
+ghost use Rattle.codes.specs.declared.Motion.the-variants.{G00, G01, G02, G03, Drilling};
+ghost use Rattle.letters.specs.declared.BlockCode.the-variants.{Moving};
+ghost use Rattle.blocks.specs.Motions.{endStands, centreStands, cycleDone, centreWords, arcFor, motionOf, movesOf};
+ghost use Rattle.moves.specs.Plans.{Plans};
+ghost use Rattle.moves.specs.Needs.{Poised};
+
+// Nothing, one record, or the passes of a hole. Records are in the frame of the common offset.
+pub enum Plan {
+    Rest,
+    Single(Record),
+    Passes(Hole),
+}
+
+// Whether a word of the end stands.
+pub fn end_stands(v: Values) -> bool
+    ensures { λ r. ⌜ r ≡ endStands v ⌝ }
+{
+    let x = v.x;
+    let y = v.y;
+    let z = v.z;
+    x.stands | y.stands | z.stands
+}
+
+// Whether a word of the centre stands.
+pub fn centre_stands(v: Values) -> bool
+    ensures { λ r. ⌜ r ≡ centreStands v ⌝ }
+{
+    let i = v.i;
+    let j = v.j;
+    let k = v.k;
+    i.stands | j.stands | k.stands
+}
+
+// A cycle is done where the block names one, and else where X, Y, Z or R stands.
+pub fn cycle_done(named: bool, v: Values) -> bool
+    ensures { λ r. ⌜ r ≡ cycleDone named v ⌝ }
+{
+    let r = v.r;
+    named | end_stands(v) | r.stands
+}
+
+fn centre_words(v: Values) -> Point
+    ensures { λ r. ⌜ r ≡ centreWords v ⌝ }
+{
+    let i = v.i;
+    let j = v.j;
+    let k = v.k;
+    let x = i.v;
+    let y = j.v;
+    let z = k.v;
+    Point { x, y, z }
+}
+
+// The arc of a block. Its centre lies by the centre's words from the start.
+fn arc_for(code: BlockCode, s: State, origin: Point, v: Values) -> Arc
+    requires { ⌜ Poised code s origin v ⌝ }
+    ensures { λ r. ⌜ r ≡ arcFor s origin v ⌝ }
+{
+    let modes = s.modes;
+    let plane = modes.plane;
+    let d = modes.distance;
+    let at = s.at;
+    let feed = s.feed;
+    let centre = points::in_plane(plane, points::moved(centre_words(v), at));
+    let first = centre.first;
+    let second = centre.second;
+    let end = settings::target_point(d, origin, at, v);
+    Arc {
+        plane,
+        end,
+        first,
+        second,
+        feed,
+    }
+}
+
+fn rapid_plan(s: State, origin: Point, v: Values) -> Plan
+    requires { ⌜ Poised (Moving G00) s origin v ⌝ }
+    ensures { λ p. ⌜ ((named : Bool) → Plans (Moving G00) (motionOf G00 named s origin v) s origin v p) ⌝ }
+{
+    let modes = s.modes;
+    let d = modes.distance;
+    let at = s.at;
+    if end_stands(v) {
+        return Plan::Single(Record::RP(settings::target_point(d, origin, at, v)));
+    }
+    Plan::Rest
+}
+
+fn cut_plan(s: State, origin: Point, v: Values) -> Plan
+    requires { ⌜ Poised (Moving G01) s origin v ⌝ }
+    ensures { λ p. ⌜ ((named : Bool) → Plans (Moving G01) (motionOf G01 named s origin v) s origin v p) ⌝ }
+{
+    let modes = s.modes;
+    let d = modes.distance;
+    let at = s.at;
+    let feed = s.feed;
+    if end_stands(v) {
+        return Plan::Single(Record::LN(settings::target_point(d, origin, at, v), feed));
+    }
+    Plan::Rest
+}
+
+// Without a word of the end and of the centre an arc's code is on and does nothing.
+fn clockwise_plan(s: State, origin: Point, v: Values) -> Plan
+    requires { ⌜ Poised (Moving G02) s origin v ⌝ }
+    ensures { λ p. ⌜ ((named : Bool) → Plans (Moving G02) (motionOf G02 named s origin v) s origin v p) ⌝ }
+{
+    if end_stands(v) | centre_stands(v) {
+        return Plan::Single(Record::AR(arc_for(BlockCode::Moving(Motion::G02), s, origin, v)));
+    }
+    Plan::Rest
+}
+
+fn counter_plan(s: State, origin: Point, v: Values) -> Plan
+    requires { ⌜ Poised (Moving G03) s origin v ⌝ }
+    ensures { λ p. ⌜ ((named : Bool) → Plans (Moving G03) (motionOf G03 named s origin v) s origin v p) ⌝ }
+{
+    if end_stands(v) | centre_stands(v) {
+        return Plan::Single(Record::AL(arc_for(BlockCode::Moving(Motion::G03), s, origin, v)));
+    }
+    Plan::Rest
+}
+
+fn cycle_plan(cycle: Cycle, named: bool, s: State, origin: Point, v: Values) -> Plan
+    requires { ⌜ Poised (Moving (Drilling cycle)) s origin v ⌝ }
+    ensures { λ p. ⌜ Plans (Moving (Drilling cycle)) (motionOf (Drilling cycle) named s origin v) s origin v p ⌝ }
+{
+    if cycle_done(named, v) {
+        return Plan::Passes(cycles::hole_of(cycle, s, origin, v));
+    }
+    Plan::Rest
+}
+
+fn motion_plan(motion: Motion, named: bool, s: State, origin: Point, v: Values) -> Plan
+    requires { ⌜ Poised (Moving motion) s origin v ⌝ }
+    ensures { λ p. ⌜ Plans (Moving motion) (motionOf motion named s origin v) s origin v p ⌝ }
+{
+    match motion {
+        Motion::Off => Plan::Rest,
+        Motion::G00 => rapid_plan(s, origin, v),
+        Motion::G01 => cut_plan(s, origin, v),
+        Motion::G02 => clockwise_plan(s, origin, v),
+        Motion::G03 => counter_plan(s, origin, v),
+        Motion::Drilling(cycle) => cycle_plan(cycle, named, s, origin, v),
+    }
+}
+
+// The plan of a block by its code. The state is that in which the block moves.
+pub fn plan_of(code: BlockCode, named: bool, s: State, origin: Point, v: Values) -> Plan
+    requires { ⌜ Poised code s origin v ⌝ }
+    ensures { λ p. ⌜ Plans code (movesOf code named s origin v) s origin v p ⌝ }
+{
+    let p = v.p;
+    let ms = p.v;
+    match code {
+        BlockCode::Calling => Plan::Rest,
+        BlockCode::Returning => Plan::Rest,
+        BlockCode::Dwelling => Plan::Single(Record::DW(ms)),
+        BlockCode::Moving(motion) => motion_plan(motion, named, s, origin, v),
+    }
+}
