@@ -3,3 +3,4 @@ pub mod Meaning
 pub mod Nearness
 pub mod Shortness
 pub mod Making
+pub mod Accepting

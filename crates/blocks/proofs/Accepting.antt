@@ -1,0 +1,120 @@
+-- A block that is accepted has passed every test of the rules, so that it keeps what a run counts on. Assumes nothing.
+use Prim.Native.Nat.{ℕ}
+use mathlib.Core.Path.{_≡_, refl}
+use mathlib.Core.Bool.{Bool, true, false, not}
+use mathlib.Core.Option.{Option, none, some}
+use mathlib.Core.List.{List, [], _∷_}
+use native.Mathlib.Omega.{arith}
+use lib.Dec.{ltb}
+use borrow.Author.Tests.{ltb-false, not-false}
+use Rattle.terms.specs.Terms.{firstOf}
+use Rattle.refusals.specs.declared.Refusal.{Refusal}
+use Rattle.refusals.specs.declared.Refusal.the-variants.{BadParameter, LeavesTravel, NoRoom}
+use Rattle.words.specs.declared.Word.{Word}
+use Rattle.words.specs.Words.{Words, these, badAt, wordsOf}
+use Rattle.records.specs.declared.Record.{Record}
+use Rattle.records.specs.Layout.{roomOf}
+use Rattle.records.specs.Path.{pathStaysIn}
+use Rattle.setup.specs.declared.Bed.{Bed}
+use Rattle.setup.specs.Fair.{Fair}
+use Rattle.settings.specs.declared.State.{State}
+use Rattle.letters.specs.Letters.{firstBadValue}
+use Rattle.blocks.specs.declared.Said.{Said}
+use Rattle.blocks.specs.declared.Control.{Control}
+use Rattle.blocks.specs.Machine.{machineOf}
+use Rattle.blocks.specs.Exec.{
+  Blame,
+  Calls,
+  accepted,
+  saidBy,
+  madeBy,
+  settled,
+  controlOf,
+  atWord,
+  atStart,
+  blames,
+  unless,
+  judged,
+  execWords,
+  exec,
+}
+use Rattle.blocks.specs.Reach.{Reachable, Steady}
+use Rattle.blocks.specs.Keeping.{Keeps}
+use Rattle.blocks.proofs.Meaning.{meant}
+use Rattle.blocks.proofs.Making.{made-short, kept}
+
+-- ---- where no test blames, each passed
+
+abbrev AllNone : List (Option Blame) → Type 0
+AllNone [] = Unit
+AllNone (o ∷ os) = (o ≡ none) × AllNone os
+
+all-none : (os : List (Option Blame)) → firstOf os ≡ none → AllNone os
+unfolding firstOf
+all-none [] e = tt
+all-none (none ∷ os) e = (refl, all-none os e)
+all-none (some blame ∷ os) e = let no : _≡_ {A = ℕ} 0 1 = cc in absurd (omega arith)
+
+word-none : (refusal : Refusal) (o : Option Word) → atWord refusal o ≡ none → o ≡ none
+unfolding atWord
+word-none refusal none e = refl
+word-none refusal (some w) e = let no : _≡_ {A = ℕ} 0 1 = cc in absurd (omega arith)
+
+start-none : (start : ℕ) (refusal : Refusal) (test : Bool) → atStart start refusal test ≡ none → test ≡ false
+unfolding atStart
+start-none start refusal true e = let no : _≡_ {A = ℕ} 0 1 = cc in absurd (omega arith)
+start-none start refusal false e = refl
+
+module _ (bed : Bed) (calls : Calls) (room : ℕ) (s : State) (start : ℕ) (fair : Fair bed) (state : Reachable bed s) where
+  module _ (ws : List Word) where
+    abbrev b : Said
+    b = saidBy (machineOf bed) (s .modes) ws
+
+    abbrev made : List Record
+    made = madeBy (machineOf bed) s b
+
+    keeps : firstOf (blames (machineOf bed) calls room s start ws b) ≡ none → Keeps bed room s (settled (machineOf bed) s b) made
+    unfolding blames settled saidBy
+    keeps e =
+        let passed = all-none (blames (machineOf bed) calls room s start ws b) e in
+        let values = word-none BadParameter (firstBadValue (machineOf bed .speeds) (b .modes) (b .code) ws) (passed .1 .1 .0) in
+        let last = passed .1 .1 .1 .1 .1 .1 .1 .1 .1 in
+        let stays = not-false _ (start-none start LeavesTravel (not (pathStaysIn (machineOf bed .stays) (s .at) made)) (last .0)) in
+        let fits = start-none start NoRoom (ltb room (roomOf made)) (last .1 .0) in
+        let steady : Steady bed s b = record { fair = fair; state = state; said = meant bed s ws fair state values } in
+        record {
+          state = kept bed s b steady stays;
+          short = made-short bed s b steady stays;
+          stays = stays;
+          ends = refl;
+          fits = ltb-false room (roomOf made) fits;
+        }
+
+    judged-kept :
+        (after : State) (control : Control) (done : List Record)
+        → judged (machineOf bed) calls room s start ws b ≡ accepted after control done → Keeps bed room s after done
+    unfolding judged unless
+    judged-kept after control done e = go (firstOf (blames (machineOf bed) calls room s start ws b)) refl e
+      where
+        go :
+            (o : Option Blame) → firstOf (blames (machineOf bed) calls room s start ws b) ≡ o
+            → unless o (accepted (settled (machineOf bed) s b) (controlOf b) made) ≡ accepted after control done
+            → Keeps bed room s after done
+        go none f g =
+            let same : after ≡ settled (machineOf bed) s b = cc in
+            let all : done ≡ made = cc in
+            rw (same, all) (keeps f)
+        go (some blame) f g = let no : _≡_ {A = ℕ} 0 1 = cc in absurd (omega arith)
+
+  words-kept :
+      (words : Words) (after : State) (control : Control) (done : List Record)
+      → execWords (machineOf bed) calls room s start words ≡ accepted after control done → Keeps bed room s after done
+  unfolding execWords
+  words-kept (these ws) after control done e = judged-kept ws after control done e
+  words-kept (badAt at) after control done e = let no : _≡_ {A = ℕ} 0 1 = cc in absurd (omega arith)
+
+  pub accepted-kept :
+      (at : ℕ) (text : List ℕ) (after : State) (control : Control) (made : List Record)
+      → exec (machineOf bed) calls room s start at text ≡ accepted after control made → Keeps bed room s after made
+  unfolding exec
+  accepted-kept at text after control made e = words-kept (wordsOf at text) after control made e
