@@ -8,6 +8,7 @@ use lib.Signed.{leZ}
 use Rattle.terms.specs.Terms.{if_then_else_, between}
 use Rattle.terms.proofs.Laws.{both-left, both-right}
 use Rattle.lengths.specs.declared.Len.{Len}
+use Rattle.lengths.specs.Units.{fitsFour}
 use Rattle.lengths.specs.View.{Within, Short}
 use Rattle.lengths.proofs.Laws.{view, sum-bal}
 use Rattle.lengths.proofs.Four.{short-four}
@@ -141,6 +142,10 @@ module _ (by p : Point) where
     centre-second G18 = axis-centre (p .x .v) (words .x .v) (by .x .v) (h .x) (k .x)
     centre-second G19 = axis-centre (p .z .v) (words .z .v) (by .z .v) (h .z) (k .z)
 
+-- both coordinates of a centre fit four signed bytes
+pub both-fit : (a b : ℤ) → Short a → Short b → (fitsFour a && fitsFour b) ≡ true
+both-fit a b h k = ap₂ _&&_ (short-four a h) (short-four b k)
+
 -- ---- what a motion leads from
 
 module _ (bed : Bed) (s : State) (b : Said) where
@@ -251,7 +256,9 @@ module _ (bed : Bed) (s : State) (b : Said) where
     -- refusal 16 never comes in a state that a run can reach
     pub fits-always : centreFits (pathOf (recordMoved (bed .offset) (AR arc))) ≡ true
     unfolding centreFits pathOf recordMoved
-    fits-always = ap₂ _&&_ (short-four (arcMoved (bed .offset) arc .first .v) (omega (arith, first-near))) (short-four (arcMoved (bed .offset) arc .second .v) (omega (arith, second-near)))
+    fits-always =
+        let m = arcMoved (bed .offset) arc in
+        both-fit (m .first .v) (m .second .v) (omega (arith, first-near)) (omega (arith, second-near))
 
     pub left-fits-always : centreFits (pathOf (recordMoved (bed .offset) (AL arc))) ≡ true
     unfolding centreFits pathOf recordMoved

@@ -8,7 +8,6 @@ use Rattle.terms.specs.Terms.{all}
 use Rattle.terms.proofs.Laws.{both-left, both-right}
 use Rattle.lengths.specs.declared.Len.{Len}
 use Rattle.lengths.specs.View.{Within, Short}
-use Rattle.lengths.proofs.Four.{short-four}
 use Rattle.points.specs.declared.Point.{Point}
 use Rattle.points.specs.declared.Flat.{Flat}
 use Rattle.points.specs.declared.Travel.{Travel}
@@ -30,7 +29,7 @@ use Rattle.blocks.specs.declared.Said.{Said}
 use Rattle.blocks.specs.Motions.{arcFor}
 use Rattle.blocks.specs.Exec.{working}
 use Rattle.blocks.specs.Reach.{Steady}
-use Rattle.blocks.proofs.Nearness.{near-machine, feed-near, first-near, second-near}
+use Rattle.blocks.proofs.Nearness.{near-machine, both-fit, feed-near, first-near, second-near}
 
 -- the three numbers of a point near the machine's zero, with more after them
 point-short : (p : Point) (ns : List Len) → Near 100_000_000 p → AllShort ns → AllShort (pointNumbers p ns)
@@ -69,8 +68,8 @@ module _ (bed : Bed) where
   unfolding machineOf centreFits pathOf recordMoved
   one-fits (RP p) h = refl
   one-fits (LN p feed) h = refl
-  one-fits (AR a) h = ap₂ _&&_ (short-four (arcMoved (bed .offset) a .first .v) (h .first)) (short-four (arcMoved (bed .offset) a .second .v) (h .second))
-  one-fits (AL a) h = ap₂ _&&_ (short-four (arcMoved (bed .offset) a .first .v) (h .first)) (short-four (arcMoved (bed .offset) a .second .v) (h .second))
+  one-fits (AR a) h = both-fit (arcMoved (bed .offset) a .first .v) (arcMoved (bed .offset) a .second .v) (h .first) (h .second)
+  one-fits (AL a) h = both-fit (arcMoved (bed .offset) a .first .v) (arcMoved (bed .offset) a .second .v) (h .first) (h .second)
   one-fits (DW ms) h = refl
   one-fits (SP speed) h = refl
   one-fits SO h = refl
