@@ -6,3 +6,4 @@ pub mod Entries
 pub mod Scanning
 pub mod Zeros
 pub mod Comments
+pub mod Places

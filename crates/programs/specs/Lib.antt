@@ -1,3 +1,4 @@
 pub mod Openings
 pub mod Found
 pub mod Examples
+pub mod Places
