@@ -7,3 +7,4 @@ pub mod Scanning
 pub mod Zeros
 pub mod Comments
 pub mod Places
+pub mod Finding

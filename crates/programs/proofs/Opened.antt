@@ -6,6 +6,7 @@ use Rattle.lines.proofs.Opened.{opened as lines-opened}
 use Rattle.words.proofs.Opened.{opened as words-opened}
 use Rattle.gaps.proofs.Opened.{opened as gaps-opened}
 use Rattle.programs.specs.Found.{tableBy}
+use Rattle.programs.specs.Answers.{foundAs}
 use Rattle.programs.specs.Openings.{numberAfterO, openingOf, isTaken, entryOf, entered, scanBlock, scan, mainAs, programsFrom, known}
 
 unfoldable pub opened : Unit {0}
@@ -17,6 +18,7 @@ unfolding
     words-opened
     gaps-opened
     tableBy
+    foundAs
     numberAfterO
     openingOf
     isTaken

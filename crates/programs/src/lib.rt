@@ -6,8 +6,9 @@ ghost use mathlib.Core.Bool.{true};
 ghost use Prim.Native.Nat.{_+_, _≤_, _<_};
 ghost use lib.ListN.{length, drop, getD};
 ghost use Rattle.lines.specs.Blocks.{textFrom, lengthFrom, blockFrom, blocksFrom};
-ghost use Rattle.programs.specs.Openings.{numberAfterO, isTaken, entryOf, scan, programsFrom};
-ghost use Rattle.programs.specs.Found.{IsDigits, subsOf, tableOf, Ready, Entered, Empty};
+ghost use Rattle.programs.specs.Openings.{numberAfterO, isTaken, entryOf, scan, programsFrom, known};
+ghost use Rattle.programs.specs.Found.{IsDigits, subsOf, Ready, Entered, Empty};
+ghost use Rattle.programs.specs.Answers.{Gives, foundAs};
 
 // A program of the data: its number, and the block and byte that follow its opening.
 pub struct Program {
@@ -50,6 +51,12 @@ pub enum Opening {
 pub enum Entry {
     Enters(u64),
     Refuses(Refusal),
+}
+
+// What a call of a number finds.
+pub enum Found {
+    At(Program),
+    Missing,
 }
 
 fn read_digits(s: &[u8], at: usize) -> Digits
@@ -155,7 +162,7 @@ fn with_program(t: Programs, p: Program) -> Programs
 fn scan_openings(s: &[u8], from: usize, number: usize, found: Programs) -> Scanned
     requires { ⌜ (from ≤ length (now s)) × (number ≤ from + 1) ⌝ }
     requires { ⌜ Ready found ⌝ }
-    ensures { λ r. ⌜ tableOf r ≡ scan (found .main) (blocksFrom (now (s .entry)) number from) (subsOf found) ⌝ }
+    ensures { λ r. ⌜ Gives (scan (found .main) (blocksFrom (now (s .entry)) number from) (subsOf found)) r ⌝ }
 {
     let mut programs = found;
     let mut at = from;
@@ -217,7 +224,7 @@ fn only_main(main: Program) -> Programs
 // one, and the subprograms.
 pub fn find_programs(s: &[u8]) -> Scanned
     requires { ⌜ 0 < length (now s) ⌝ }
-    ensures { λ r. ⌜ tableOf r ≡ programsFrom (blockFrom 1 0 (now (s .entry))) (blocksFrom (now (s .entry)) 2 (0 + lengthFrom (now (s .entry)))) ⌝ }
+    ensures { λ r. ⌜ Gives (programsFrom (blockFrom 1 0 (now (s .entry))) (blocksFrom (now (s .entry)) 2 (0 + lengthFrom (now (s .entry))))) r ⌝ }
 {
     let at = lines::next_block(s, 0);
     if !lines::begins_with(s, at, b'O') {
@@ -247,4 +254,22 @@ pub fn find_programs(s: &[u8]) -> Scanned
             scan_openings(s, next, 3, only_main(main))
         }
     }
+}
+
+// The subprogram of a number. The main program is none.
+pub fn find(t: Programs, n: u64) -> Found
+    requires { ⌜ Ready t ⌝ }
+    ensures { λ r. ⌜ r ≡ foundAs (known (subsOf t) n) ⌝ }
+{
+    let subs = t.subs;
+    let count = t.count;
+    let mut i = 0;
+    while i < count {
+        let p = subs[i];
+        if p.number == n {
+            return Found::At(p);
+        }
+        i += 1;
+    }
+    Found::Missing
 }

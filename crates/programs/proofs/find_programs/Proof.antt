@@ -7,6 +7,7 @@ use native.Mathlib.Omega.{arith}
 use borrow.Author.Tests.{not-true, not-false}
 use Rattle.lines.proofs.Lines.{length-some}
 use Rattle.programs.specs.Found.{tableBy}
+use Rattle.programs.proofs.Finding.{gives-as}
 use Rattle.programs.proofs.Scanning.{next-inside, opens-at, found-plain, found-bad, found-number}
 use borrow.Author.Needs.{needs}
 use Rattle.programs.proofs.find_programs.Statement.{statement}
@@ -29,9 +30,9 @@ scan-openings-requires c κs =
 returns : tie.Need-returns
 returns c =
     let d = c .before .before .before .before in
-    c .scan-openings .ensures
-    ∙ found-plain (d .before .before .args .s .now) (d .next-block .result) (d .next-block .ensures) (c .before .only-main .result)
-    (sym (c .before .before .before .begins-with .ensures) ∙ not-true _ (c .before .before .if1 .taken)) (c .before .only-main .ensures)
+    gives-as (c .scan-openings .ensures)
+    (found-plain (d .before .before .args .s .now) (d .next-block .result) (d .next-block .ensures) (c .before .only-main .result)
+    (sym (c .before .before .before .begins-with .ensures) ∙ not-true _ (c .before .before .if1 .taken)) (c .before .only-main .ensures))
 
 -- the second block begins with `O`
 begins : (c : tie.Else1) → beginsWith 79 (textFrom (drop (c .before .before .next-block .result) (c .before .before .before .before .args .s .now))) ≡ true
@@ -78,16 +79,20 @@ returns-2 : tie.Need-returns-2
 unfolding tableBy
 returns-2 c =
     let e = c .before .before .before .before in
-    found-bad (e .before .before .before .before .args .s .now) (e .before .before .next-block .result) (e .before .before .next-block .ensures) (begins e)
-    (sym (c .before .before .before .read-opening .ensures) ∙ c .before .enum-told .given .1)
+    record {
+      table =
+          found-bad (e .before .before .before .before .args .s .now) (e .before .before .next-block .result) (e .before .before .next-block .ensures) (begins e)
+          (sym (c .before .before .before .read-opening .ensures) ∙ c .before .enum-told .given .1);
+      ready = c .only-main2 .ensures .ready;
+    }
 
 returns-3 : tie.Need-returns-3
 returns-3 c =
     let e = c .before .before .before .before .before .before .before in
-    c .scan-openings2 .ensures
-    ∙ found-number (e .before .before .before .before .args .s .now) (e .before .before .next-block .result) (e .before .before .next-block .ensures) (begins e)
+    gives-as (c .scan-openings2 .ensures)
+    (found-number (e .before .before .before .before .args .s .now) (e .before .before .next-block .result) (e .before .before .next-block .ensures) (begins e)
     _ (c .before .before .next-block2 .result) (c .before .only-main3 .result) (sym (c .before .before .before .before .before .before .read-opening .ensures) ∙ c .before .before .before .before .number .given .1)
-    (c .before .before .next-block2 .ensures) (c .before .only-main3 .ensures)
+    (c .before .before .next-block2 .ensures) (c .before .only-main3 .ensures))
 
 pub find-programs-spec : {M : Type 1} → statement M
 find-programs-spec =

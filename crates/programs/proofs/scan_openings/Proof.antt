@@ -52,10 +52,14 @@ returns : tie.Need-returns Inv-loop μ-loop Inv-blocks2 μ-blocks2
 unfolding tableBy
 returns c =
     let d = c .before .before .before .before .before .before .before .before .before .before in
-    refused-opening (d .blocks2 .inv) (omega arith) (sym (c .before .before .before .before .before .before .before .before .is-percent .ensures) ∙ c .before .before .before .before .before .before .before .if1 .left) (c .before .refusal .given .0 .0)
-    (c .before .before .before .before .before .if2 .taken)
-    (ap (entryOf (d .blocks2 .programs .main) (subsOf (d .blocks2 .programs))) (sym (c .before .before .before .before .read-opening .ensures))
-    ∙ sym (c .before .before .before .entry-of .ensures) ∙ c .before .refusal .given .1)
+    record {
+      table =
+          refused-opening (d .blocks2 .inv) (omega arith) (sym (c .before .before .before .before .before .before .before .before .is-percent .ensures) ∙ c .before .before .before .before .before .before .before .if1 .left) (c .before .refusal .given .0 .0)
+          (c .before .before .before .before .before .if2 .taken)
+          (ap (entryOf (d .blocks2 .programs .main) (subsOf (d .blocks2 .programs))) (sym (c .before .before .before .before .read-opening .ensures))
+          ∙ sym (c .before .before .before .entry-of .ensures) ∙ c .before .refusal .given .1);
+      ready = d .blocks2 .inv .ready;
+    }
 
 enum-known-n : tie.Need-enum-known-n Inv-loop μ-loop Inv-blocks2 μ-blocks2
 enum-known-n c = search needs
@@ -137,11 +141,13 @@ loop-again c =
 
 returns-2 : tie.Need-returns-2 Inv-loop μ-loop Inv-blocks2 μ-blocks2
 unfolding tableBy
-returns-2 c = stopped-end (c .before .blocks2 .inv) (omega arith)
+returns-2 c = record { table = stopped-end (c .before .blocks2 .inv) (omega arith); ready = c .before .blocks2 .inv .ready }
 
 returns-3 : tie.Need-returns-3 Inv-loop μ-loop Inv-blocks2 μ-blocks2
 unfolding tableBy
-returns-3 c = stopped-percent (c .before .before .before .blocks2 .inv) (omega arith) (sym (c .before .is-percent .ensures) ∙ c .if1 .taken)
+returns-3 c =
+    let i = c .before .before .before .blocks2 .inv in
+    record { table = stopped-percent i (omega arith) (sym (c .before .is-percent .ensures) ∙ c .if1 .taken); ready = i .ready }
 
 pub scan-openings-spec : {M : Type 1} → statement M
 scan-openings-spec =
