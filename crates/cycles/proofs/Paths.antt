@@ -20,13 +20,13 @@ use Rattle.arcs.specs.Arcs.{pathStays}
 use Rattle.cycles.specs.declared.Way.the-variants.{Leaves}
 use Rattle.cycles.specs.Ways.{staysIn, wayOf}
 
-end-append : (from : Point) (a b : List Record) → endOf from (a ++ b) ≡ endOf (endOf from a) b
+pub end-append : (from : Point) (a b : List Record) → endOf from (a ++ b) ≡ endOf (endOf from a) b
 unfolding endOf
 end-append from [] b = refl
 end-append from (r ∷ a) b = end-append (pathEnd from (pathOf r)) a b
 
 module _ (t : Travel) where
-  stays-append : (from : Point) (a b : List Record) → staysIn t from (a ++ b) ≡ (staysIn t from a && staysIn t (endOf from a) b)
+  pub stays-append : (from : Point) (a b : List Record) → staysIn t from (a ++ b) ≡ (staysIn t from a && staysIn t (endOf from a) b)
   unfolding endOf pathStaysIn
   stays-append from [] b = refl
   stays-append from (r ∷ a) b =

@@ -44,7 +44,7 @@ module _ (by : Point) where
   moved-kind PA = refl
   moved-kind EN = refl
 
-  moved-room : (rs : List Record) → roomOf (map (recordMoved by) rs) ≡ roomOf rs
+  pub moved-room : (rs : List Record) → roomOf (map (recordMoved by) rs) ≡ roomOf rs
   unfolding roomOf
   moved-room [] = refl
   moved-room (r ∷ rs) = omega (arith, ap kindLength (moved-kind r), moved-room rs)

@@ -1,0 +1,101 @@
+// One block, from its words to its verdict and its records.
+mod effects;
+mod order;
+
+use blocks::Executed;
+use blocks::Said;
+use letters::Judged;
+use letters::Speeds;
+use programs::Programs;
+use reading::Reading;
+use reading::Status;
+use refusals::Refusal;
+use settings::State;
+use setup::Bed;
+ghost use mathlib.Core.List.{List};
+ghost use Prim.Native.Nat.{_+_, _-_, _≤_};
+ghost use lib.ListN.{length, drop};
+ghost use Rattle.lines.specs.Blocks.{textFrom, lengthFrom};
+ghost use Rattle.words.specs.declared.Word.{Word};
+ghost use Rattle.programs.specs.Found.{Ready, subsOf};
+ghost use Rattle.setup.specs.Fair.{Fair};
+ghost use Rattle.blocks.specs.Machine.{machineOf};
+ghost use Rattle.blocks.specs.Reach.{Reachable};
+ghost use Rattle.blocks.specs.Exec.{callsIn, saidBy, exec};
+ghost use Rattle.blocks.specs.Doing.{Does};
+ghost use Rattle.execution.specs.Steps.{Heard, Says, judgedFrom};
+
+// The block's words have been read, and all may stand: their values, and then what the block says.
+fn hear(
+    list: &mut [u8],
+    at: usize,
+    bed: Bed,
+    programs: Programs,
+    left: usize,
+    start: usize,
+    after: usize,
+    state: State,
+    read: Reading,
+) -> Executed
+    requires { ⌜ at ≤ length (now list) ⌝ }
+    requires { ⌜ Heard bed state programs read ⌝ }
+    ensures { λ r. ⌜ ((ws : List Word) → Says (state .modes) ws read → Does (bed .offset) (judgedFrom 1 (machineOf bed) (callsIn (subsOf programs) left) (length (now (list .entry)) - at) state start ws (saidBy (machineOf bed) (state .modes) ws)) (now (list .entry)) at after (now (list .exit)) r) ⌝ }
+{
+    let seen = read.seen;
+    let modes = seen.modes;
+    let misc = seen.misc;
+    let groups = seen.groups;
+    let motion = modes.motion;
+    let code = letters::block_code(misc, groups[7], motion);
+    let lowest = bed.lowest;
+    let highest = bed.highest;
+    let speeds = Speeds { lowest, highest };
+    let words = read.words;
+    match letters::judge(speeds, modes, code, words, read.count) {
+        Judged::Unused(byte) => Executed::Refused(Refusal::AddressUndefined, byte),
+        Judged::Bad(byte) => Executed::Refused(Refusal::BadParameter, byte),
+        Judged::Fine(values) => {
+            let said = Said {
+                modes,
+                code,
+                misc,
+                named: groups[1],
+                values,
+            };
+            order::obey(list, at, bed, programs, left, start, after, state, said)
+        }
+    }
+}
+
+// Executes the block at a place of the data: `start` is its first byte, `from` the byte where its words begin. Its records go
+// to the place `at` of the list. A block that is refused leaves the list as it was.
+pub fn exec(
+    s: &[u8],
+    list: &mut [u8],
+    at: usize,
+    bed: Bed,
+    programs: Programs,
+    left: usize,
+    start: usize,
+    from: usize,
+    state: State,
+) -> Executed
+    requires { ⌜ from ≤ length (now s) ⌝ }
+    requires { ⌜ at ≤ length (now list) ⌝ }
+    requires { ⌜ Fair bed ⌝ }
+    requires { ⌜ Reachable bed state ⌝ }
+    requires { ⌜ Ready programs ⌝ }
+    ensures { λ r. ⌜ Does (bed .offset) (exec (machineOf bed) (callsIn (subsOf programs) left) (length (now (list .entry)) - at) state start from (textFrom (drop from (now (s .entry))))) (now (list .entry)) at (from + lengthFrom (drop from (now (s .entry)))) (now (list .exit)) r ⌝ }
+{
+    let modes = state.modes;
+    let read = reading::read_words(s, from, left == 4, modes);
+    let status = read.status;
+    match status {
+        Status::Unreadable(byte) => Executed::Refused(Refusal::Unreadable, byte),
+        Status::MayNot(byte) => Executed::Refused(Refusal::CannotExecute, byte),
+        Status::Fine => {
+            let after = lines::next_block(s, read.end);
+            hear(list, at, bed, programs, left, start, after, state, read)
+        }
+    }
+}
