@@ -263,7 +263,7 @@ pub fn find(t: Programs, n: u64) -> Found
 {
     let subs = t.subs;
     let count = t.count;
-    let mut i = 0;
+    let mut i: usize = 0;
     while i < count {
         let p = subs[i];
         if p.number == n {

@@ -1,3 +1,5 @@
 pub mod Opened
 pub mod Examples
 pub mod Raw
+pub mod Origins
+pub mod Valid

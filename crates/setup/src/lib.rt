@@ -3,10 +3,12 @@ use lengths::Len;
 use points::Point;
 use points::Travel;
 ghost use mathlib.Core.Path.{_≡_};
+ghost use mathlib.Core.Bool.{true};
+ghost use mathlib.Core.List.{map};
 ghost use Rattle.terms.specs.Terms.{all, between, within};
 ghost use Rattle.lengths.specs.Units.{len};
 ghost use Rattle.setup.specs.Limits.{axisFits, travelFits, axesWithin, offsetsFit, feedFits, speedsFit, switchFits, validSetup};
-ghost use Rattle.setup.specs.Frame.{pointOf};
+ghost use Rattle.setup.specs.Frame.{pointOf, startOf, travelOf, bedOf, switchOn};
 
 // One number for each axis.
 pub struct Axes {
@@ -169,4 +171,58 @@ pub fn is_valid(s: Setup) -> bool
     ensures { λ r. ⌜ r ≡ validSetup s ⌝ }
 {
     travel_fits(s) & offsets_fit(s) & (feed_fits(s) & speeds_fit(s) & switch_fits(s))
+}
+
+pub fn skips(s: Setup) -> bool
+    ensures { λ r. ⌜ r ≡ switchOn s ⌝ }
+{
+    Len::zero().below(switch_of(s))
+}
+
+// The point where a run starts, in the frame of the common offset. The limits leave the difference room.
+pub fn start_of(s: Setup) -> Point
+    requires { ⌜ validSetup s ≡ true ⌝ }
+    ensures { λ r. ⌜ r ≡ startOf s ⌝ }
+{
+    points::moved_back(point_of(s.exofs), point_of(s.start))
+}
+
+fn travel_of(s: Setup) -> Travel
+    requires { ⌜ validSetup s ≡ true ⌝ }
+    ensures { λ r. ⌜ r ≡ travelOf s ⌝ }
+{
+    let offset = point_of(s.exofs);
+    Travel {
+        low: points::moved_back(offset, point_of(s.low)),
+        high: points::moved_back(offset, point_of(s.high)),
+    }
+}
+
+fn origins_of(origins: [Axes; 6]) -> [Point; 6]
+    ensures { λ r. ⌜ r ≡ map pointOf origins ⌝ }
+{
+    let mut points = [point_of(origins[0]); 6];
+    let mut i = 0;
+    while i < 6 {
+        let origin = origins[i];
+        points[i] = point_of(origin);
+        i += 1;
+    }
+    points
+}
+
+// The machine's bed: the lengths of a valid setup in the frame of the common offset.
+pub fn bed_of(s: Setup) -> Bed
+    requires { ⌜ validSetup s ≡ true ⌝ }
+    ensures { λ r. ⌜ r ≡ bedOf s ⌝ }
+{
+    let raw = s.origins;
+    let origins = origins_of(raw);
+    Bed {
+        offset: point_of(s.exofs),
+        travel: travel_of(s),
+        origins,
+        lowest: lowest_of(s),
+        highest: highest_of(s),
+    }
 }

@@ -1,0 +1,26 @@
+-- `setup::start_of` meets its contract: a valid setup leaves the difference room. Assumes nothing.
+use mathlib.Core.Path.{_∙_}
+use Rattle.setup.specs.Frame.{offset, startOf}
+use Rattle.setup.proofs.Valid.{moves, valid-offset, valid-start}
+use borrow.Author.Needs.{needs}
+use Rattle.setup.proofs.start_of.Statement.{statement}
+use Rattle.setup.proofs.start_of.Tie as tie
+
+point-of-requires : tie.Need-point-of-requires
+point-of-requires c κs = search needs
+
+point-of-requires-2 : tie.Need-point-of-requires-2
+point-of-requires-2 c κs = search needs
+
+moved-back-requires : tie.Need-moved-back-requires
+moved-back-requires c κs =
+    let a = c .before .before in
+    moves (a .args .s .exofs) (a .args .s .start) (c .before .point-of .ensures) (c .point-of2 .ensures) (valid-offset (a .args .s) (a .pre)) (valid-start (a .args .s) (a .pre))
+
+returns : tie.Need-returns
+unfolding startOf offset
+returns c = c .moved-back .ensures .is ∙ rw (c .before .before .point-of .ensures, c .before .point-of2 .ensures)
+
+pub start-of-spec : {M : Type 1} → statement M
+start-of-spec =
+    tie.close (tie.spec point-of-requires point-of-requires-2 moved-back-requires returns)
