@@ -64,3 +64,14 @@ module _ (n : ℕ) (subs : List Program) (count i : ℕ) (d : Program) (s : Hunt
     hunt-past e =
         let other : getD (take count subs) i d .number ≡ n → ⊥ = rw here e in
         record { few = s .few; left = s .left ∙ known-past (take count subs) n i d (omega (arith, used)) other }
+
+-- what an answer of the search says of the rules' table
+pub found-at : {p : Program} (o : Option Program) → At p ≡ foundAs o → o ≡ some p
+unfolding foundAs
+found-at none e = let never : _≡_ {A = ℕ} 0 1 = cc in absurd (omega arith)
+found-at (some q) e = cc
+
+pub found-none : (o : Option Program) → Missing ≡ foundAs o → o ≡ none
+unfolding foundAs
+found-none none e = refl
+found-none (some q) e = let never : _≡_ {A = ℕ} 0 1 = cc in absurd (omega arith)

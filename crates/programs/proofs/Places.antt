@@ -13,13 +13,19 @@ use Rattle.terms.specs.Terms.{if_then_else_, first}
 use Rattle.lines.specs.Blocks.{lengthFrom, Block, blockFrom, blocksOf, blocksFrom, closes, opens}
 use Rattle.lines.proofs.Lines.{blocks-step, blocks-end, length-some}
 use Rattle.programs.specs.Openings.{Table, table, openingOf, programAfter, entryOf, entered, scanBlock, scan, mainAs, programsFrom, known}
+use Rattle.programs.specs.Found.{subsOf, tableBy}
+use Rattle.programs.specs.Answers.{Gives, foundAs}
 use Rattle.programs.specs.Places.{Placed, Places, none, more, TablePlaced, found, refused}
 use Rattle.programs.specs.declared.Program.{Program}
 use Rattle.programs.specs.declared.Opening.{Opening}
 use Rattle.programs.specs.declared.Opening.the-variants.{Number, Bad}
 use Rattle.programs.specs.declared.Entry.{Entry}
 use Rattle.programs.specs.declared.Entry.the-variants.{Refuses, Enters}
+use Rattle.programs.specs.declared.Scanned.{Scanned}
+use Rattle.programs.specs.declared.Verdict.the-variants.{Fine}
+use Rattle.programs.specs.declared.Found.the-variants.{At}
 use Rattle.programs.proofs.Scanning.{next-inside}
+use Rattle.programs.proofs.Finding.{found-at}
 
 -- `bs` are the blocks from a place on, where the block n begins
 record From (l : List ℕ) (n at : ℕ) (bs : List Block) : Type 0 where
@@ -132,3 +138,19 @@ known-placed {l} {p = p} n (more {p = q} {ps = qs} m s) e = go (eqb (q .number) 
     go : (t : Bool) → (first (λ r. eqb (r .number) n) qs ≡ some p → Placed l p) → (if t then some q else first (λ r. eqb (r .number) n) qs) ≡ some p → Placed l p
     go true rest f = let g : q ≡ p = cc in rw g at m
     go false rest f = rest f
+
+-- ---- what a caller of the code has
+
+-- a scan that is fine has a table of placed programs
+pub fine-placed :
+    (l : List ℕ) (r : Scanned) → 0 < length l → Gives (programsFrom (blockFrom 1 0 l) (blocksFrom l 2 (0 + lengthFrom l))) r → r .verdict ≡ Fine
+    → (Placed l (r .programs .main)) × (Places l (subsOf (r .programs)))
+unfolding tableBy
+fine-placed l r h g e =
+    let placed : TablePlaced l (tableBy (r .verdict) (r .programs)) = rw (g .table) (found-placed l h) in
+    let fine : TablePlaced l (tableBy Fine (r .programs)) = rw e at placed in
+    (main-placed fine, subs-placed fine)
+
+-- and so is the program that a search finds there
+pub at-placed : {l : List ℕ} {subs : List Program} {p : Program} (n : ℕ) → Places l subs → At p ≡ foundAs (known subs n) → Placed l p
+at-placed {subs = subs} n s e = known-placed n s (found-at (known subs n) e)
