@@ -202,11 +202,11 @@ fn origins_of(origins: [Axes; 6]) -> [Point; 6]
     ensures { λ r. ⌜ r ≡ map pointOf origins ⌝ }
 {
     let mut points = [point_of(origins[0]); 6];
-    let mut i = 0;
-    while i < 6 {
-        let origin = origins[i];
-        points[i] = point_of(origin);
-        i += 1;
+    let mut place = 0;
+    while place < 6 {
+        let origin = origins[place];
+        points[place] = point_of(origin);
+        place += 1;
     }
     points
 }

@@ -8,10 +8,10 @@ use Rattle.setup.proofs.origins_of.Statement.{statement}
 use Rattle.setup.proofs.origins_of.Tie as tie
 
 abbrev Inv-loop : tie.InvT-loop
-Inv-loop origins points₀ i₀ points i = Turned origins points i
+Inv-loop origins points₀ place₀ points place = Turned origins points place
 
 abbrev μ-loop : tie.MeasureT-loop
-μ-loop origins points₀ i₀ points i = 6 - i
+μ-loop origins points₀ place₀ points place = 6 - place
 
 array-copy-out-point-of : tie.Need-array-copy-out-point-of Inv-loop μ-loop
 array-copy-out-point-of c = omega arith
@@ -37,8 +37,8 @@ mul-points c = omega arith
 array-set-from-points : tie.Need-array-set-from-points Inv-loop μ-loop
 array-set-from-points c = omega arith
 
-add-i : tie.Need-add-i Inv-loop μ-loop
-add-i c = omega arith
+add-place : tie.Need-add-place Inv-loop μ-loop
+add-place c = omega arith
 
 loop-less : tie.Need-loop-less Inv-loop μ-loop
 loop-less c = omega arith
@@ -47,12 +47,12 @@ loop-again : tie.Need-loop-again Inv-loop μ-loop
 loop-again c =
     let d = c .before .before .before in
     let l = d .before .before .before .args .t1 in
-    rw (c .point-of2 .ensures) (one-turned l (d .loop .points) (d .loop .i) (d .loop .inv) (omega arith) _ (omega arith))
+    rw (c .point-of2 .ensures) (one-turned l (d .loop .points) (d .loop .place) (d .loop .inv) (omega arith) _ (omega arith))
 
 returns : tie.Need-returns Inv-loop μ-loop
 returns c =
     let d = c .before in
-    all-turned (d .before .before .before .args .t1) (d .loop .points) (d .loop .i) (d .loop .inv) (omega arith) (omega arith)
+    all-turned (d .before .before .before .args .t1) (d .loop .points) (d .loop .place) (d .loop .inv) (omega arith) (omega arith)
 
 pub origins-of-spec : {M : Type 1} → statement M
 origins-of-spec =
@@ -68,7 +68,7 @@ origins-of-spec =
     point-of-requires-2
     mul-points
     array-set-from-points
-    add-i
+    add-place
     loop-less
     loop-again
     returns)
