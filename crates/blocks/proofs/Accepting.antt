@@ -45,11 +45,11 @@ use Rattle.blocks.proofs.Making.{made-short, kept}
 
 -- ---- where no test blames, each passed
 
-abbrev AllNone : List (Option Blame) → Type 0
+abbrev pub AllNone : List (Option Blame) → Type 0
 AllNone [] = Unit
 AllNone (o ∷ os) = (o ≡ none) × AllNone os
 
-all-none : (os : List (Option Blame)) → firstOf os ≡ none → AllNone os
+pub all-none : (os : List (Option Blame)) → firstOf os ≡ none → AllNone os
 unfolding firstOf
 all-none [] e = tt
 all-none (none ∷ os) e = (refl, all-none os e)
@@ -60,7 +60,7 @@ unfolding atWord
 word-none refusal none e = refl
 word-none refusal (some w) e = let no : _≡_ {A = ℕ} 0 1 = cc in absurd (omega arith)
 
-start-none : (start : ℕ) (refusal : Refusal) (test : Bool) → atStart start refusal test ≡ none → test ≡ false
+pub start-none : (start : ℕ) (refusal : Refusal) (test : Bool) → atStart start refusal test ≡ none → test ≡ false
 unfolding atStart
 start-none start refusal true e = let no : _≡_ {A = ℕ} 0 1 = cc in absurd (omega arith)
 start-none start refusal false e = refl

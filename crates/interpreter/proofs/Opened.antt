@@ -15,6 +15,7 @@ use Rattle.blocks.proofs.Opened.{opened as blocks-opened}
 use Rattle.programs.proofs.Opened.{opened as programs-opened}
 use Rattle.interpreter.specs.Run.{firstOf, finishOf, runTable, runBlocks, outcome, recordsOf, answerBy, answerOf}
 use Rattle.interpreter.specs.Walk.{isSpent, oneLess, after, goingOn, thenRest, follow, obey, isSkipped, slashLength, verdictOn, runBlock, reached, walk, blocksFor, callees}
+use Rattle.interpreter.specs.Steps.{jobOf, goingOf, walkFrom, programEnds, verdictAt, progressOn, progressBy, entering, turned, acted, endingBy, answerFor}
 
 unfoldable pub opened : Unit {0}
 unfolding
@@ -55,4 +56,16 @@ unfolding
     walk
     blocksFor
     callees
+    jobOf
+    goingOf
+    walkFrom
+    programEnds
+    verdictAt
+    progressOn
+    progressBy
+    entering
+    turned
+    acted
+    endingBy
+    answerFor
 opened = tt

@@ -1,3 +1,4 @@
 pub mod Walk
 pub mod Run
+pub mod Steps
 pub mod Examples

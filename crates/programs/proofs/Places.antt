@@ -7,7 +7,7 @@ use mathlib.Core.List.{List, [], _∷_, _++_}
 use native.Mathlib.Omega.{arith}
 use native.Mathlib.Decide.{decLt}
 use lib.Dec.{eqb}
-use lib.ListN.{length, drop}
+use lib.ListN.{length, drop, length-drop}
 use lib.Seq.{drop-drop}
 use Rattle.terms.specs.Terms.{if_then_else_, first}
 use Rattle.lines.specs.Blocks.{lengthFrom, Block, blockFrom, blocksOf, blocksFrom, closes, opens}
@@ -15,7 +15,7 @@ use Rattle.lines.proofs.Lines.{blocks-step, blocks-end, length-some}
 use Rattle.programs.specs.Openings.{Table, table, openingOf, programAfter, entryOf, entered, scanBlock, scan, mainAs, programsFrom, known}
 use Rattle.programs.specs.Found.{subsOf, tableBy}
 use Rattle.programs.specs.Answers.{Gives, foundAs}
-use Rattle.programs.specs.Places.{Placed, Places, none, more, TablePlaced, found, refused}
+use Rattle.programs.specs.Places.{Begins, Placed, Places, none, more, TablePlaced, found, refused}
 use Rattle.programs.specs.declared.Program.{Program}
 use Rattle.programs.specs.declared.Opening.{Opening}
 use Rattle.programs.specs.declared.Opening.the-variants.{Number, Bad}
@@ -27,18 +27,35 @@ use Rattle.programs.specs.declared.Found.the-variants.{At}
 use Rattle.programs.proofs.Scanning.{next-inside}
 use Rattle.programs.proofs.Finding.{found-at}
 
+-- ---- where blocks begin
+
+pub begins-first : (l : List ℕ) → Begins l 1 0
+unfolding blocksOf
+begins-first l = record { inside = omega arith; counted = omega arith; few = omega arith; last = omega arith; blocks = refl }
+
+-- the block after one that begins at a place
+pub begins-next : {l : List ℕ} {n at : ℕ} → Begins l n at → at < length l → Begins l (n + 1) (at + lengthFrom (drop at l))
+begins-next {l} {n} {at} b h =
+    record {
+      inside = next-inside l at (b .inside);
+      counted = omega arith;
+      few = omega (arith, b .few, length-some l at h);
+      last =
+          omega (arith, b .counted, length-drop (n - 1) (blocksOf l), ap length (b .blocks ∙ blocks-step l n at h));
+      blocks =
+          let e : n - 1 + 1 ≡ n + 1 - 1 = omega (arith, b .counted) in
+          rw (← e, ← drop-drop 1 (n - 1) (blocksOf l)) (rw (b .blocks, blocks-step l n at h));
+    }
+
 -- `bs` are the blocks from a place on, where the block n begins
 record From (l : List ℕ) (n at : ℕ) (bs : List Block) : Type 0 where
-  inside : at ≤ length l
-  counted : 1 ≤ n
-  few : n ≤ at + 1
-  whole : drop (n - 1) (blocksOf l) ≡ blocksFrom l n at
+  begins : Begins l n at
   is : blocksFrom l n at ≡ bs
 
 module _ {l : List ℕ} {n at : ℕ} {b : Block} {bs : List Block} (f : From l n at (b ∷ bs)) where
   -- a block that is there begins inside the data
-  begins : at < length l
-  begins =
+  inside : at < length l
+  inside =
       elim (decLt at (length l)) [
         | yes h ↦ h
         | no k ↦
@@ -49,30 +66,21 @@ module _ {l : List ℕ} {n at : ℕ} {b : Block} {bs : List Block} (f : From l n
       ]
 
   step : b ∷ bs ≡ blockFrom n at (drop at l) ∷ blocksFrom l (n + 1) (at + lengthFrom (drop at l))
-  step = sym (f .is) ∙ blocks-step l n at begins
+  step = sym (f .is) ∙ blocks-step l n at inside
 
   this : b ≡ blockFrom n at (drop at l)
   this = let e = step in cc
 
   next : From l (n + 1) (at + lengthFrom (drop at l)) bs
-  next =
-      record {
-        inside = next-inside l at (f .inside);
-        counted = omega arith;
-        few = omega (arith, f .few, length-some l at begins);
-        whole =
-            let e : n - 1 + 1 ≡ n + 1 - 1 = omega (arith, f .counted) in
-            rw (← e, ← drop-drop 1 (n - 1) (blocksOf l)) (rw (f .whole, blocks-step l n at begins));
-        is = let e = step in cc;
-      }
+  next = record { begins = begins-next (f .begins) inside; is = let e = step in cc }
 
   -- a program that begins after the block
   after : (m : ℕ) → Placed l (programAfter m b)
-  after m = rw this (record { inside = next .inside; counted = next .counted; few = next .few; blocks = next .whole })
+  after m = rw this (record { begins = next .begins })
 
 start : (l : List ℕ) (bs : List Block) → blocksOf l ≡ bs → From l 1 0 bs
 unfolding blocksOf
-start l bs e = record { inside = omega arith; counted = omega arith; few = omega arith; whole = refl; is = e }
+start l bs e = record { begins = begins-first l; is = e }
 
 one-more : {l : List ℕ} {p : Program} {ps : List Program} → Places l ps → Placed l p → Places l (ps ++ p ∷ [])
 one-more none q = more q none

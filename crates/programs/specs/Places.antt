@@ -1,21 +1,26 @@
 -- A program of the table begins where the data's own count of blocks and bytes says.
-use Prim.Native.Nat.{ℕ, _+_, _≤_}
+use Prim.Native.Nat.{ℕ, _+_, _-_, _≤_}
 use mathlib.Core.Path.{_≡_}
 use mathlib.Core.List.{List, [], _∷_}
-use lib.ListN.{length}
+use lib.ListN.{length, drop}
 use Rattle.refusals.specs.declared.Refusal.{Refusal}
 use Rattle.refusals.specs.declared.Place.{Place}
 use Rattle.lines.specs.Blocks.{blocksOf, blocksFrom}
-use Rattle.programs.specs.Openings.{Table, table, refusedAt, blocksAt}
+use Rattle.programs.specs.Openings.{Table, table, refusedAt}
 use Rattle.programs.specs.declared.Program.{Program}
 
--- The program's blocks, found by its block number, are those that a walk finds from its byte on. A block takes a byte at
--- least, so that no program's block number is more than one past its byte.
+-- The block n begins at a place: the blocks found by its number are those that a walk finds from that byte on. A block takes
+-- a byte at least, so that no block's number is more than one past its byte; and none is more than one past the last block's.
+pub record Begins (bytes : List ℕ) (n at : ℕ) : Type 0 where
+  pub inside : at ≤ length bytes
+  pub counted : 1 ≤ n
+  pub few : n ≤ at + 1
+  pub last : n ≤ length (blocksOf bytes) + 1
+  pub blocks : drop (n - 1) (blocksOf bytes) ≡ blocksFrom bytes n at
+
+-- the first block of a program begins where the table says
 pub record Placed (bytes : List ℕ) (p : Program) : Type 0 where
-  pub inside : p .byte ≤ length bytes
-  pub counted : 1 ≤ p .block
-  pub few : p .block ≤ p .byte + 1
-  pub blocks : blocksAt (blocksOf bytes) p ≡ blocksFrom bytes (p .block) (p .byte)
+  pub begins : Begins bytes (p .block) (p .byte)
 
 -- each of a list of programs is so placed
 pub data Places (bytes : List ℕ) : List Program → Type 0 where

@@ -1,0 +1,262 @@
+-- What a run starts with, and what it answers. Assumes nothing.
+use Prim.Native.Nat.{ℕ, _+_, _-_, _≤_, _<_}
+use mathlib.Core.Path.{_≡_, refl, sym, _∙_, ap}
+use mathlib.Core.Bool.{Bool, true, false, not}
+use mathlib.Core.Option.{some}
+use mathlib.Core.List.{List, [], _∷_, _++_, map}
+use native.Mathlib.Omega.{arith}
+use native.Mathlib.Decide.{decLt}
+use borrow.Author.Tests.{lt-ltb, le-ltb}
+use lib.Dec.{ltb}
+use lib.IntN.{pos}
+use lib.ListN.{length, drop}
+use lib.Seq.{sets, sets-eq, length-sets}
+use Rattle.terms.specs.Terms.{if_then_else_}
+use Rattle.lengths.specs.Units.{len}
+use Rattle.refusals.specs.declared.Refusal.{Refusal}
+use Rattle.refusals.specs.declared.Refusal.the-variants.{FirstBlock, BadSetup, DataTooLong}
+use Rattle.refusals.specs.declared.Place.{Place}
+use Rattle.lines.specs.Blocks.{Block, blockFrom, blocksOf, blocksFrom, lengthFrom, isPercent, textFrom}
+use Rattle.lines.proofs.Lines.{blocks-step, blocks-end, percent-end}
+use Rattle.points.specs.declared.Point.{Point}
+use Rattle.setup.specs.declared.Bed.{Bed}
+use Rattle.setup.specs.declared.Setup.{Setup}
+use Rattle.setup.specs.Limits.{validSetup}
+use Rattle.setup.specs.Frame.{offset, startOf, travelOf, bedOf, switchOn}
+use Rattle.setup.specs.Fair.{Fair}
+use Rattle.setup.proofs.Valid.{valid-feed, valid-speed, start-inside}
+use Rattle.records.specs.declared.Record.{Record}
+use Rattle.records.specs.Layout.{roomOf, listBytes}
+use Rattle.settings.specs.declared.State.{State}
+use Rattle.settings.specs.Settings.{firstState, firstModes}
+use Rattle.cycles.specs.Writing.{movedBytes}
+use Rattle.programs.specs.declared.Program.{Program}
+use Rattle.programs.specs.declared.Programs.{Programs}
+use Rattle.programs.specs.declared.Scanned.{Scanned}
+use Rattle.programs.specs.declared.Verdict.{Verdict}
+use Rattle.programs.specs.declared.Verdict.the-variants as Verdict
+use Rattle.programs.specs.Openings.{Table, table, refusedAt, programsFrom, known, blocksAt}
+use Rattle.programs.specs.Found.{subsOf, tableBy, tableOf, Ready}
+use Rattle.programs.specs.Answers as Answers
+use Rattle.programs.specs.Places.{Placed, TablePlaced}
+use Rattle.programs.proofs.Places.{found-placed, main-placed, subs-placed, known-placed}
+use Rattle.blocks.specs.Machine.{machineOf}
+use Rattle.blocks.specs.Reach.{Reachable}
+use Rattle.interpreter.specs.Walk.{How, ended, returned, unfinished, Outcome, just, walk, callees}
+use Rattle.interpreter.specs.Walk as Walk
+use Rattle.interpreter.specs.Run.{firstOf, nowhere, finishOf, runTable, runBlocks, outcome, recordsOf, answerBy, answerOf}
+use Rattle.interpreter.specs.Steps.{jobOf, goingOf, walkFrom, endingBy, answerFor, Ran, Sound, Fits, Opened, Gives, Owes}
+use Rattle.interpreter.specs.declared.Budget.{Budget}
+use Rattle.interpreter.specs.declared.Answer.{Answer}
+use Rattle.interpreter.specs.declared.Answer.the-variants.{Refused}
+use Rattle.interpreter.specs.declared.Task.{Task}
+use Rattle.interpreter.specs.declared.Progress.{Progress}
+use Rattle.interpreter.specs.declared.Ending.{Ending}
+use Rattle.interpreter.proofs.Endings.{moved-length}
+
+module _ (s : Setup) (valid : validSetup s ≡ true) where
+  first-reachable : Reachable (bedOf s) (firstOf s)
+  unfolding bedOf firstOf firstState firstModes
+  first-reachable =
+      record {
+        at = start-inside s valid;
+        origin = omega arith;
+        feed = valid-feed s valid;
+        speed = valid-speed s valid;
+      }
+
+  -- the first progress
+  pub first-fits :
+      {bed : Bed} {state : State} (room : ℕ) (budget : Budget) → bed ≡ bedOf s → state ≡ firstOf s
+      → Fits bed room (record { state = state; next = 0; count = 0; budget = budget })
+  first-fits room budget e f =
+      rw (e, f) (record { state = first-reachable; next = omega arith; count = omega arith })
+
+module _ {l : List ℕ} {t : Programs} (o : Opened l t) where
+  placed : TablePlaced l (table (t .main) (subsOf t))
+  placed = let p = found-placed l (o .some) in let e = o .table in rw e at p
+
+  pub main-begins : Placed l (t .main)
+  main-begins = main-placed placed
+
+  pub task-sound : {bed : Bed} (skips : Bool) → Fair bed → Sound l (record { bed = bed; programs = t; skips = skips })
+  task-sound skips fair =
+      record {
+        fair = fair;
+        ready = o .ready;
+        places = λ n q e. known-placed n (subs-placed placed) e;
+      }
+
+  -- the main program's walk is the run
+  pub main-walk :
+      {bed : Bed} {state : State} {skips : Bool} (s : Setup) (room : ℕ) (budget : Budget) → bed ≡ bedOf s → state ≡ firstOf s → skips ≡ switchOn s
+      → walkFrom l room (record { bed = bed; programs = t; skips = skips }) 4 (t .main .block) (t .main .byte)
+      (record { state = state; next = 0; count = 0; budget = budget })
+      ≡ runTable s l (blocksOf l) room budget (table (t .main) (subsOf t))
+  unfolding walkFrom jobOf goingOf runTable
+  main-walk s room budget e f g =
+      let b = main-begins in
+      let all : room - 0 ≡ room = omega arith in
+      rw (e, f, g, all, b .begins .blocks)
+
+-- ---- the answer
+
+answer-by : (how : How) (next count : ℕ) → answerFor (endingBy how next count) ≡ answerBy how count
+unfolding answerFor endingBy answerBy
+answer-by ended next count = refl
+answer-by (returned g) next count = refl
+answer-by unfinished next count = refl
+answer-by (Walk.refusedAt refusal place) next count = refl
+
+pub main-gives :
+    {bed : Bed} {o u : Outcome} {p : Progress} {was is : List ℕ} {e : Ending} {r : Answer} (by : Point) → bed .offset ≡ by → p .next ≡ 0 → p .count ≡ 0
+    → o ≡ u → Ran bed o p was is e → r ≡ answerFor e → Gives by u was is r
+main-gives {o = o} {p = p} {was = was} by b n k f ran a =
+    let count : p .count + length (o .made) ≡ length (o .made) = omega arith in
+    rw (← f)
+    (record {
+      answer =
+          a ∙ ap answerFor (ran .answer) ∙ answer-by (o .how) (p .next + roomOf (o .made)) (p .count + length (o .made))
+          ∙ ap (answerBy (o .how)) count;
+      bytes = ran .bytes ∙ rw (n, b) refl;
+      room = omega (arith, ran .room);
+    })
+
+-- an outcome without records
+pub gives-just : (by : Point) (was : List ℕ) (how : How) → Gives by (just how) was was (answerBy how 0)
+unfolding listBytes roomOf
+gives-just by was how = record { answer = refl; bytes = refl; room = omega arith }
+
+pub gives-as :
+    {by : Point} {o u : Outcome} {was is : List ℕ} {r : Answer} → o ≡ u → Gives by u was is r → Gives by o was is r
+gives-as e g = rw e g
+
+-- ---- "Order: 13, 12, 11; then per opening 1, 8, 7."
+
+module _ (s : Setup) (l : List ℕ) (room : ℕ) (budget : Budget) where
+  too-long : 65_535 < length l → outcome s l room budget ≡ just (Walk.refusedAt DataTooLong nowhere)
+  unfolding outcome
+  too-long h = rw (lt-ltb 65_535 (length l) h)
+
+  module _ (short : length l ≤ 65_535) where
+    bad-setup : validSetup s ≡ false → outcome s l room budget ≡ just (Walk.refusedAt BadSetup nowhere)
+    unfolding outcome
+    bad-setup e = rw (le-ltb 65_535 (length l) short, e)
+
+    module _ (valid : validSetup s ≡ true) where
+      by-blocks : outcome s l room budget ≡ runBlocks s l room budget (blocksOf l)
+      unfolding outcome
+      by-blocks = rw (le-ltb 65_535 (length l) short, valid)
+
+      blocks-closed :
+          (bs : List Block) (b : Block) (rest : List Block) → bs ≡ b ∷ rest → isPercent (b .text) ≡ true
+          → runBlocks s l room budget bs ≡ runTable s l bs room budget (programsFrom b rest)
+      unfolding runBlocks
+      blocks-closed bs b rest e f = rw e (rw f)
+
+      blocks-open :
+          (bs : List Block) (b : Block) (rest : List Block) → bs ≡ b ∷ rest → isPercent (b .text) ≡ false
+          → runBlocks s l room budget bs ≡ just (Walk.refusedAt FirstBlock (record { block = 1; byte = 0 }))
+      unfolding runBlocks
+      blocks-open bs b rest e f = rw e (rw f)
+
+      blocks-none : blocksOf l ≡ [] → runBlocks s l room budget (blocksOf l) ≡ just (Walk.refusedAt FirstBlock (record { block = 1; byte = 0 }))
+      unfolding runBlocks
+      blocks-none e = rw e
+
+      first-block : 0 < length l → blocksOf l ≡ blockFrom 1 0 l ∷ blocksFrom l 2 (0 + lengthFrom l)
+      unfolding blocksOf
+      first-block h = blocks-step l 1 0 h
+
+      no-block : length l ≤ 0 → blocksOf l ≡ []
+      unfolding blocksOf
+      no-block h = blocks-end l 1 0 h
+
+      not-closed : isPercent (textFrom (drop 0 l)) ≡ false → outcome s l room budget ≡ just (Walk.refusedAt FirstBlock (record { block = 1; byte = 0 }))
+      not-closed e =
+          by-blocks
+          ∙ elim (decLt 0 (length l)) [
+            | yes h ↦ blocks-open (blocksOf l) (blockFrom 1 0 l) (blocksFrom l 2 (0 + lengthFrom l)) (first-block h) e
+            | no h ↦ blocks-none (no-block (omega arith))
+          ]
+
+      module _ (percent : isPercent (textFrom (drop 0 l)) ≡ true) where
+        pub some-byte : 0 < length l
+        some-byte =
+            elim (decLt 0 (length l)) [
+              | yes h ↦ h
+              | no h ↦
+                  let z : false ≡ true = sym (percent-end l 0 (omega arith)) ∙ percent in
+                  let y : _≡_ {A = ℕ} 0 1 = cc in
+                  absurd (omega arith)
+            ]
+
+        pub by-table :
+            (t : Table) → programsFrom (blockFrom 1 0 l) (blocksFrom l 2 (0 + lengthFrom l)) ≡ t
+            → outcome s l room budget ≡ runTable s l (blocksOf l) room budget t
+        by-table t e =
+            by-blocks ∙ blocks-closed (blocksOf l) (blockFrom 1 0 l) (blocksFrom l 2 (0 + lengthFrom l)) (first-block some-byte) percent
+            ∙ ap (runTable s l (blocksOf l) room budget) e
+
+-- what a run answers before its first block, and what it hands to the main program
+module _ (s : Setup) (l : List ℕ) (budget : Budget) (was : List ℕ) where
+  pub gives-too-long : 65_535 < length l → Gives (offset s) (outcome s l (length was) budget) was was (Refused DataTooLong nowhere 0)
+  unfolding answerBy
+  gives-too-long h = gives-as (too-long s l (length was) budget h) (gives-just (offset s) was (Walk.refusedAt DataTooLong nowhere))
+
+  module _ (short : length l ≤ 65_535) where
+    pub gives-bad-setup : validSetup s ≡ false → Gives (offset s) (outcome s l (length was) budget) was was (Refused BadSetup nowhere 0)
+    unfolding answerBy
+    gives-bad-setup e = gives-as (bad-setup s l (length was) budget short e) (gives-just (offset s) was (Walk.refusedAt BadSetup nowhere))
+
+    module _ (valid : validSetup s ≡ true) where
+      pub gives-first-block :
+          isPercent (textFrom (drop 0 l)) ≡ false
+          → Gives (offset s) (outcome s l (length was) budget) was was (Refused FirstBlock (record { block = 1; byte = 0 }) 0)
+      unfolding answerBy
+      gives-first-block e =
+          gives-as (not-closed s l (length was) budget short valid e)
+          (gives-just (offset s) was (Walk.refusedAt FirstBlock (record { block = 1; byte = 0 })))
+
+      module _ (percent : isPercent (textFrom (drop 0 l)) ≡ true) {found : Scanned} (scan : Answers.Gives (programsFrom (blockFrom 1 0 l) (blocksFrom l 2 (0 + lengthFrom l))) found) where
+        pub gives-opening :
+            {refusal : Refusal} {place : Place} → found .verdict ≡ Verdict.Refused refusal place
+            → Gives (offset s) (outcome s l (length was) budget) was was (Refused refusal place 0)
+        unfolding answerBy tableBy runTable
+        gives-opening {refusal} {place} e =
+            let t : tableOf found ≡ refusedAt refusal place = ap (λ (v : Verdict). tableBy v (found .programs)) e in
+            gives-as (by-table s l (length was) budget short valid percent (refusedAt refusal place) (sym (scan .table) ∙ t))
+            (gives-just (offset s) was (Walk.refusedAt refusal place))
+
+        module _ (e : found .verdict ≡ Verdict.Fine) where
+          pub programs-opened : Opened l (found .programs)
+          unfolding tableBy
+          programs-opened =
+              let t : tableOf found ≡ table (found .programs .main) (subsOf (found .programs)) = ap (λ (v : Verdict). tableBy v (found .programs)) e in
+              record {
+                some = some-byte s l (length was) budget short valid percent;
+                ready = scan .ready;
+                table = sym (scan .table) ∙ t;
+              }
+
+          pub gives-main :
+              {is : List ℕ} {r : Answer}
+              → Gives (offset s) (runTable s l (blocksOf l) (length was) budget (table (found .programs .main) (subsOf (found .programs)))) was is r
+              → Gives (offset s) (outcome s l (length was) budget) was is r
+          gives-main h =
+              gives-as
+              (by-table s l (length was) budget short valid percent (table (found .programs .main) (subsOf (found .programs)))
+              (programs-opened .table)) h
+
+-- ---- the list buffer in full
+
+pub owed :
+    (s : Setup) (l : List ℕ) (budget : Budget) {was is : List ℕ} {r : Answer}
+    → Gives (offset s) (outcome s l (length was) budget) was is r → Owes s l budget was is r
+unfolding answerOf recordsOf
+owed s l budget {was} g =
+    let made = outcome s l (length was) budget .made in
+    let bytes = movedBytes (offset s) made in
+    let fits : 0 + length bytes ≤ length was = omega (arith, moved-length (offset s) made, g .room) in
+    let none : 0 + length bytes ≡ length bytes = omega arith in
+    record { answer = g .answer; bytes = g .bytes ∙ rw none at (sets-eq bytes was 0 fits) }

@@ -1,0 +1,16 @@
+-- `interpreter::walk::is_spent` meets its contract, budget by budget. Assumes nothing.
+use mathlib.Core.Path.{sym, ap}
+use borrow.Author.Needs.{needs}
+use Rattle.interpreter.specs.Walk.{isSpent}
+use Rattle.interpreter.proofs.walk.is_spent.Statement.{statement}
+use Rattle.interpreter.proofs.walk.is_spent.Tie as tie
+
+pub is-spent-spec : {M : Type 1} → statement M
+unfolding isSpent
+is-spent-spec =
+    tie.close
+    (tie.spec
+    (λ c. search needs)
+    (λ c. search needs)
+    (λ c. sym (ap isSpent (c .enum-told .given .1)))
+    (λ c. sym (ap isSpent (c .before .budget .given .1))))
