@@ -1,0 +1,301 @@
+-- The worst fault: "8: Duplicate Sub-Program Number". Data with two openings of one number, however they are written, is
+-- refused, and gives no record, under every setup, room and budget.
+use Prim.Native.Nat.{ℕ, _+_, _≤_}
+use mathlib.Core.Path.{_≡_, refl, sym, _∙_, ap}
+use mathlib.Core.Bool.{Bool, true, false, false≢true, not, _||_, or-false, or-true, or-assoc}
+use mathlib.Core.List.{List, [], _∷_, _++_, map, append-assoc}
+use native.Mathlib.Omega.{arith}
+use borrow.Author.Tests.{eq-eqb, le-ltb, not-true}
+use lib.Dec.{eqb, ltb}
+use lib.ListN.{length, drop, length-append}
+use Rattle.terms.specs.Terms.{if_then_else_, any}
+use Rattle.terms.proofs.Laws.{both-left, both-right, either-left, either-right, any-neither}
+use Rattle.refusals.specs.declared.Refusal.{Refusal}
+use Rattle.refusals.specs.declared.Refusal.the-variants.{BadParameter, DuplicateNumber, FirstBlock, BadSetup, DataTooLong}
+use Rattle.refusals.specs.declared.Place.{Place}
+use Rattle.refusals.specs.Numbers.{numberOf}
+use Rattle.lines.specs.Blocks.{Block, blocksOf, closes}
+use Rattle.programs.specs.declared.Program.{Program}
+use Rattle.programs.specs.declared.Opening.{Opening}
+use Rattle.programs.specs.declared.Opening.the-variants.{Number, Bad}
+use Rattle.programs.specs.declared.Entry.{Entry}
+use Rattle.programs.specs.declared.Entry.the-variants.{Refuses, Enters}
+use Rattle.programs.specs.Openings.{openingOf, placeOf, programAfter, Table, refusedAt, isTaken, entryOf, entered, programsFrom}
+use Rattle.programs.proofs.Entries.{taken-main}
+use Rattle.setup.specs.declared.Setup.{Setup}
+use Rattle.setup.specs.Limits.{validSetup}
+use Rattle.interpreter.specs.Walk.{Outcome, just}
+use Rattle.interpreter.specs.Walk as Walk
+use Rattle.interpreter.specs.Run.{nowhere, runTable, runBlocks, outcome, recordsOf, answerBy, answerOf}
+use Rattle.interpreter.specs.declared.Budget.{Budget}
+use Rattle.promises.specs.Duplicates.{openingsIn, openingsOf, percentBegins, mainOpens, mostOpenings, Twice, Early, tooLong, badSetup, firstBlock, opening, earlier, NoList, RefusedEarly, allDifferent, InOrder}
+use Rattle.promises.proofs.Openings.{scanned, mainBy, tableBy, programs-openings, taken-more, taken-still, taken-now, entry-duplicate, entry-enters, entry-refusal, entry-own, number-some}
+
+-- ---- numbers
+
+-- no opening has the number 0
+no-zero : (os : List Block) (ns : List ℕ) → map openingOf os ≡ map Number ns → any (λ k. eqb k 0) ns ≡ false
+unfolding any
+no-zero [] [] e = refl
+no-zero [] (n ∷ ns) e = let never : _≡_ {A = ℕ} 0 1 = cc in absurd (omega arith)
+no-zero (c ∷ os) [] e = let never : _≡_ {A = ℕ} 0 1 = cc in absurd (omega arith)
+no-zero (c ∷ os) (n ∷ ns) e =
+    let is : openingOf c ≡ Number n = cc in
+    let rest : map openingOf os ≡ map Number ns = cc in
+    rw (number-some c n is) (no-zero os ns rest)
+
+-- an opening's number is one of the numbers
+one-of :
+    (n : ℕ) (a : Block) (os rest : List Block) (ns : List ℕ) → openingOf a ≡ Number n → map openingOf (os ++ a ∷ rest) ≡ map Number ns
+    → any (eqb n) ns ≡ true
+unfolding any
+one-of n a [] rest [] e f = let never : _≡_ {A = ℕ} 0 1 = cc in absurd (omega arith)
+one-of n a [] rest (m ∷ ns) e f = let is : n ≡ m = cc in rw (eq-eqb n m is)
+one-of n a (c ∷ os) rest [] e f = let never : _≡_ {A = ℕ} 0 1 = cc in absurd (omega arith)
+one-of n a (c ∷ os) rest (m ∷ ns) e f =
+    let more : map openingOf (os ++ a ∷ rest) ≡ map Number ns = cc in
+    rw (one-of n a os rest ns e more) (or-true (eqb n m))
+
+-- ---- two openings of one number
+
+-- one of the openings is refused
+record Refusing (os : List Block) (t : Table) : Type 0 where
+  refusal : Refusal
+  before : List Block
+  at : Block
+  after : List Block
+  are : os ≡ before ++ at ∷ after
+  reason : any (eqb (numberOf refusal)) (1 ∷ 8 ∷ 7 ∷ []) ≡ true
+  is : t ≡ refusedAt refusal (placeOf at)
+
+refusing-later : {os : List Block} {t : Table} (c : Block) → Refusing os t → Refusing (c ∷ os) t
+refusing-later c r =
+    record {
+      refusal = r .refusal;
+      before = c ∷ r .before;
+      at = r .at;
+      after = r .after;
+      are = ap (c ∷_) (r .are);
+      reason = r .reason;
+      is = r .is;
+    }
+
+module _ (main : Program) (b : Block) (n : ℕ) (number : openingOf b ≡ Number n) (later : List Block) where
+  -- an opening that is refused, or the table goes on with its number
+  step :
+      (c : Block) (os : List Block) (subs : List Program) (e : Entry) → entryOf main subs (openingOf c) ≡ e
+      → ((m : ℕ) → e ≡ Enters m → Refusing os (scanned main (os ++ later) (subs ++ programAfter m c ∷ [])))
+      → Refusing (c ∷ os) (scanned main (c ∷ os ++ later) subs)
+  unfolding scanned entered
+  step c os subs (Refuses refusal) e on =
+      record {
+        refusal = refusal;
+        before = [];
+        at = c;
+        after = os;
+        are = refl;
+        reason = entry-refusal main subs (openingOf c) refusal e;
+        is = rw e;
+      }
+  step c os subs (Enters m) e on = rw e (refusing-later c (on m refl))
+
+  -- a number that is taken is refused at its opening, where no opening before it is
+  taken-refused : (os : List Block) (subs : List Program) → isTaken main subs n ≡ true → Refusing (os ++ b ∷ []) (scanned main ((os ++ b ∷ []) ++ later) subs)
+  taken-refused [] subs e =
+      step b [] subs (Refuses DuplicateNumber) (entry-duplicate main subs (openingOf b) n number e)
+      (λ m f. let never : _≡_ {A = ℕ} 0 1 = cc in absurd (omega arith))
+  taken-refused (c ∷ os) subs e =
+      step c (os ++ b ∷ []) subs (entryOf main subs (openingOf c)) refl
+      (λ m f. taken-refused os (subs ++ programAfter m c ∷ []) (taken-still main subs (programAfter m c) n e))
+
+  module _ (a : Block) (same : openingOf a ≡ Number n) (between : List Block) where
+    twice-refused :
+        (os : List Block) (subs : List Program)
+        → Refusing (os ++ a ∷ between ++ b ∷ []) (scanned main ((os ++ a ∷ between ++ b ∷ []) ++ later) subs)
+    twice-refused [] subs =
+        step a (between ++ b ∷ []) subs (entryOf main subs (openingOf a)) refl
+        (λ m f.
+        taken-refused between (subs ++ programAfter m a ∷ [])
+        (taken-now main subs (programAfter m a) n (entry-own main subs (openingOf a) n m same f)))
+    twice-refused (c ∷ os) subs =
+        step c (os ++ a ∷ between ++ b ∷ []) subs (entryOf main subs (openingOf c)) refl
+        (λ m f. twice-refused os (subs ++ programAfter m c ∷ []))
+
+-- the main's opening is refused, or its number is taken from then on
+main-step :
+    (o : Opening) (c : Block) (os later : List Block)
+    → ((m : ℕ) → o ≡ Number m → Refusing os (scanned (programAfter m c) (os ++ later) [])) → Refusing (c ∷ os) (mainBy o c (os ++ later))
+unfolding mainBy any
+main-step Bad c os later on =
+    record { refusal = BadParameter; before = []; at = c; after = os; are = refl; reason = refl; is = refl }
+main-step (Number m) c os later on = refusing-later c (on m refl)
+
+module _ (b a : Block) (n : ℕ) (other : openingOf b ≡ Number n) (one : openingOf a ≡ Number n) (between later : List Block) where
+  under-main :
+      (percent : Block) (os : List Block)
+      → Refusing (os ++ a ∷ between ++ b ∷ []) (tableBy true percent ((os ++ a ∷ between ++ b ∷ []) ++ later))
+  unfolding tableBy
+  under-main percent [] =
+      main-step (openingOf a) a (between ++ b ∷ []) later
+      (λ m f.
+      let own : n ≡ m = cc in
+      taken-refused (programAfter m a) b n other later between [] (taken-main (programAfter m a) [] n own))
+  under-main percent (c ∷ os) =
+      main-step (openingOf c) c (os ++ a ∷ between ++ b ∷ []) later
+      (λ m f. twice-refused (programAfter m c) b n other later a one between os [])
+
+-- whether the first opening is the main's or not
+table-refused :
+    (isMain : Bool) (percent : Block) {os : List Block} {b : Block} (later : List Block) → Twice os b
+    → Refusing os (tableBy isMain percent (os ++ later))
+unfolding tableBy
+table-refused false percent {os} {b} later t =
+    rw (t .are) (twice-refused (programAfter 0 percent) b (t .number) (t .other) later (t .first) (t .one) (t .between) (t .before) [])
+table-refused true percent {os} {b} later t =
+    rw (t .are) (under-main b (t .first) (t .number) (t .other) (t .one) (t .between) later percent (t .before))
+
+-- ---- the first duplicate
+
+any-same : {A : Type 0} (p q : A → Bool) → ((a : A) → p a ≡ q a) → (l : List A) → any p l ≡ any q l
+unfolding any
+any-same p q h [] = refl
+any-same p q h (a ∷ l) = rw (h a, any-same p q h l)
+
+-- with a number entered, the numbers are free that were free and are not this one
+free-still :
+    (main : Program) (subs : List Program) (p : Program) (ns : List ℕ) → any (isTaken main subs) ns ≡ false
+    → any (λ k. eqb k (p .number)) ns ≡ false → any (isTaken main (subs ++ p ∷ [])) ns ≡ false
+free-still main subs p ns =
+    any-neither (isTaken main (subs ++ p ∷ [])) (isTaken main subs) (λ k. eqb k (p .number)) (λ k e. sym (taken-more main subs p k) ∙ e) ns
+
+module _ (b : Block) (n : ℕ) (number : openingOf b ≡ Number n) (later : List Block) where
+  first-refused :
+      (main : Program) (os : List Block) (ns : List ℕ) (subs : List Program) → map openingOf os ≡ map Number ns → allDifferent ns ≡ true
+      → any (isTaken main subs) ns ≡ false → length subs + length os ≤ 10 → (isTaken main subs n || any (eqb n) ns) ≡ true
+      → scanned main (os ++ b ∷ later) subs ≡ refusedAt DuplicateNumber (placeOf b)
+  unfolding scanned entered any allDifferent
+  first-refused main [] [] subs g d f h e =
+      rw (entry-duplicate main subs (openingOf b) n number (sym (or-false (isTaken main subs n)) ∙ e))
+  first-refused main [] (m ∷ ns) subs g d f h e = let never : _≡_ {A = ℕ} 0 1 = cc in absurd (omega arith)
+  first-refused main (c ∷ os) [] subs g d f h e = let never : _≡_ {A = ℕ} 0 1 = cc in absurd (omega arith)
+  first-refused main (c ∷ os) (m ∷ ns) subs g d f h e =
+      let p = programAfter m c in
+      let is : openingOf c ≡ Number m = cc in
+      let rest : map openingOf os ≡ map Number ns = cc in
+      let new : isTaken main subs m ≡ false = either-left (isTaken main subs m) (any (isTaken main subs) ns) f in
+      let others : any (isTaken main subs) ns ≡ false = either-right (isTaken main subs m) (any (isTaken main subs) ns) f in
+      let differ : any (λ k. eqb k m) ns ≡ false = not-true (any (λ k. eqb k m) ns) (both-left (not (any (λ k. eqb k m) ns)) (allDifferent ns) d) in
+      let taken : (isTaken main (subs ++ p ∷ []) n || any (eqb n) ns) ≡ true =
+      rw (taken-more main subs p n) (or-assoc (isTaken main subs n) (eqb n m) (any (eqb n) ns) ∙ e) in
+      rw (entry-enters main subs (openingOf c) m is new (omega arith))
+      (first-refused main os ns (subs ++ p ∷ []) rest (both-right (not (any (λ k. eqb k m) ns)) (allDifferent ns) d)
+      (free-still main subs p ns others differ) (omega (arith, length-append subs (p ∷ []))) taken)
+
+  -- the main's number is one of the numbers, and a main without an opening takes none
+  first-table :
+      (isMain : Bool) (percent : Block) (os : List Block) (ns : List ℕ) → InOrder os ns (if isMain then 11 else 10) → any (eqb n) ns ≡ true
+      → tableBy isMain percent (os ++ b ∷ later) ≡ refusedAt DuplicateNumber (placeOf b)
+  unfolding tableBy mainBy any allDifferent isTaken
+  first-table false percent os ns h e =
+      first-refused (programAfter 0 percent) os ns [] (h .good) (h .different)
+      (any-same (isTaken (programAfter 0 percent) []) (λ k. eqb k 0) (λ k. or-false (eqb k 0)) ns ∙ no-zero os ns (h .good)) (omega (arith, h .few))
+      (rw e (or-true (isTaken (programAfter 0 percent) [] n)))
+  first-table true percent [] [] h e = absurd (false≢true e)
+  first-table true percent [] (m ∷ ns) h e = let g = h .good in let never : _≡_ {A = ℕ} 0 1 = cc in absurd (omega arith)
+  first-table true percent (c ∷ os) [] h e = absurd (false≢true e)
+  first-table true percent (c ∷ os) (m ∷ ns) h e =
+      let g = h .good in
+      let is : openingOf c ≡ Number m = cc in
+      let rest : map openingOf os ≡ map Number ns = cc in
+      let differ : any (λ k. eqb k m) ns ≡ false =
+      not-true (any (λ k. eqb k m) ns) (both-left (not (any (λ k. eqb k m) ns)) (allDifferent ns) (h .different)) in
+      rw is
+      (first-refused (programAfter m c) os ns [] rest (both-right (not (any (λ k. eqb k m) ns)) (allDifferent ns) (h .different))
+      (any-same (isTaken (programAfter m c) []) (λ k. eqb k m) (λ k. or-false (eqb k m)) ns ∙ differ) (omega (arith, h .few))
+      (rw (or-false (eqb n m)) e))
+
+-- ---- the run
+
+record Stops (os : List Block) (o : Outcome) : Type 0 where
+  refusal : Refusal
+  place : Place
+  early : Early os refusal place
+  is : o ≡ just (Walk.refusedAt refusal place)
+
+module _ (s : Setup) (bytes : List ℕ) (room : ℕ) (budget : Budget) where
+  no-list : (refusal : Refusal) (place : Place) → outcome s bytes room budget ≡ just (Walk.refusedAt refusal place) → NoList s bytes room budget refusal place
+  unfolding answerOf answerBy recordsOf
+  no-list refusal place e = record { answer = rw e; records = rw e }
+
+  stops-table : (bs : List Block) {os : List Block} {t : Table} → Refusing os t → Stops os (runTable s bytes bs room budget t)
+  unfolding runTable
+  stops-table bs r =
+      record {
+        refusal = r .refusal;
+        place = placeOf (r .at);
+        early = opening (r .before) (r .at) (r .after) (r .are) (r .reason);
+        is = rw (r .is);
+      }
+
+  stops-first : (os : List Block) → Stops os (just (Walk.refusedAt FirstBlock (record { block = 1; byte = 0 })))
+  stops-first os = record { refusal = FirstBlock; place = record { block = 1; byte = 0 }; early = firstBlock; is = refl }
+
+  module _ {os : List Block} {b : Block} (later : List Block) (twice : Twice os b) where
+    stops-blocks : (bs : List Block) → openingsIn (drop 1 bs) ≡ os ++ later → Stops os (runBlocks s bytes room budget bs)
+    unfolding runBlocks
+    stops-blocks [] e = stops-first os
+    stops-blocks (percent ∷ bs) e = go (closes percent)
+      where
+        go :
+            (isPercent : Bool)
+            → Stops os
+            (if isPercent then runTable s bytes (percent ∷ bs) room budget (programsFrom percent bs)
+            else just (Walk.refusedAt FirstBlock (record { block = 1; byte = 0 })))
+        go true =
+            rw (programs-openings percent bs, e) (stops-table (percent ∷ bs) (table-refused (mainOpens (percent ∷ bs)) percent later twice))
+        go false = stops-first os
+
+    stops : openingsOf bytes ≡ os ++ later → Stops os (outcome s bytes room budget)
+    unfolding outcome openingsOf
+    stops e = go (ltb 65_535 (length bytes)) (validSetup s)
+      where
+        go :
+            (long valid : Bool)
+            → Stops os
+            (if long then just (Walk.refusedAt DataTooLong nowhere)
+            else if not valid then just (Walk.refusedAt BadSetup nowhere)
+            else runBlocks s bytes room budget (blocksOf bytes))
+        go true valid = record { refusal = DataTooLong; place = nowhere; early = tooLong; is = refl }
+        go false false = record { refusal = BadSetup; place = nowhere; early = badSetup; is = refl }
+        go false true = stops-blocks (blocksOf bytes) e
+
+  -- Data with two openings of one number is refused at the second of them or earlier, and no record is made.
+  pub two-of-one-number :
+      {os : List Block} {b : Block} (later : List Block) → openingsOf bytes ≡ os ++ later → Twice os b → RefusedEarly s bytes room budget os
+  two-of-one-number later e twice =
+      let r = stops later twice e in
+      record { refusal = r .refusal; place = r .place; early = r .early; no-list = no-list (r .refusal) (r .place) (r .is) }
+
+  -- Where data, setup and first block are in order and no opening before the second of the two is refused, the refusal is 8
+  -- at that opening.
+  pub first-duplicate :
+      {os : List Block} {b : Block} (later : List Block) (ns : List ℕ) → length bytes ≤ 65_535 → validSetup s ≡ true
+      → percentBegins (blocksOf bytes) ≡ true → openingsOf bytes ≡ os ++ later → (twice : Twice os b)
+      → InOrder (earlier twice) ns (mostOpenings bytes) → NoList s bytes room budget DuplicateNumber (placeOf b)
+  unfolding outcome openingsOf mostOpenings runBlocks runTable percentBegins
+  first-duplicate {os} {b} later ns h v p e twice order =
+      no-list DuplicateNumber (placeOf b) (rw (le-ltb 65_535 (length bytes) h, v) (go (blocksOf bytes) p listed order))
+    where
+      listed : openingsIn (drop 1 (blocksOf bytes)) ≡ earlier twice ++ b ∷ later
+      listed = e ∙ rw (twice .are) (simp append-assoc)
+
+      go :
+          (bs : List Block) → percentBegins bs ≡ true → openingsIn (drop 1 bs) ≡ earlier twice ++ b ∷ later
+          → InOrder (earlier twice) ns (if mainOpens bs then 11 else 10)
+          → runBlocks s bytes room budget bs ≡ just (Walk.refusedAt DuplicateNumber (placeOf b))
+      go [] q f o = absurd (false≢true q)
+      go (percent ∷ bs) q f o =
+          let is : tableBy (mainOpens (percent ∷ bs)) percent (earlier twice ++ b ∷ later) ≡ refusedAt DuplicateNumber (placeOf b) =
+          first-table b (twice .number) (twice .other) later (mainOpens (percent ∷ bs)) percent (earlier twice) ns o
+          (one-of (twice .number) (twice .first) (twice .before) (twice .between) ns (twice .one) (o .good)) in
+          rw (q, programs-openings percent bs, f, is)

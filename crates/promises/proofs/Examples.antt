@@ -1,0 +1,45 @@
+-- The promises tried on small data sets: what each of them asks can be met, and what it says is what the rules compute.
+use Prim.Native.Nat.{ℕ}
+use mathlib.Core.Path.{_≡_, refl}
+use mathlib.Core.List.{[], _∷_}
+use native.Mathlib.Omega.{arith}
+use Rattle.refusals.specs.declared.Refusal.the-variants.{DuplicateNumber}
+use Rattle.programs.specs.Openings.{placeOf}
+use Rattle.interpreter.specs.Examples.{setupT}
+use Rattle.interpreter.specs.Run.{answerOf}
+use Rattle.interpreter.specs.declared.Answer.the-variants.{Refused}
+use Rattle.interpreter.specs.declared.Budget.{Budget}
+use Rattle.interpreter.specs.declared.Budget.the-variants.{First}
+use Rattle.promises.specs.Duplicates.{Twice, NoList, openingsOf}
+use Rattle.promises.specs.Examples.{twoSubprograms, firstOne, secondOne, mainAgain, mainOpening, otherOpening, mainNumberAgain}
+use Rattle.promises.proofs.Opened.{opened}
+use Rattle.promises.proofs.Duplicates.{first-duplicate}
+
+-- ---- two openings of one number
+
+subprograms-twice : Twice (openingsOf twoSubprograms) secondOne
+unfolding opened
+subprograms-twice =
+    record { before = []; first = firstOne; between = []; number = 1; are = refl; one = refl; other = refl }
+
+pub subprograms-refused : (room : ℕ) (budget : Budget) → NoList setupT twoSubprograms room budget DuplicateNumber (placeOf secondOne)
+unfolding opened subprograms-twice
+subprograms-refused room budget =
+    first-duplicate setupT twoSubprograms room budget [] (1 ∷ []) (omega arith) refl refl refl subprograms-twice
+    (record { good = refl; different = refl; few = omega arith })
+
+main-twice : Twice (openingsOf mainAgain) mainNumberAgain
+unfolding opened
+main-twice =
+    record { before = []; first = mainOpening; between = otherOpening ∷ []; number = 7; are = refl; one = refl; other = refl }
+
+pub main-refused : (room : ℕ) (budget : Budget) → NoList setupT mainAgain room budget DuplicateNumber (placeOf mainNumberAgain)
+unfolding opened main-twice
+main-refused room budget =
+    first-duplicate setupT mainAgain room budget [] (7 ∷ 20 ∷ []) (omega arith) refl refl refl main-twice
+    (record { good = refl; different = refl; few = omega arith })
+
+-- the same by computation alone
+pub main-refused-computed : answerOf setupT mainAgain 0 (First 0) ≡ Refused DuplicateNumber (record { block = 6; byte = 17 }) 0
+unfolding opened
+main-refused-computed = refl

@@ -1,0 +1,4 @@
+pub mod Opened
+pub mod Openings
+pub mod Duplicates
+pub mod Examples

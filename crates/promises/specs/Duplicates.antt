@@ -1,0 +1,93 @@
+-- The openings of the data, and two of them with one number: the worst fault of the old box, that it ran one of two
+-- subprograms of one number.
+use Prim.Native.Nat.{ℕ, _+_, _≤_}
+use mathlib.Core.Path.{_≡_}
+use mathlib.Core.Bool.{Bool, true, false, not, _&&_}
+use mathlib.Core.List.{List, [], _∷_, _++_, map}
+use lib.Dec.{eqb}
+use lib.ListN.{length, drop}
+use Rattle.terms.specs.Terms.{if_then_else_, any}
+use Rattle.refusals.specs.declared.Refusal.{Refusal}
+use Rattle.refusals.specs.declared.Refusal.the-variants.{FirstBlock, BadSetup, DataTooLong}
+use Rattle.refusals.specs.declared.Place.{Place}
+use Rattle.refusals.specs.Numbers.{numberOf}
+use Rattle.lines.specs.Blocks.{Block, blocksOf, closes, opens}
+use Rattle.programs.specs.Openings.{openingOf, placeOf, most}
+use Rattle.programs.specs.declared.Opening.the-variants.{Number}
+use Rattle.setup.specs.declared.Setup.{Setup}
+use Rattle.interpreter.specs.Run.{nowhere, answerOf, recordsOf}
+use Rattle.interpreter.specs.declared.Answer.the-variants.{Refused}
+use Rattle.interpreter.specs.declared.Budget.{Budget}
+
+-- "A later `%` alone ends the data; nothing after it is read." The openings among blocks, up to that one.
+unfoldable pub openingsIn : List Block → List Block
+openingsIn [] = []
+openingsIn (b ∷ bs) =
+    if closes b then []
+    else if opens b then b ∷ openingsIn bs
+    else openingsIn bs
+
+-- the openings of the data, which come after its first block; the main's is among them
+unfoldable pub openingsOf : List ℕ → List Block
+openingsOf bytes = openingsIn (drop 1 (blocksOf bytes))
+
+-- "The first block is `%` alone."
+unfoldable pub percentBegins : List Block → Bool
+percentBegins [] = false
+percentBegins (b ∷ bs) = closes b
+
+-- "under the first `O` where that is the second block, are the main program": the second block opens the main program
+unfoldable pub mainOpens : List Block → Bool
+mainOpens [] = false
+mainOpens (b ∷ []) = false
+mainOpens (b ∷ c ∷ bs) = opens c
+
+-- "All others are subprograms, ten at most.": so many openings, the main's beside ten subprograms
+unfoldable pub mostOpenings : List ℕ → ℕ
+mostOpenings bytes = if mainOpens (blocksOf bytes) then most + 1 else most
+
+-- Among openings, the last of which is b, b has the number of one before it. "Numbers compare by value": however they are
+-- written.
+pub record Twice (os : List Block) (b : Block) : Type 0 where
+  pub before : List Block
+  pub first : Block
+  pub between : List Block
+  pub number : ℕ
+  pub are : os ≡ before ++ first ∷ between ++ b ∷ []
+  pub one : openingOf first ≡ Number number
+  pub other : openingOf b ≡ Number number
+
+-- the openings before the second of the two
+abbrev pub earlier : {os : List Block} {b : Block} → Twice os b → List Block
+earlier t = t .before ++ t .first ∷ t .between
+
+-- A refusal that comes before any block is executed: "13, 12, 11; then per opening 1, 8, 7", of one of the openings given.
+pub data Early (os : List Block) : Refusal → Place → Type 0 where
+  tooLong : Early os DataTooLong nowhere
+  badSetup : Early os BadSetup nowhere
+  firstBlock : Early os FirstBlock (record { block = 1; byte = 0 })
+  opening :
+      {refusal : Refusal} (before : List Block) (b : Block) (after : List Block) → os ≡ before ++ b ∷ after
+      → any (eqb (numberOf refusal)) (1 ∷ 8 ∷ 7 ∷ []) ≡ true → Early os refusal (placeOf b)
+
+-- the run is refused and no record is made
+pub record NoList (s : Setup) (bytes : List ℕ) (room : ℕ) (budget : Budget) (refusal : Refusal) (place : Place) : Type 0 where
+  pub answer : answerOf s bytes room budget ≡ Refused refusal place 0
+  pub records : recordsOf s bytes room budget ≡ []
+
+-- the same at one of the openings given, or before any of them
+pub record RefusedEarly (s : Setup) (bytes : List ℕ) (room : ℕ) (budget : Budget) (os : List Block) : Type 0 where
+  pub refusal : Refusal
+  pub place : Place
+  pub early : Early os refusal place
+  pub no-list : NoList s bytes room budget refusal place
+
+unfoldable pub allDifferent : List ℕ → Bool
+allDifferent [] = true
+allDifferent (n ∷ ns) = not (any (λ k. eqb k n) ns) && allDifferent ns
+
+-- Openings of which none is refused: each has a number, no two the same, and they are not too many.
+pub record InOrder (os : List Block) (numbers : List ℕ) (limit : ℕ) : Type 0 where
+  pub good : map openingOf os ≡ map Number numbers
+  pub different : allDifferent numbers ≡ true
+  pub few : length os ≤ limit
