@@ -193,9 +193,9 @@ module _ (b : Block) (n : ℕ) (number : openingOf b ≡ Number n) (later : List
 
   -- the main's number is one of the numbers, and a main without an opening takes none
   first-table :
-      (isMain : Bool) (percent : Block) (os : List Block) (ns : List ℕ) → InOrder os ns (if isMain then 11 else 10) → any (eqb n) ns ≡ true
+      (isMain : Bool) (percent : Block) (os : List Block) (ns : List ℕ) → InOrder os ns (mostOpenings isMain) → any (eqb n) ns ≡ true
       → tableBy isMain percent (os ++ b ∷ later) ≡ refusedAt DuplicateNumber (placeOf b)
-  unfolding tableBy mainBy any allDifferent isTaken
+  unfolding tableBy mainBy any allDifferent isTaken mostOpenings
   first-table false percent os ns h e =
       first-refused (programAfter 0 percent) os ns [] (h .good) (h .different)
       (any-same (isTaken (programAfter 0 percent) []) (λ k. eqb k 0) (λ k. or-false (eqb k 0)) ns ∙ no-zero os ns (h .good)) (omega (arith, h .few))
@@ -281,8 +281,8 @@ module _ (s : Setup) (bytes : List ℕ) (room : ℕ) (budget : Budget) where
   pub first-duplicate :
       {os : List Block} {b : Block} (later : List Block) (ns : List ℕ) → length bytes ≤ 65_535 → validSetup s ≡ true
       → percentBegins (blocksOf bytes) ≡ true → openingsOf bytes ≡ os ++ later → (twice : Twice os b)
-      → InOrder (earlier twice) ns (mostOpenings bytes) → NoList s bytes room budget DuplicateNumber (placeOf b)
-  unfolding outcome openingsOf mostOpenings runBlocks runTable percentBegins
+      → InOrder (earlier twice) ns (mostOpenings (mainOpens (blocksOf bytes))) → NoList s bytes room budget DuplicateNumber (placeOf b)
+  unfolding outcome openingsOf runBlocks runTable percentBegins
   first-duplicate {os} {b} later ns h v p e twice order =
       no-list DuplicateNumber (placeOf b) (rw (le-ltb 65_535 (length bytes) h, v) (go (blocksOf bytes) p listed order))
     where
@@ -291,7 +291,7 @@ module _ (s : Setup) (bytes : List ℕ) (room : ℕ) (budget : Budget) where
 
       go :
           (bs : List Block) → percentBegins bs ≡ true → openingsIn (drop 1 bs) ≡ earlier twice ++ b ∷ later
-          → InOrder (earlier twice) ns (if mainOpens bs then 11 else 10)
+          → InOrder (earlier twice) ns (mostOpenings (mainOpens bs))
           → runBlocks s bytes room budget bs ≡ just (Walk.refusedAt DuplicateNumber (placeOf b))
       go [] q f o = absurd (false≢true q)
       go (percent ∷ bs) q f o =

@@ -1,19 +1,26 @@
 -- The promises tried on small data sets: what each of them asks can be met, and what it says is what the rules compute.
 use Prim.Native.Nat.{ℕ}
 use mathlib.Core.Path.{_≡_, refl}
-use mathlib.Core.List.{[], _∷_}
+use mathlib.Core.Bool.{false}
+use mathlib.Core.List.{[], _∷_, map}
 use native.Mathlib.Omega.{arith}
+use lib.ListN.{set}
+use Rattle.terms.specs.Terms.{byte}
 use Rattle.refusals.specs.declared.Refusal.the-variants.{DuplicateNumber}
 use Rattle.programs.specs.Openings.{placeOf}
-use Rattle.interpreter.specs.Examples.{setupT}
-use Rattle.interpreter.specs.Run.{answerOf}
-use Rattle.interpreter.specs.declared.Answer.the-variants.{Refused}
+use Rattle.gaps.specs.Comments.{insideAt}
+use Rattle.setup.specs.declared.Setup.{Setup}
+use Rattle.interpreter.specs.Examples.{setupT, roomT}
+use Rattle.interpreter.specs.Run.{answerOf, recordsOf}
+use Rattle.interpreter.specs.declared.Answer.the-variants.{Done, Refused}
 use Rattle.interpreter.specs.declared.Budget.{Budget}
-use Rattle.interpreter.specs.declared.Budget.the-variants.{First}
+use Rattle.interpreter.specs.declared.Budget.the-variants.{Whole, First}
 use Rattle.promises.specs.Duplicates.{Twice, NoList, openingsOf}
-use Rattle.promises.specs.Examples.{twoSubprograms, firstOne, secondOne, mainAgain, mainOpening, otherOpening, mainNumberAgain}
+use Rattle.promises.specs.Comments.{SameRun}
+use Rattle.promises.specs.Examples.{twoSubprograms, firstOne, secondOne, mainAgain, mainOpening, otherOpening, mainNumberAgain, commented, commentedElse}
 use Rattle.promises.proofs.Opened.{opened}
 use Rattle.promises.proofs.Duplicates.{first-duplicate}
+use Rattle.promises.proofs.Comments.{comment-byte-replaced}
 
 -- ---- two openings of one number
 
@@ -43,3 +50,23 @@ main-refused room budget =
 pub main-refused-computed : answerOf setupT mainAgain 0 (First 0) ≡ Refused DuplicateNumber (record { block = 6; byte = 17 }) 0
 unfolding opened
 main-refused-computed = refl
+
+-- ---- comments
+
+-- the comment's first byte, at place 12, replaced by `(`
+pub comment-byte : (s : Setup) (room : ℕ) (budget : Budget) → SameRun s room budget commented (set commented 12 (byte "("))
+unfolding opened
+comment-byte s room budget = comment-byte-replaced s room budget commented 12 40 refl (λ e. omega arith) (λ e. omega arith) (λ e. omega arith)
+
+-- by computation, with all of the comment's bytes replaced; the parenthesis before the comment is not inside it
+pub comment-records : recordsOf setupT commented roomT Whole ≡ recordsOf setupT commentedElse roomT Whole
+unfolding opened
+comment-records = refl
+
+pub comment-answer : map (λ x. answerOf setupT x roomT Whole) (commented ∷ commentedElse ∷ []) ≡ Done 2 ∷ Done 2 ∷ []
+unfolding opened
+comment-answer = refl
+
+pub before-the-comment : insideAt false commented 11 ≡ false
+unfolding opened
+before-the-comment = refl

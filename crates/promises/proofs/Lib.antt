@@ -1,4 +1,5 @@
 pub mod Opened
 pub mod Openings
 pub mod Duplicates
+pub mod Comments
 pub mod Examples

@@ -21,7 +21,7 @@ use Rattle.programs.specs.declared.Opening.the-variants.{Number, Bad}
 use Rattle.programs.specs.declared.Entry.{Entry}
 use Rattle.programs.specs.declared.Entry.the-variants.{Refuses, Enters}
 use Rattle.programs.specs.Openings.{numberAfterO, openingOf, placeOf, programAfter, Table, table, refusedAt, isTaken, entryOf, entered, scanBlock, scan, mainAs, programsFrom}
-use Rattle.promises.specs.Duplicates.{openingsIn, mainOpens}
+use Rattle.promises.specs.Duplicates.{withBlock, openingsIn, mainOpens}
 
 -- ---- the openings alone
 
@@ -47,14 +47,14 @@ entered-same (Refuses refusal) subs b f g h = refl
 entered-same (Enters n) subs b f g h = h (subs ++ programAfter n b ∷ [])
 
 pub scan-openings : (main : Program) (bs : List Block) (subs : List Program) → scan main bs subs ≡ scanned main (openingsIn bs) subs
-unfolding scan scanBlock openingsIn scanned
+unfolding scan scanBlock withBlock openingsIn scanned
 scan-openings main [] subs = refl
 scan-openings main (b ∷ bs) subs = go (closes b) (opens b) (scan-openings main bs)
   where
     go :
         (end opening : Bool) → ((ps : List Program) → scan main bs ps ≡ scanned main (openingsIn bs) ps)
         → scanBlock end opening main subs b (scan main bs)
-        ≡ scanned main (if end then [] else if opening then b ∷ openingsIn bs else openingsIn bs) subs
+        ≡ scanned main (withBlock end opening b (openingsIn bs)) subs
     go true opening on = refl
     go false true on = entered-same (entryOf main subs (openingOf b)) subs b (scan main bs) (scanned main (openingsIn bs)) on
     go false false on = on subs
@@ -70,7 +70,7 @@ opens-closes b e = go (b .text) e
     go (c ∷ d ∷ text) f = refl
 
 pub programs-openings : (percent : Block) (bs : List Block) → programsFrom percent bs ≡ tableBy (mainOpens (percent ∷ bs)) percent (openingsIn bs)
-unfolding programsFrom mainOpens tableBy openingsIn scanned mainAs mainBy
+unfolding programsFrom mainOpens tableBy withBlock openingsIn scanned mainAs mainBy
 programs-openings percent [] = refl
 programs-openings percent (b ∷ bs) = go (opens b) refl
   where

@@ -19,13 +19,16 @@ use Rattle.interpreter.specs.Run.{nowhere, answerOf, recordsOf}
 use Rattle.interpreter.specs.declared.Answer.the-variants.{Refused}
 use Rattle.interpreter.specs.declared.Budget.{Budget}
 
--- "A later `%` alone ends the data; nothing after it is read." The openings among blocks, up to that one.
+-- A block in front of openings: "A later `%` alone ends the data; nothing after it is read.", and an opening is one more.
+unfoldable pub withBlock : Bool → Bool → Block → List Block → List Block
+withBlock true isOpening b os = []
+withBlock false true b os = b ∷ os
+withBlock false false b os = os
+
+-- the openings among blocks, up to the closing `%`
 unfoldable pub openingsIn : List Block → List Block
 openingsIn [] = []
-openingsIn (b ∷ bs) =
-    if closes b then []
-    else if opens b then b ∷ openingsIn bs
-    else openingsIn bs
+openingsIn (b ∷ bs) = withBlock (closes b) (opens b) b (openingsIn bs)
 
 -- the openings of the data, which come after its first block; the main's is among them
 unfoldable pub openingsOf : List ℕ → List Block
@@ -42,9 +45,9 @@ mainOpens [] = false
 mainOpens (b ∷ []) = false
 mainOpens (b ∷ c ∷ bs) = opens c
 
--- "All others are subprograms, ten at most.": so many openings, the main's beside ten subprograms
-unfoldable pub mostOpenings : List ℕ → ℕ
-mostOpenings bytes = if mainOpens (blocksOf bytes) then most + 1 else most
+-- "All others are subprograms, ten at most.": so many openings may stand, the main's beside ten subprograms
+unfoldable pub mostOpenings : Bool → ℕ
+mostOpenings ofMain = if ofMain then most + 1 else most
 
 -- Among openings, the last of which is b, b has the number of one before it. "Numbers compare by value": however they are
 -- written.

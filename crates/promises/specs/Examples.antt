@@ -26,3 +26,10 @@ otherOpening = record { number = 4; start = 9; text = bytes "O20"; next = 13 }
 
 abbrev pub mainNumberAgain : Block
 mainNumberAgain = record { number = 6; start = 17; text = bytes "O007(x)"; next = 25 }
+
+-- a comment, and the same data with all of the comment's bytes replaced, an opening parenthesis among them
+abbrev pub commented : List ℕ
+commented = bytes "%\nG00 X5.0 (to the edge) Y5.0\nM30\n"
+
+abbrev pub commentedElse : List ℕ
+commentedElse = bytes "%\nG00 X5.0 (M02\t%/(O1 Z9) Y5.0\nM30\n"

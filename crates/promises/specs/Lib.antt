@@ -1,2 +1,3 @@
 pub mod Duplicates
+pub mod Comments
 pub mod Examples

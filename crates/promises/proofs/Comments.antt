@@ -1,0 +1,203 @@
+-- "Bytes inside a comment, replaced by others that are neither `)`, LF nor CR, change no record and no answer."
+use Prim.Native.Nat.{ℕ, zero, suc, _+_, _-_}
+use mathlib.Core.Path.{_≡_, refl, ap}
+use mathlib.Core.Bool.{Bool, true, false, false≢true, _||_}
+use mathlib.Core.Option.{Option, none, some}
+use mathlib.Core.List.{List, []}
+use lib.ListN.{length, drop, set}
+use Rattle.terms.specs.Terms.{if_then_else_, byte}
+use Rattle.refusals.specs.declared.Refusal.the-variants.{FirstBlock}
+use Rattle.refusals.specs.declared.Place.{Place}
+use Rattle.lines.specs.Blocks.{Block, beginsWith, closes, opens, isSlashed}
+use Rattle.gaps.specs.Comments.{Alike, nothing, outside, begins, inside, finishes, breaks, insideAt, AlikeBlock, AlikeBlocks}
+use Rattle.gaps.specs.Comments as Alikes
+use Rattle.gaps.proofs.Comments.{words-alike, blocks-alike, begins-alike, percent-alike, replaced}
+use Rattle.programs.specs.declared.Program.{Program}
+use Rattle.programs.specs.Openings.{Table, table, refusedAt, placeOf, known, programsFrom}
+use Rattle.programs.proofs.Comments.{programs-alike}
+use Rattle.setup.specs.declared.Setup.{Setup}
+use Rattle.setup.specs.Frame.{bedOf, switchOn}
+use Rattle.blocks.specs.declared.Control.{Control}
+use Rattle.blocks.specs.declared.Control.the-variants.{On, Call, Back, Stop}
+use Rattle.blocks.specs.Machine.{machineOf}
+use Rattle.blocks.specs.Exec.{Verdict, refused, accepted, exec, execWords, callsIn}
+use Rattle.interpreter.specs.Walk.{Job, Going, How, ended, returned, unfinished, Outcome, just, after, goingOn, thenRest, follow, obey, isSpent, isSkipped, slashLength, verdictOn, runBlock, reached, walk, blocksFor, callees}
+use Rattle.interpreter.specs.Walk as Walk
+use Rattle.interpreter.specs.Run.{firstOf, finishOf, runTable, runBlocks, outcome, recordsOf, answerOf}
+use Rattle.interpreter.specs.declared.Budget.{Budget}
+use Rattle.promises.specs.Comments.{SameRun}
+
+-- ---- one block
+
+module _ {a b : Block} (same : AlikeBlock a b) where
+  place-alike : placeOf a ≡ placeOf b
+  place-alike = rw (same .number, same .start)
+
+  slashed-alike : isSlashed a ≡ isSlashed b
+  slashed-alike = begins-alike 47 (same .text)
+
+  slash-alike : slashLength a ≡ slashLength b
+  unfolding slashLength
+  slash-alike = rw slashed-alike
+
+  -- past a slash no comment is open
+  past-slash : Alike false (drop (slashLength a) (a .text)) (drop (slashLength a) (b .text))
+  unfolding slashLength beginsWith
+  past-slash = go (same .text)
+    where
+      slash : {s t : List ℕ} → Alike false s t → beginsWith 47 s ≡ true → Alike false (drop 1 s) (drop 1 t)
+      slash nothing e = nothing
+      slash (outside f r) e = r
+      slash (begins r) e = absurd (false≢true e)
+
+      by : (t : Bool) {s u : List ℕ} → beginsWith 47 s ≡ t → Alike false s u → Alike false (drop (if t then 1 else 0) s) (drop (if t then 1 else 0) u)
+      by true e r = slash r e
+      by false e r = r
+
+      go : {s u : List ℕ} → Alike false s u → Alike false (drop (if beginsWith 47 s then 1 else 0) s) (drop (if beginsWith 47 s then 1 else 0) u)
+      go {s} r = by (beginsWith 47 s) refl r
+
+-- two data sets that differ only inside comments, and else give the same job
+record AlikeJobs (p q : Job) : Type 0 where
+  machine : p .machine ≡ q .machine
+  skips : p .skips ≡ q .skips
+  blocks : AlikeBlocks (p .blocks) (q .blocks)
+  finish : p .finish ≡ q .finish
+  programs : p .programs ≡ q .programs
+
+skipped-alike : {p q : Job} {a b : Block} → AlikeJobs p q → AlikeBlock a b → isSkipped p a ≡ isSkipped q b
+unfolding isSkipped
+skipped-alike jobs same = rw (slashed-alike same, jobs .skips)
+
+verdict-alike :
+    {p q : Job} {a b : Block} → AlikeJobs p q → AlikeBlock a b → (left : ℕ) (g : Going) → verdictOn p left a g ≡ verdictOn q left b g
+unfolding verdictOn exec
+verdict-alike {p} {q} {a} {b} jobs same left g =
+    rw (← slash-alike same, ← same .start, ← jobs .machine, ← jobs .programs)
+    (ap (execWords (p .machine) (callsIn (p .programs) left) (g .room) (g .state) (a .start)) (words-alike (past-slash same) (a .start + slashLength a)))
+
+-- ---- what follows a verdict
+
+module _ (c d : ℕ → Going → Outcome) (calls : (n : ℕ) (g : Going) → c n g ≡ d n g) (f h : Going → Outcome) (on : (g : Going) → f g ≡ h g) where
+  then-alike : (how : How) → thenRest how f ≡ thenRest how h
+  unfolding thenRest
+  then-alike ended = refl
+  then-alike (returned g) = on g
+  then-alike unfinished = refl
+  then-alike (Walk.refusedAt refusal place) = refl
+
+  follow-alike : (control : Control) (g : Going) → follow control c f g ≡ follow control d h g
+  unfolding follow
+  follow-alike On g = on g
+  follow-alike (Call n) g = rw (calls n g) (ap (after (d n g .made)) (then-alike (d n g .how)))
+  follow-alike Back g = refl
+  follow-alike Stop g = refl
+
+  module _ {p q : Job} {a b : Block} (jobs : AlikeJobs p q) (same : AlikeBlock a b) (left : ℕ) (g : Going) where
+    obey-alike : (v : Verdict) → obey v a c f g ≡ obey v b d h g
+    unfolding obey
+    obey-alike (refused blame) = rw (same .number)
+    obey-alike (accepted s control made) = ap (after made) (follow-alike control (goingOn g s made))
+
+    run-alike : (skipped : Bool) → runBlock skipped p left c a f g ≡ runBlock skipped q left d b h g
+    unfolding runBlock
+    run-alike true = on (goingOn g (g .state) [])
+    run-alike false = rw (verdict-alike jobs same left g) (obey-alike (verdictOn q left b g))
+
+    reached-alike :
+        (spent end : Bool) (place : Place) (skipped : Bool)
+        → reached spent end place (runBlock skipped p left c a f) g ≡ reached spent end place (runBlock skipped q left d b h) g
+    unfolding reached
+    reached-alike true end place skipped = refl
+    reached-alike false true place skipped = refl
+    reached-alike false false place skipped = run-alike skipped
+
+-- ---- the walk
+
+walk-alike :
+    {p q : Job} {as′ bs : List Block} → AlikeJobs p q → AlikeBlocks as′ bs → (left : ℕ) (c d : ℕ → Going → Outcome)
+    → ((n : ℕ) (g : Going) → c n g ≡ d n g) → (g : Going) → walk p left c as′ g ≡ walk q left d bs g
+unfolding walk
+walk-alike jobs Alikes.none left c d calls g = rw (jobs .finish)
+walk-alike {p} {q} jobs (Alikes.more {a} {b} {as′} {bs} same rest) left c d calls g =
+    rw (← begins-alike 79 (same .text), ← percent-alike (same .text), ← place-alike same, ← skipped-alike jobs same)
+    (reached-alike c d calls (walk p left c as′) (walk q left d bs) (walk-alike jobs rest left c d calls) jobs same left g
+    (isSpent (g .budget)) (opens a || closes a) (placeOf a) (isSkipped p a))
+
+drop-alike : {as′ bs : List Block} (k : ℕ) → AlikeBlocks as′ bs → AlikeBlocks (drop k as′) (drop k bs)
+drop-alike zero r = r
+drop-alike (suc k) Alikes.none = Alikes.none
+drop-alike (suc k) (Alikes.more same rest) = drop-alike k rest
+
+-- the blocks of a subprogram
+called-alike :
+    {p q : Job} → AlikeJobs p q → (n : ℕ)
+    → AlikeBlocks (blocksFor (p .blocks) (known (p .programs) n)) (blocksFor (q .blocks) (known (q .programs) n))
+unfolding blocksFor
+called-alike {p} {q} jobs n =
+    let same : known (p .programs) n ≡ known (q .programs) n = ap (λ (ps : List Program). known ps n) (jobs .programs) in
+    rw (← same) (go (known (p .programs) n))
+  where
+    go : (o : Option Program) → AlikeBlocks (blocksFor (p .blocks) o) (blocksFor (q .blocks) o)
+    go none = Alikes.none
+    go (some program) = drop-alike (program .block - 1) (jobs .blocks)
+
+callees-alike : {p q : Job} → AlikeJobs p q → (left n : ℕ) (g : Going) → callees p left n g ≡ callees q left n g
+unfolding callees
+callees-alike jobs zero n g = refl
+callees-alike {p} {q} jobs (suc left) n g =
+    walk-alike jobs (called-alike jobs n) left (callees p left) (callees q left) (callees-alike jobs left) g
+
+-- ---- the run
+
+count-alike : {as′ bs : List Block} → AlikeBlocks as′ bs → length as′ ≡ length bs
+count-alike Alikes.none = refl
+count-alike (Alikes.more same rest) = ap suc (count-alike rest)
+
+length-alike : {open′ : Bool} {s t : List ℕ} → Alike open′ s t → length s ≡ length t
+length-alike nothing = refl
+length-alike (outside e r) = ap suc (length-alike r)
+length-alike (begins r) = ap suc (length-alike r)
+length-alike (inside e f g h r) = ap suc (length-alike r)
+length-alike (finishes r) = ap suc (length-alike r)
+length-alike (breaks e r) = ap suc (length-alike r)
+
+module _ (s : Setup) {x y : List ℕ} (same : Alike false x y) (room : ℕ) (budget : Budget) where
+  table-alike :
+      {as′ bs : List Block} → AlikeBlocks as′ bs → (t : Table) → runTable s x as′ room budget t ≡ runTable s y bs room budget t
+  unfolding runTable finishOf
+  table-alike r (refusedAt refusal place) = refl
+  table-alike {as′} {bs} r (table main subs) =
+      walk-alike jobs (drop-alike (main .block - 1) r) 4 (callees p 4) (callees q 4) (callees-alike jobs 4) (record { state = firstOf s; room = room; budget = budget })
+    where
+      p : Job
+      p = record { machine = machineOf (bedOf s); skips = switchOn s; blocks = as′; finish = finishOf x as′; programs = subs }
+
+      q : Job
+      q = record { machine = machineOf (bedOf s); skips = switchOn s; blocks = bs; finish = finishOf y bs; programs = subs }
+
+      jobs : AlikeJobs p q
+      jobs = record { machine = refl; skips = refl; blocks = r; finish = rw (count-alike r, length-alike same); programs = refl }
+
+  run-blocks-alike : {as′ bs : List Block} → AlikeBlocks as′ bs → runBlocks s x room budget as′ ≡ runBlocks s y room budget bs
+  unfolding runBlocks
+  run-blocks-alike Alikes.none = refl
+  run-blocks-alike (Alikes.more {a} {b} {as′} {bs} first rest) =
+      rw (← percent-alike (first .text), ← programs-alike first rest)
+      (ap (λ (o : Outcome). if closes a then o else just (Walk.refusedAt FirstBlock (record { block = 1; byte = 0 })))
+      (table-alike (Alikes.more first rest) (programsFrom a as′)))
+
+  outcome-alike : outcome s x room budget ≡ outcome s y room budget
+  unfolding outcome
+  outcome-alike = rw (← length-alike same, run-blocks-alike (blocks-alike same))
+
+  -- Data that differs only inside comments gives the same answer and the same records.
+  pub comments-change-nothing : SameRun s room budget x y
+  unfolding answerOf recordsOf
+  comments-change-nothing = record { answer = rw outcome-alike; records = rw outcome-alike }
+
+-- One byte inside a comment, replaced by another that is neither `)`, LF nor CR, changes nothing.
+pub comment-byte-replaced :
+    (s : Setup) (room : ℕ) (budget : Budget) (x : List ℕ) (i c : ℕ) → insideAt false x i ≡ true
+    → (c ≡ byte ")" → ⊥) → (c ≡ byte "\n" → ⊥) → (c ≡ byte "\r" → ⊥) → SameRun s room budget x (set x i c)
+comment-byte-replaced s room budget x i c e paren lf cr = comments-change-nothing s (replaced c paren lf cr x i e) room budget
