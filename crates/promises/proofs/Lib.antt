@@ -2,4 +2,6 @@ pub mod Opened
 pub mod Openings
 pub mod Duplicates
 pub mod Comments
+pub mod Walks
+pub mod Listing
 pub mod Examples

@@ -1,3 +1,4 @@
 pub mod Duplicates
 pub mod Comments
+pub mod ReadBack
 pub mod Examples

@@ -1,0 +1,87 @@
+-- The records of a run from a state that a run can reach: their numbers fit four bytes, they fit the room, and their paths
+-- stay in the travel.
+use Prim.Native.Nat.{_+_, _≤_}
+use mathlib.Core.Path.{_≡_, refl, sym, _∙_, ap}
+use mathlib.Core.Bool.{Bool, true, _&&_, and-assoc}
+use mathlib.Core.List.{List, [], _∷_, _++_, map, map-append}
+use native.Mathlib.Omega.{arith}
+use lib.ListN.{drop}
+use Rattle.points.specs.declared.Point.{Point}
+use Rattle.setup.specs.declared.Bed.{Bed}
+use Rattle.setup.specs.Fair.{Fair}
+use Rattle.records.specs.declared.Record.{Record}
+use Rattle.records.specs.Layout.{roomOf}
+use Rattle.records.specs.Path.{pathOf, pathEnd, endOf, pathStaysIn, recordMoved}
+use Rattle.records.specs.Writing.{ListShort}
+use Rattle.cycles.proofs.Rooms.{room-append}
+use Rattle.blocks.specs.Machine.{machineOf}
+use Rattle.blocks.specs.Exec.{callsIn}
+use Rattle.blocks.specs.Reach.{Reachable}
+use Rattle.blocks.specs.Keeping.{Keeps}
+use Rattle.blocks.proofs.Accepting.{accepted-kept}
+use Rattle.settings.specs.declared.State.{State}
+use Rattle.interpreter.specs.Walk.{Job, Going, goingOn, slashLength, verdictOn}
+use Rattle.promises.proofs.Walks.{Leads, EachBlock}
+
+-- ---- lists of records
+
+short-append : (a b : List Record) → ListShort a → ListShort b → ListShort (a ++ b)
+short-append [] b h k = k
+short-append (r ∷ a) b h k = (h .0, short-append a b (h .1) k)
+
+stays-append :
+    (stays : Point → Record → Bool) (from : Point) (a b : List Record)
+    → pathStaysIn stays from (a ++ b) ≡ (pathStaysIn stays from a && pathStaysIn stays (endOf from a) b)
+unfolding pathStaysIn endOf
+stays-append stays from [] b = refl
+stays-append stays from (r ∷ a) b =
+    ap (stays from r &&_) (stays-append stays (pathEnd from (pathOf r)) a b)
+    ∙ sym (and-assoc (stays from r) (pathStaysIn stays (pathEnd from (pathOf r)) a) (pathStaysIn stays (endOf (pathEnd from (pathOf r)) a) b))
+
+-- ---- what is kept
+
+module _ (bed : Bed) where
+  abbrev pub Holds : Going → Type 0
+  Holds g = Reachable bed (g .state)
+
+  pub record Fine (g : Going) (made : List Record) : Type 0 where
+    pub short : ListShort (map (recordMoved (bed .offset)) made)
+    pub fits : roomOf made ≤ g .room
+    pub stays : pathStaysIn (machineOf bed .stays) (g .state .at) made ≡ true
+
+  pub fine-none : (g : Going) → Fine g []
+  unfolding roomOf pathStaysIn
+  fine-none g = record { short = tt; fits = omega arith; stays = refl }
+
+  fine-after :
+      (g : Going) (s : State) (made rest : List Record) → Keeps bed (g .room) (g .state) s made → Fine (goingOn g s made) rest
+      → Fine g (made ++ rest)
+  unfolding goingOn
+  fine-after g s made rest k fine =
+      let stays = machineOf bed .stays in
+      record {
+        short = rw (map-append (recordMoved (bed .offset)) made rest) (short-append (map (recordMoved (bed .offset)) made) (map (recordMoved (bed .offset)) rest) (k .short) (fine .short));
+        fits = omega (arith, room-append made rest, k .fits, fine .fits);
+        stays = stays-append stays (g .state .at) made rest ∙ rw (k .stays, ← k .ends) (fine .stays);
+      }
+
+  -- a skipped block makes nothing and leaves the settings as they were
+  skipped-keeps : (g : Going) → Holds g → Keeps bed (g .room) (g .state) (g .state) []
+  unfolding roomOf pathStaysIn endOf
+  skipped-keeps g h = record { state = h; short = tt; stays = refl; ends = refl; fits = omega arith }
+
+  leads : (g : Going) (s : State) (made : List Record) → Keeps bed (g .room) (g .state) s made → Leads Holds Fine g made (goingOn g s made)
+  unfolding goingOn
+  leads g s made k = record { holds = k .state; more = λ rest fine. fine-after g s made rest k fine }
+
+  pub each-block : (job : Job) → Fair bed → job .machine ≡ machineOf bed → EachBlock Holds Fine job
+  unfolding verdictOn
+  each-block job fair same =
+      record {
+        none = fine-none;
+        skipped = λ g h. leads g (g .state) [] (skipped-keeps g h);
+        done = λ left b g s control made h e.
+            leads g s made
+            (accepted-kept bed (callsIn (job .programs) left) (g .room) (g .state) (b .start) fair h (b .start + slashLength b)
+            (drop (slashLength b) (b .text)) s control made (rw same at e));
+      }
