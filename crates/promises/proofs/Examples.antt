@@ -10,7 +10,8 @@ use Rattle.refusals.specs.declared.Refusal.the-variants.{DuplicateNumber}
 use Rattle.programs.specs.Openings.{placeOf}
 use Rattle.gaps.specs.Comments.{insideAt}
 use Rattle.setup.specs.declared.Setup.{Setup}
-use Rattle.interpreter.specs.Examples.{setupT, roomT}
+use Rattle.setup.specs.Examples.{setupT}
+use Rattle.interpreter.specs.Examples.{roomT}
 use Rattle.interpreter.specs.Run.{answerOf, recordsOf}
 use Rattle.interpreter.specs.declared.Answer.the-variants.{Done, Refused}
 use Rattle.interpreter.specs.declared.Budget.{Budget}

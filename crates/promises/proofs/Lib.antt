@@ -4,4 +4,5 @@ pub mod Duplicates
 pub mod Comments
 pub mod Walks
 pub mod Listing
+pub mod ReadBack
 pub mod Examples
