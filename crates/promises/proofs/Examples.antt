@@ -9,19 +9,24 @@ use Rattle.terms.specs.Terms.{byte}
 use Rattle.refusals.specs.declared.Refusal.the-variants.{DuplicateNumber}
 use Rattle.programs.specs.Openings.{placeOf}
 use Rattle.gaps.specs.Comments.{insideAt}
+use Rattle.records.specs.declared.Listed.the-variants.{End}
+use Rattle.records.specs.Layout.{listBytes}
+use Rattle.records.specs.Reading.{trail, readAll}
 use Rattle.setup.specs.declared.Setup.{Setup}
 use Rattle.setup.specs.Examples.{setupT}
-use Rattle.interpreter.specs.Examples.{roomT}
+use Rattle.interpreter.specs.Examples.{roomT, sample, sampleRecords}
 use Rattle.interpreter.specs.Run.{answerOf, recordsOf}
 use Rattle.interpreter.specs.declared.Answer.the-variants.{Done, Refused}
 use Rattle.interpreter.specs.declared.Budget.{Budget}
 use Rattle.interpreter.specs.declared.Budget.the-variants.{Whole, First}
 use Rattle.promises.specs.Duplicates.{Twice, NoList, openingsOf}
 use Rattle.promises.specs.Comments.{SameRun}
+use Rattle.promises.specs.ReadBack.{ReadsBack}
 use Rattle.promises.specs.Examples.{twoSubprograms, firstOne, secondOne, mainAgain, mainOpening, otherOpening, mainNumberAgain, commented, commentedElse}
 use Rattle.promises.proofs.Opened.{opened}
 use Rattle.promises.proofs.Duplicates.{first-duplicate}
 use Rattle.promises.proofs.Comments.{comment-byte-replaced}
+use Rattle.promises.proofs.ReadBack.{read-back}
 
 -- ---- two openings of one number
 
@@ -71,3 +76,12 @@ comment-answer = refl
 pub before-the-comment : insideAt false commented 11 ≡ false
 unfolding opened
 before-the-comment = refl
+
+-- ---- the list read back
+
+pub sample-read-back : readAll 20 (listBytes (recordsOf setupT sample roomT Whole)) 0 ≡ trail sampleRecords End
+unfolding opened
+sample-read-back = refl
+
+pub sample-reads-back : ReadsBack (recordsOf setupT sample roomT Whole) (answerOf setupT sample roomT Whole) roomT
+sample-reads-back = read-back setupT refl sample roomT Whole
