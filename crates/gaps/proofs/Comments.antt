@@ -26,7 +26,7 @@ use Rattle.gaps.specs.Comments as Comments
 use Rattle.gaps.specs.Gaps.{noWords, onlyGaps}
 use Rattle.gaps.proofs.Laws.{text-here, text-none}
 
-length-alike : {m : Bool} {s t : List ℕ} → Alike m s t → length s ≡ length t
+pub length-alike : {m : Bool} {s t : List ℕ} → Alike m s t → length s ≡ length t
 length-alike nothing = refl
 length-alike (outside e r) = ap suc (length-alike r)
 length-alike (begins r) = ap suc (length-alike r)

@@ -9,9 +9,9 @@ use Rattle.terms.specs.Terms.{if_then_else_, byte}
 use Rattle.refusals.specs.declared.Refusal.the-variants.{FirstBlock}
 use Rattle.refusals.specs.declared.Place.{Place}
 use Rattle.lines.specs.Blocks.{Block, beginsWith, closes, opens, isSlashed}
-use Rattle.gaps.specs.Comments.{Alike, nothing, outside, begins, inside, finishes, breaks, insideAt, AlikeBlock, AlikeBlocks}
+use Rattle.gaps.specs.Comments.{Alike, nothing, outside, begins, insideAt, AlikeBlock, AlikeBlocks}
 use Rattle.gaps.specs.Comments as Alikes
-use Rattle.gaps.proofs.Comments.{words-alike, blocks-alike, begins-alike, percent-alike, replaced}
+use Rattle.gaps.proofs.Comments.{length-alike, words-alike, blocks-alike, begins-alike, percent-alike, replaced}
 use Rattle.programs.specs.declared.Program.{Program}
 use Rattle.programs.specs.Openings.{Table, table, refusedAt, placeOf, known, programsFrom}
 use Rattle.programs.proofs.Comments.{programs-alike}
@@ -153,14 +153,6 @@ callees-alike {p} {q} jobs (suc left) n g =
 count-alike : {as′ bs : List Block} → AlikeBlocks as′ bs → length as′ ≡ length bs
 count-alike Alikes.none = refl
 count-alike (Alikes.more same rest) = ap suc (count-alike rest)
-
-length-alike : {open′ : Bool} {s t : List ℕ} → Alike open′ s t → length s ≡ length t
-length-alike nothing = refl
-length-alike (outside e r) = ap suc (length-alike r)
-length-alike (begins r) = ap suc (length-alike r)
-length-alike (inside e f g h r) = ap suc (length-alike r)
-length-alike (finishes r) = ap suc (length-alike r)
-length-alike (breaks e r) = ap suc (length-alike r)
 
 module _ (s : Setup) {x y : List ℕ} (same : Alike false x y) (room : ℕ) (budget : Budget) where
   table-alike :

@@ -1,8 +1,7 @@
--- The records of a run from a state that a run can reach: their numbers fit four bytes, they fit the room, and their paths
--- stay in the travel.
+-- The records of a run: their numbers fit four bytes, and they fit the room.
 use Prim.Native.Nat.{ℕ, _+_, _≤_}
-use mathlib.Core.Path.{_≡_, refl, sym, _∙_, ap}
-use mathlib.Core.Bool.{Bool, true, false, not, _&&_, and-assoc}
+use mathlib.Core.Path.{_≡_, refl}
+use mathlib.Core.Bool.{Bool, true, false, not}
 use mathlib.Core.List.{List, [], _∷_, _++_, map, map-append}
 use native.Mathlib.Omega.{arith}
 use lib.ListN.{drop, length}
@@ -10,17 +9,16 @@ use lib.Dec.{ltb}
 use Rattle.terms.specs.Terms.{if_then_else_}
 use Rattle.refusals.specs.declared.Refusal.the-variants.{FirstBlock, BadSetup, DataTooLong}
 use Rattle.lines.specs.Blocks.{Block, blocksOf, closes}
-use Rattle.points.specs.declared.Point.{Point}
 use Rattle.programs.specs.Openings.{Table, table, refusedAt, programsFrom, blocksAt}
 use Rattle.setup.specs.declared.Bed.{Bed}
 use Rattle.setup.specs.Fair.{Fair}
 use Rattle.setup.specs.declared.Setup.{Setup}
 use Rattle.setup.specs.Limits.{validSetup}
-use Rattle.setup.specs.Frame.{offset, bedOf, switchOn}
+use Rattle.setup.specs.Frame.{bedOf, switchOn}
 use Rattle.setup.proofs.Valid.{valid-feed, valid-speed, fair, start-inside}
 use Rattle.records.specs.declared.Record.{Record}
 use Rattle.records.specs.Layout.{roomOf}
-use Rattle.records.specs.Path.{pathOf, pathEnd, endOf, pathStaysIn, recordMoved}
+use Rattle.records.specs.Path.{endOf, pathStaysIn, recordMoved}
 use Rattle.records.specs.Writing.{ListShort}
 use Rattle.settings.specs.declared.State.{State}
 use Rattle.settings.specs.Settings.{firstModes, firstState}
@@ -42,15 +40,6 @@ short-append : (a b : List Record) → ListShort a → ListShort b → ListShort
 short-append [] b h k = k
 short-append (r ∷ a) b h k = (h .0, short-append a b (h .1) k)
 
-stays-append :
-    (stays : Point → Record → Bool) (from : Point) (a b : List Record)
-    → pathStaysIn stays from (a ++ b) ≡ (pathStaysIn stays from a && pathStaysIn stays (endOf from a) b)
-unfolding pathStaysIn endOf
-stays-append stays from [] b = refl
-stays-append stays from (r ∷ a) b =
-    ap (stays from r &&_) (stays-append stays (pathEnd from (pathOf r)) a b)
-    ∙ sym (and-assoc (stays from r) (pathStaysIn stays (pathEnd from (pathOf r)) a) (pathStaysIn stays (endOf (pathEnd from (pathOf r)) a) b))
-
 -- ---- what is kept
 
 module _ (bed : Bed) where
@@ -60,22 +49,19 @@ module _ (bed : Bed) where
   pub record Fine (g : Going) (made : List Record) : Type 0 where
     pub short : ListShort (map (recordMoved (bed .offset)) made)
     pub fits : roomOf made ≤ g .room
-    pub stays : pathStaysIn (machineOf bed .stays) (g .state .at) made ≡ true
 
   pub fine-none : (g : Going) → Fine g []
-  unfolding roomOf pathStaysIn
-  fine-none g = record { short = tt; fits = omega arith; stays = refl }
+  unfolding roomOf
+  fine-none g = record { short = tt; fits = omega arith }
 
   fine-after :
       (g : Going) (s : State) (made rest : List Record) → Keeps bed (g .room) (g .state) s made → Fine (goingOn g s made) rest
       → Fine g (made ++ rest)
   unfolding goingOn
   fine-after g s made rest k fine =
-      let stays = machineOf bed .stays in
       record {
         short = rw (map-append (recordMoved (bed .offset)) made rest) (short-append (map (recordMoved (bed .offset)) made) (map (recordMoved (bed .offset)) rest) (k .short) (fine .short));
         fits = omega (arith, room-append made rest, k .fits, fine .fits);
-        stays = stays-append stays (g .state .at) made rest ∙ rw (k .stays, ← k .ends) (fine .stays);
       }
 
   -- a skipped block makes nothing and leaves the settings as they were
