@@ -329,14 +329,14 @@ unfolding noText
 still b r e = rw (← lf-alike r) e
 
 -- the same byte in front of both
-later-outside : (b : ℕ) {s t : List ℕ} → Alike (eqb b 40) s t → Alike false (b ∷ s) (b ∷ t)
+pub later-outside : (b : ℕ) {s t : List ℕ} → Alike (eqb b 40) s t → Alike false (b ∷ s) (b ∷ t)
 later-outside b {s} {t} = go (eqb b 40) refl
   where
     go : (is : Bool) → eqb b 40 ≡ is → Alike is s t → Alike false (b ∷ s) (b ∷ t)
     go true e r = rw (eqb-true b 40 e) (begins r)
     go false e r = outside (eqb-false b 40 e) r
 
-later-inside : (b : ℕ) {s t : List ℕ} → Alike (openAfter true b s) s t → Alike true (b ∷ s) (b ∷ t)
+pub later-inside : (b : ℕ) {s t : List ℕ} → Alike (openAfter true b s) s t → Alike true (b ∷ s) (b ∷ t)
 later-inside b {s} {t} = go (eqb b 41) (noText (b ∷ s)) refl refl
   where
     go : (is end : Bool) → eqb b 41 ≡ is → noText (b ∷ s) ≡ end → Alike (not (is || end)) s t → Alike true (b ∷ s) (b ∷ t)

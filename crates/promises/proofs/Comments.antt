@@ -2,16 +2,21 @@
 use Prim.Native.Nat.{ℕ, zero, suc, _+_, _-_}
 use mathlib.Core.Path.{_≡_, refl, ap}
 use mathlib.Core.Bool.{Bool, true, false, false≢true, _||_}
+use mathlib.Core.Logic.{inl, inr, ⊎-elim}
 use mathlib.Core.Option.{Option, none, some}
-use mathlib.Core.List.{List, []}
-use lib.ListN.{length, drop, set}
+use mathlib.Core.List.{List, [], _∷_}
+use native.Mathlib.Omega.{arith}
+use borrow.Author.Tests.{eqb-false, ne-eqb, not-true}
+use lib.Dec.{eqb}
+use lib.ListN.{length, drop}
 use Rattle.terms.specs.Terms.{if_then_else_, byte}
+use Rattle.terms.proofs.Laws.{either-left, either-right}
 use Rattle.refusals.specs.declared.Refusal.the-variants.{FirstBlock}
 use Rattle.refusals.specs.declared.Place.{Place}
-use Rattle.lines.specs.Blocks.{Block, beginsWith, closes, opens, isSlashed}
-use Rattle.gaps.specs.Comments.{Alike, nothing, outside, begins, insideAt, AlikeBlock, AlikeBlocks}
+use Rattle.lines.specs.Blocks.{Block, beginsWith, noText, closes, opens, isSlashed}
+use Rattle.gaps.specs.Comments.{Alike, nothing, outside, begins, inside, openAfter, insideAt, AlikeBlock, AlikeBlocks}
 use Rattle.gaps.specs.Comments as Alikes
-use Rattle.gaps.proofs.Comments.{length-alike, words-alike, blocks-alike, begins-alike, percent-alike, replaced}
+use Rattle.gaps.proofs.Comments.{length-alike, words-alike, blocks-alike, begins-alike, percent-alike, later-outside, later-inside}
 use Rattle.programs.specs.declared.Program.{Program}
 use Rattle.programs.specs.Openings.{Table, table, refusedAt, placeOf, known, programsFrom}
 use Rattle.programs.proofs.Comments.{programs-alike}
@@ -25,7 +30,7 @@ use Rattle.interpreter.specs.Walk.{Job, Going, How, ended, returned, unfinished
 use Rattle.interpreter.specs.Walk as Walk
 use Rattle.interpreter.specs.Run.{firstOf, finishOf, runTable, runBlocks, outcome, recordsOf, answerOf}
 use Rattle.interpreter.specs.declared.Budget.{Budget}
-use Rattle.promises.specs.Comments.{SameRun}
+use Rattle.promises.specs.Comments.{MayBecome, Replaced, SameRun}
 
 -- ---- one block
 
@@ -188,8 +193,50 @@ module _ (s : Setup) {x y : List ℕ} (same : Alike false x y) (room : ℕ) (bud
   unfolding answerOf recordsOf
   comments-change-nothing = record { answer = rw outcome-alike; records = rw outcome-alike }
 
--- One byte inside a comment, replaced by another that is neither `)`, LF nor CR, changes nothing.
-pub comment-byte-replaced :
-    (s : Setup) (room : ℕ) (budget : Budget) (x : List ℕ) (i c : ℕ) → insideAt false x i ≡ true
-    → (c ≡ byte ")" → ⊥) → (c ≡ byte "\n" → ⊥) → (c ≡ byte "\r" → ⊥) → SameRun s room budget x (set x i c)
-comment-byte-replaced s room budget x i c e paren lf cr = comments-change-nothing s (replaced c paren lf cr x i e) room budget
+-- ---- bytes replaced
+
+-- the first byte is the same
+same-first : (open′ : Bool) (b c : ℕ) (s t : List ℕ) → b ≡ c → Alike (openAfter open′ b s) s t → Alike open′ (b ∷ s) (c ∷ t)
+same-first false b c s t e r = rw (← e) (later-outside b r)
+same-first true b c s t e r = rw (← e) (later-inside b r)
+
+-- the first byte is inside a comment and replaced
+other-first :
+    (open′ : Bool) (b c : ℕ) (s t : List ℕ) → MayBecome open′ (b ∷ s) 0 c → Alike (openAfter open′ b s) s t → Alike open′ (b ∷ s) (c ∷ t)
+unfolding insideAt noText
+other-first false b c s t m r = absurd (false≢true (m .inside))
+other-first true b c s t m r =
+    let stays : (eqb b 41 || noText (b ∷ s)) ≡ false = not-true (eqb b 41 || noText (b ∷ s)) (m .inside) in
+    let paren : eqb b 41 ≡ false = either-left (eqb b 41) (noText (b ∷ s)) stays in
+    let text : noText (b ∷ s) ≡ false = either-right (eqb b 41) (noText (b ∷ s)) stays in
+    let other : noText (c ∷ t) ≡ false = rw (ne-eqb c 10 (m .lf), ne-eqb c 13 (m .cr)) in
+    inside (eqb-false b 41 paren) (m .paren) text other (rw (m .inside) at r)
+
+-- what follows the first byte
+replaced-rest : {open′ : Bool} {b c : ℕ} {s t : List ℕ} → Replaced open′ (b ∷ s) (c ∷ t) → Replaced (openAfter open′ b s) s t
+unfolding insideAt
+replaced-rest {open′} {b} {c} {s} {t} r =
+    record {
+      size = omega (arith, r .size);
+      each = λ i h.
+          ⊎-elim
+          (λ e. inl e)
+          (λ m. inr (record { inside = m .inside; paren = m .paren; lf = m .lf; cr = m .cr }))
+          (r .each (suc i) (omega arith));
+    }
+
+replaced-alike : (open′ : Bool) (x y : List ℕ) → Replaced open′ x y → Alike open′ x y
+replaced-alike open′ [] [] r = nothing
+replaced-alike open′ [] (c ∷ t) r = absurd (omega (arith, r .size))
+replaced-alike open′ (b ∷ s) [] r = absurd (omega (arith, r .size))
+replaced-alike open′ (b ∷ s) (c ∷ t) r =
+    ⊎-elim
+    (λ e. same-first open′ b c s t e (replaced-alike (openAfter open′ b s) s t (replaced-rest r)))
+    (λ m. other-first open′ b c s t m (replaced-alike (openAfter open′ b s) s t (replaced-rest r)))
+    (r .each 0 (omega arith))
+
+-- Bytes inside comments, replaced by others that are neither `)`, LF nor CR, change no record and no answer: as many of them
+-- as one likes, under every setup, room and budget.
+pub comment-bytes-replaced :
+    (s : Setup) (room : ℕ) (budget : Budget) (x y : List ℕ) → Replaced false x y → SameRun s room budget x y
+comment-bytes-replaced s room budget x y r = comments-change-nothing s (replaced-alike false x y r) room budget

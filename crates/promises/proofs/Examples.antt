@@ -1,11 +1,15 @@
 -- The promises tried on small data sets: what each of them asks can be met, and what it says is what the rules compute.
 use Prim.Native.Nat.{ℕ}
 use mathlib.Core.Path.{_≡_, refl}
-use mathlib.Core.Bool.{false}
-use mathlib.Core.List.{[], _∷_, map}
+use mathlib.Core.Bool.{Bool, true, false, false≢true, not, _&&_, _||_}
+use mathlib.Core.Logic.{_⊎_, inl, inr}
+use mathlib.Core.List.{List, [], _∷_, map}
 use native.Mathlib.Omega.{arith}
-use lib.ListN.{set}
-use Rattle.terms.specs.Terms.{byte}
+use borrow.Author.Tests.{eqb-true, eqb-false}
+use lib.Dec.{eqb}
+use lib.ListN.{getD}
+use Rattle.terms.specs.Terms.{any}
+use Rattle.terms.proofs.Laws.{every-place}
 use Rattle.refusals.specs.declared.Refusal.the-variants.{DuplicateNumber}
 use Rattle.programs.specs.Openings.{placeOf}
 use Rattle.gaps.specs.Comments.{insideAt}
@@ -20,12 +24,12 @@ use Rattle.interpreter.specs.declared.Answer.the-variants.{Done, Refused}
 use Rattle.interpreter.specs.declared.Budget.{Budget}
 use Rattle.interpreter.specs.declared.Budget.the-variants.{Whole, First}
 use Rattle.promises.specs.Duplicates.{Twice, NoList, openingsOf}
-use Rattle.promises.specs.Comments.{SameRun}
+use Rattle.promises.specs.Comments.{MayBecome, SameRun}
 use Rattle.promises.specs.ReadBack.{ReadsBack}
 use Rattle.promises.specs.Examples.{twoSubprograms, firstOne, secondOne, mainAgain, mainOpening, otherOpening, mainNumberAgain, commented, commentedElse}
 use Rattle.promises.proofs.Opened.{opened}
 use Rattle.promises.proofs.Duplicates.{first-duplicate}
-use Rattle.promises.proofs.Comments.{comment-byte-replaced}
+use Rattle.promises.proofs.Comments.{comment-bytes-replaced}
 use Rattle.promises.proofs.ReadBack.{read-back}
 
 -- ---- two openings of one number
@@ -59,12 +63,36 @@ main-refused-computed = refl
 
 -- ---- comments
 
--- the comment's first byte, at place 12, replaced by `(`
-pub comment-byte : (s : Setup) (room : ℕ) (budget : Budget) → SameRun s room budget commented (set commented 12 (byte "("))
-unfolding opened
-comment-byte s room budget = comment-byte-replaced s room budget commented 12 40 refl (λ e. omega arith) (λ e. omega arith) (λ e. omega arith)
+-- one test of a byte and its place that tells whether it is the same, or may be replaced so
+test : List ℕ → List ℕ → ℕ → ℕ → Bool
+test x y i b = eqb b (getD y i 0) || insideAt false x i && not (any (eqb (getD y i 0)) (41 ∷ 10 ∷ 13 ∷ []))
 
--- by computation, with all of the comment's bytes replaced; the parenthesis before the comment is not inside it
+tested : (x y : List ℕ) (i b : ℕ) → test x y i b ≡ true → (b ≡ getD y i 0) ⊎ MayBecome false x i (getD y i 0)
+unfolding test any
+tested x y i b = go (eqb b c) (insideAt false x i) (eqb c 41) (eqb c 10) (eqb c 13) refl refl refl refl refl
+  where
+    c : ℕ
+    c = getD y i 0
+
+    go :
+        (same inside paren lf cr : Bool) → eqb b c ≡ same → insideAt false x i ≡ inside → eqb c 41 ≡ paren → eqb c 10 ≡ lf → eqb c 13 ≡ cr
+        → (same || inside && not (paren || (lf || (cr || false)))) ≡ true → (b ≡ c) ⊎ MayBecome false x i c
+    go true inside paren lf cr e f g h k p = inl (eqb-true b c e)
+    go false true false false false e f g h k p =
+        inr (record { inside = f; paren = eqb-false c 41 g; lf = eqb-false c 10 h; cr = eqb-false c 13 k })
+    go false true false false true e f g h k p = absurd (false≢true p)
+    go false true false true cr e f g h k p = absurd (false≢true p)
+    go false true true lf cr e f g h k p = absurd (false≢true p)
+    go false false paren lf cr e f g h k p = absurd (false≢true p)
+
+-- all of the comment's bytes replaced, whatever the setup is
+pub comment-bytes : (s : Setup) (room : ℕ) (budget : Budget) → SameRun s room budget commented commentedElse
+unfolding opened test
+comment-bytes s room budget =
+    comment-bytes-replaced s room budget commented commentedElse
+    (record { size = refl; each = λ i h. tested commented commentedElse i (getD commented i 0) (every-place (test commented commentedElse) commented refl i h) })
+
+-- the same by computation; the parenthesis before the comment is not inside it
 pub comment-records : recordsOf setupT commented roomT Whole ≡ recordsOf setupT commentedElse roomT Whole
 unfolding opened
 comment-records = refl

@@ -1,10 +1,28 @@
--- What it means that two data sets run alike.
-use Prim.Native.Nat.{ℕ}
+-- Document 01, "Data set and blocks": "Bytes inside a comment, replaced by others that are neither `)`, LF nor CR, change no
+-- record and no answer."
+use Prim.Native.Nat.{ℕ, _<_}
 use mathlib.Core.Path.{_≡_}
+use mathlib.Core.Bool.{Bool, true}
+use mathlib.Core.Logic.{_⊎_}
 use mathlib.Core.List.{List}
+use lib.ListN.{length, getD}
+use Rattle.terms.specs.Terms.{byte}
+use Rattle.gaps.specs.Comments.{insideAt}
 use Rattle.setup.specs.declared.Setup.{Setup}
 use Rattle.interpreter.specs.Run.{answerOf, recordsOf}
 use Rattle.interpreter.specs.declared.Budget.{Budget}
+
+-- A byte inside a comment, and another that may take its place. The test says whether a comment is open where the bytes begin.
+pub record MayBecome (open′ : Bool) (x : List ℕ) (i c : ℕ) : Type 0 where
+  pub inside : insideAt open′ x i ≡ true
+  pub paren : c ≡ byte ")" → ⊥
+  pub lf : c ≡ byte "\n" → ⊥
+  pub cr : c ≡ byte "\r" → ⊥
+
+-- as many bytes, each of them the same or so replaced
+pub record Replaced (open′ : Bool) (x y : List ℕ) : Type 0 where
+  pub size : length x ≡ length y
+  pub each : (i : ℕ) → i < length x → (getD x i 0 ≡ getD y i 0) ⊎ MayBecome open′ x i (getD y i 0)
 
 -- "change no record and no answer"
 pub record SameRun (s : Setup) (room : ℕ) (budget : Budget) (x y : List ℕ) : Type 0 where

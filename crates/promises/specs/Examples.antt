@@ -32,4 +32,4 @@ abbrev pub commented : List ℕ
 commented = bytes "%\nG00 X5.0 (to the edge) Y5.0\nM30\n"
 
 abbrev pub commentedElse : List ℕ
-commentedElse = bytes "%\nG00 X5.0 (M02\t%/(O1 Z9) Y5.0\nM30\n"
+commentedElse = bytes "%\nG00 X5.0 (M02\t%/(O1Z9) Y5.0\nM30\n"
