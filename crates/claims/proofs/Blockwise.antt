@@ -1,0 +1,278 @@
+-- One block of the run, by the rules of the run and block by block (specs/Steps.antt).
+use Prim.Native.Nat.{ℕ, zero, suc, _+_, _-_}
+use mathlib.Core.Path.{_≡_, refl, sym, _∙_, ap}
+use mathlib.Core.Bool.{Bool, true, false, false≢true, _||_}
+use mathlib.Core.List.{List, [], _∷_, append-assoc}
+use native.Mathlib.Omega.{arith}
+use lib.Dec.{eqb}
+use lib.ListN.{length, drop}
+use borrow.Author.Tests.{eq-eqb}
+use Rattle.refusals.specs.declared.Refusal.{Refusal}
+use Rattle.refusals.specs.declared.Refusal.the-variants.{NoEnd}
+use Rattle.refusals.specs.declared.Place.{Place}
+use Rattle.records.specs.declared.Record.{Record}
+use Rattle.records.specs.Layout.{roomOf}
+use Rattle.settings.specs.declared.State.{State}
+use Rattle.blocks.specs.Exec.{Verdict, refused, accepted, callsIn}
+use Rattle.blocks.specs.declared.Control.{Control}
+use Rattle.blocks.specs.declared.Control.the-variants.{On, Call, Back, Stop}
+use Rattle.lines.specs.Blocks.{Block, closes, opens}
+use Rattle.programs.specs.Openings.{placeOf, known}
+use Rattle.interpreter.specs.declared.Budget.{Budget}
+use Rattle.interpreter.specs.Walk.{
+  Job,
+  Going,
+  How,
+  ended,
+  returned,
+  unfinished,
+  refusedAt,
+  Outcome,
+  just,
+  isSpent,
+  oneLess,
+  after,
+  goingOn,
+  thenRest,
+  follow,
+  obey,
+  isSkipped,
+  slashLength,
+  verdictOn,
+  runBlock,
+  reached,
+  walk,
+  blocksFor,
+  callees,
+}
+use Rattle.claims.specs.Steps.{
+  BlockDone,
+  Stand,
+  Turn,
+  refuses,
+  goes,
+  ends,
+  past,
+  entering,
+  returning,
+  led,
+  turnBy,
+  verdictAt,
+  turnUnder,
+  turnUnless,
+  turnIn,
+  turnAt,
+}
+use Rattle.claims.proofs.Verdicts.{call-has-level, main-does-not-return}
+
+-- ---- a program that returns goes on in the one that called it
+
+unfoldable pub bound : Outcome → (Going → Outcome) → Outcome
+bound o rest = after (o .made) (thenRest (o .how) rest)
+
+abbrev pub program : Job → ℕ → List Block → Going → Outcome
+program job left = walk job left (callees job left)
+
+-- the outcome of a program, and of those that called it, behind its return
+unfoldable pub unwound : Job → ℕ → List (List Block) → Outcome → Outcome
+unwound job left [] o = o
+unwound job left (rest ∷ callers) o = bound o (λ g. unwound job (suc left) callers (program job (suc left) rest g))
+
+unfoldable pub going : Stand → Budget → Going
+going st budget = record { state = st .state; room = st .room; budget = budget }
+
+-- what the rules of the run give from a stand
+unfoldable pub whole : Job → Stand → Budget → Outcome
+whole job st budget = unwound job (st .left) (st .callers) (program job (st .left) (st .ahead) (going st budget))
+
+-- ---- records that come before
+
+bound-after : (made : List Record) (o : Outcome) (rest : Going → Outcome) → bound (after made o) rest ≡ after made (bound o rest)
+unfolding bound after
+bound-after made o rest = rw append-assoc
+
+unwound-after :
+    (job : Job) (left : ℕ) (callers : List (List Block)) (made : List Record) (o : Outcome)
+    → unwound job left callers (after made o) ≡ after made (unwound job left callers o)
+unfolding unwound
+unwound-after job left [] made o = refl
+unwound-after job left (rest ∷ callers) made o =
+    bound-after made o (λ g. unwound job (suc left) callers (program job (suc left) rest g))
+
+-- ---- a run that is over is over in every caller
+
+unwound-over :
+    (job : Job) (left : ℕ) (callers : List (List Block)) (how : How)
+    → ((rest : Going → Outcome) → thenRest how rest ≡ just how) → unwound job left callers (just how) ≡ just how
+unfolding unwound bound after
+unwound-over job left [] how h = refl
+unwound-over job left (rest ∷ callers) how h = h (λ g. unwound job (suc left) callers (program job (suc left) rest g))
+
+over-refused : (refusal : Refusal) (place : Place) (rest : Going → Outcome) → thenRest (refusedAt refusal place) rest ≡ just (refusedAt refusal place)
+unfolding thenRest
+over-refused refusal place rest = refl
+
+over-ended : (rest : Going → Outcome) → thenRest ended rest ≡ just ended
+unfolding thenRest
+over-ended rest = refl
+
+over-unfinished : (rest : Going → Outcome) → thenRest unfinished rest ≡ just unfinished
+unfolding thenRest
+over-unfinished rest = refl
+
+unwound-rest :
+    (job : Job) (left : ℕ) (callers : List (List Block)) (how : How) (rest : Going → Outcome)
+    → unwound job left callers (thenRest how rest) ≡ thenRest how (λ g. unwound job left callers (rest g))
+unfolding thenRest
+unwound-rest job left callers ended rest = unwound-over job left callers ended over-ended
+unwound-rest job left callers (returned g) rest = refl
+unwound-rest job left callers unfinished rest = unwound-over job left callers unfinished over-unfinished
+unwound-rest job left callers (refusedAt refusal place) rest =
+    unwound-over job left callers (refusedAt refusal place) (over-refused refusal place)
+
+-- a call, and the block after it
+unwound-call :
+    (job : Job) (left : ℕ) (callers : List (List Block)) (o : Outcome) (bs : List Block)
+    → unwound job (suc left) callers (bound o (program job (suc left) bs)) ≡ unwound job left (bs ∷ callers) o
+unfolding unwound bound
+unwound-call job left callers o bs =
+    unwound-after job (suc left) callers (o .made) (thenRest (o .how) (program job (suc left) bs))
+    ∙ ap (after (o .made)) (unwound-rest job (suc left) callers (o .how) (program job (suc left) bs))
+
+-- ---- one block
+
+-- what the rules give after the next block
+unfoldable pub onward : Job → Budget → Turn → Outcome
+onward job budget (refuses refusal place) = just (refusedAt refusal place)
+onward job budget (goes d st) = after (d .made) (whole job st (oneLess budget))
+onward job budget (ends d st) = after (d .made) (just ended)
+
+-- the main has four levels left, and each caller one more
+pub record Placed (st : Stand) : Type 0 where
+  pub four : st .left + length (st .callers) ≡ 4
+
+abbrev stand : State → ℕ → ℕ → List Block → List (List Block) → Stand
+stand s room left ahead callers = record { state = s; room = room; left = left; ahead = ahead; callers = callers }
+
+pub one-down : (n : ℕ) → n ≡ suc n - 1
+one-down n = omega arith
+
+call-leads :
+    (job : Job) (left : ℕ) (callers : List (List Block)) (bs : List Block) (n : ℕ) (s : State) (room : ℕ) (budget : Budget)
+    → eqb left 0 ≡ false
+    → unwound job left callers
+    (follow (Call n) (callees job left) (program job left bs) (record { state = s; room = room; budget = budget }))
+    ≡ whole job (entering (stand s room left bs callers) (blocksFor (job .blocks) (known (job .programs) n))) budget
+unfolding follow callees whole going entering bound
+call-leads job zero callers bs n s room budget e = absurd (false≢true (sym e))
+call-leads job (suc left) callers bs n s room budget e =
+    let blocks : List Block = blocksFor (job .blocks) (known (job .programs) n) in
+    let g : Going = record { state = s; room = room; budget = budget } in
+    unwound-call job left callers (program job left blocks g) bs
+    ∙ ap (λ (l : ℕ). unwound job l (bs ∷ callers) (program job l blocks g)) (one-down left)
+
+back-leads :
+    (job : Job) (left : ℕ) (callers : List (List Block)) (bs : List Block) (s : State) (room : ℕ) (budget : Budget) (d : BlockDone)
+    → ((callers ≡ []) → ⊥)
+    → after (d .made) (unwound job left callers (just (returned (record { state = s; room = room; budget = oneLess budget }))))
+    ≡ onward job budget (returning callers (stand s room left bs callers) d)
+unfolding unwound bound after thenRest returning onward whole going
+back-leads job left [] bs s room budget d h = absurd (h refl)
+back-leads job left (rest ∷ callers) bs s room budget d h = refl
+
+pub calls-below : (job : Job) (st : Stand) (b : Block) (n : ℕ) (s : State) (made : List Record)
+    → verdictAt job st b ≡ accepted s (Call n) made → eqb (st .left) 0 ≡ false
+unfolding verdictAt verdictOn callsIn
+calls-below job st b n s made e =
+    call-has-level (job .machine) (callsIn (job .programs) (st .left)) (st .room) (st .state) (b .start)
+    (b .start + slashLength b) (drop (slashLength b) (b .text)) s n made e
+
+returns-to : (job : Job) (st : Stand) (b : Block) (s : State) (made : List Record)
+    → Placed st → verdictAt job st b ≡ accepted s Back made → (st .callers ≡ []) → ⊥
+unfolding verdictAt verdictOn callsIn
+returns-to job st b s made p e none-called =
+    let main : st .left ≡ 4 = omega (arith, p .four, ap length none-called) in
+    main-does-not-return (job .machine) (callsIn (job .programs) (st .left)) (st .room) (st .state) (b .start)
+    (b .start + slashLength b) (drop (slashLength b) (b .text)) s made (eq-eqb (st .left) 4 main) e
+
+-- an accepted block, by where it leads
+accepted-leads :
+    (job : Job) (st : Stand) (b : Block) (bs : List Block) (budget : Budget) (s : State) (control : Control) (made : List Record)
+    → Placed st → verdictAt job st b ≡ accepted s control made
+    → after made
+    (unwound job (st .left) (st .callers)
+    (follow control (callees job (st .left)) (program job (st .left) bs) (goingOn (going st budget) s made)))
+    ≡ onward job budget (led control job (past st bs s made) (record { block = b; from = st .state .at; made = made }))
+unfolding goingOn going past led onward follow whole
+accepted-leads job st b bs budget s On made p e = refl
+accepted-leads job st b bs budget s (Call n) made p e =
+    ap (after made)
+    (call-leads job (st .left) (st .callers) bs n s (st .room - roomOf made) (oneLess budget) (calls-below job st b n s made e))
+accepted-leads job st b bs budget s Back made p e =
+    back-leads job (st .left) (st .callers) bs s (st .room - roomOf made) budget
+    (record { block = b; from = st .state .at; made = made }) (returns-to job st b s made p e)
+accepted-leads job st b bs budget s Stop made p e = ap (after made) (unwound-over job (st .left) (st .callers) ended over-ended)
+
+-- a verdict
+obeyed :
+    (job : Job) (st : Stand) (b : Block) (bs : List Block) (budget : Budget) (v : Verdict)
+    → Placed st → verdictAt job st b ≡ v
+    → unwound job (st .left) (st .callers) (obey v b (callees job (st .left)) (program job (st .left) bs) (going st budget))
+    ≡ onward job budget (turnBy v job st b bs)
+unfolding obey turnBy onward
+obeyed job st b bs budget (refused blame) p e =
+    let place : Place = record { block = b .number; byte = blame .byte } in
+    unwound-over job (st .left) (st .callers) (refusedAt (blame .refusal) place) (over-refused (blame .refusal) place)
+obeyed job st b bs budget (accepted s control made) p e =
+    unwound-after job (st .left) (st .callers) made
+    (follow control (callees job (st .left)) (program job (st .left) bs) (goingOn (going st budget) s made))
+    ∙ accepted-leads job st b bs budget s control made p e
+
+-- a block that is skipped or not
+ran :
+    (skips : Bool) (job : Job) (st : Stand) (b : Block) (bs : List Block) (budget : Budget)
+    → Placed st
+    → unwound job (st .left) (st .callers)
+    (runBlock skips job (st .left) (callees job (st .left)) b (program job (st .left) bs) (going st budget))
+    ≡ onward job budget (turnUnder skips job st b bs)
+unfolding runBlock turnUnder onward past goingOn going whole after verdictAt verdictOn
+ran true job st b bs budget p = refl
+ran false job st b bs budget p = obeyed job st b bs budget (verdictAt job st b) p refl
+
+-- a block that is reached
+reaches :
+    (closed : Bool) (job : Job) (st : Stand) (b : Block) (bs : List Block) (budget : Budget)
+    → Placed st
+    → unwound job (st .left) (st .callers)
+    (reached false closed (placeOf b)
+    (runBlock (isSkipped job b) job (st .left) (callees job (st .left)) b (program job (st .left) bs)) (going st budget))
+    ≡ onward job budget (turnUnless closed job st b bs)
+unfolding reached turnUnless onward
+reaches true job st b bs budget p = unwound-over job (st .left) (st .callers) (refusedAt NoEnd (placeOf b)) (over-refused NoEnd (placeOf b))
+reaches false job st b bs budget p = ran (isSkipped job b) job st b bs budget p
+
+from-here :
+    (job : Job) (ahead : List Block) (st : Stand) (budget : Budget)
+    → Placed st → isSpent budget ≡ false
+    → unwound job (st .left) (st .callers) (program job (st .left) ahead (going st budget)) ≡ onward job budget (turnIn ahead job st)
+unfolding walk reached turnIn onward going
+from-here job [] st budget p e =
+    rw e (unwound-over job (st .left) (st .callers) (refusedAt NoEnd (job .finish)) (over-refused NoEnd (job .finish)))
+from-here job (b ∷ bs) st budget p e = rw e (reaches (opens b || closes b) job st b bs budget p)
+
+pub one-block :
+    (job : Job) (st : Stand) (budget : Budget) → Placed st → isSpent budget ≡ false
+    → whole job st budget ≡ onward job budget (turnAt job st)
+unfolding whole turnAt
+one-block job st budget p e = from-here job (st .ahead) st budget p e
+
+spent-here :
+    (job : Job) (ahead : List Block) (st : Stand) (budget : Budget) → isSpent budget ≡ true
+    → unwound job (st .left) (st .callers) (program job (st .left) ahead (going st budget)) ≡ just unfinished
+unfolding walk reached going
+spent-here job [] st budget e = rw e (unwound-over job (st .left) (st .callers) unfinished over-unfinished)
+spent-here job (b ∷ bs) st budget e = rw e (unwound-over job (st .left) (st .callers) unfinished over-unfinished)
+
+pub spent : (job : Job) (st : Stand) (budget : Budget) → isSpent budget ≡ true → whole job st budget ≡ just unfinished
+unfolding whole
+spent job st budget e = spent-here job (st .ahead) st budget e

@@ -1,0 +1,103 @@
+-- The run block by block (specs/Steps.antt) gives what the rules of the run give, for every budget.
+use Prim.Native.Nat.{ℕ, zero, suc, _+_, _-_}
+use mathlib.Core.Path.{_≡_, refl, sym, _∙_, ap}
+use mathlib.Core.Bool.{false}
+use mathlib.Core.Option.{none, some}
+use mathlib.Core.List.{List, [], _∷_, _++_, append-assoc, append-nil}
+use native.Mathlib.Omega.{arith}
+use borrow.Author.Tests.{ne-eqb}
+use Rattle.records.specs.declared.Record.{Record}
+use Rattle.interpreter.specs.declared.Budget.{Budget}
+use Rattle.interpreter.specs.declared.Budget.the-variants.{Whole, First}
+use Rattle.interpreter.specs.Walk.{Job, How, ended, unfinished, refusedAt, Outcome, just, isSpent, oneLess, after}
+use Rattle.claims.specs.Steps.{
+  BlockDone,
+  Stand,
+  Turn,
+  refuses,
+  goes,
+  ends,
+  turnAt,
+  Sofar,
+  turned,
+  turnedUnless,
+  oneMore,
+  more,
+  recordsBy,
+  howSofar,
+  outcomeSofar,
+}
+use Rattle.claims.proofs.Blockwise.{Placed, whole, onward, one-block, spent, one-down}
+use Rattle.claims.proofs.Turns.{Onto, placed-kept, more-over}
+
+pub records-last : (ds : List BlockDone) (d : BlockDone) → recordsBy (ds ++ d ∷ []) ≡ recordsBy ds ++ d .made
+unfolding recordsBy
+records-last [] d = append-nil (d .made)
+records-last (e ∷ ds) d = ap (e .made ++_) (records-last ds d) ∙ sym (append-assoc (e .made) (recordsBy ds) (d .made))
+
+abbrev pub during : List BlockDone → Stand → Sofar
+during ds st = record { executed = ds; stand = st; over = none }
+
+after-just : (made : List Record) (how : How) → after made (just how) ≡ record { how = how; made = made }
+unfolding after
+after-just made how = rw append-nil
+
+over-now : (job : Job) (n : ℕ) (x : Sofar) (how : How) → x .over ≡ some how → outcomeSofar (more job n x) ≡ record { how = how; made = recordsBy (x .executed) }
+unfolding outcomeSofar howSofar
+over-now job n x how e = rw (more-over job n x how e) (rw e)
+
+after-done :
+    (ds : List BlockDone) (d : BlockDone) (o : Outcome) → after (recordsBy ds) (after (d .made) o) ≡ after (recordsBy (ds ++ d ∷ [])) o
+unfolding after
+after-done ds d o = rw (records-last ds d, append-assoc)
+
+-- One block, and then the rest, where the rest gives the same for every stand from which it does what C asks.
+module _ (C : Sofar → Type 0) (job : Job) (budget : Budget) (n : ℕ)
+    (rest :
+    (ds : List BlockDone) (st : Stand) → Placed st → C (more job n (during ds st))
+    → after (recordsBy ds) (whole job st (oneLess budget)) ≡ outcomeSofar (more job n (during ds st)))
+  where
+    past-turn :
+        (ds : List BlockDone) (st : Stand) (t : Turn) → Onto Placed t → C (more job n (turned (during ds st) t))
+        → after (recordsBy ds) (onward job budget t) ≡ outcomeSofar (more job n (turned (during ds st) t))
+    unfolding onward turned Onto
+    past-turn ds st (refuses refusal place) p c =
+        after-just (recordsBy ds) (refusedAt refusal place)
+        ∙ sym (over-now job n (turned (during ds st) (refuses refusal place)) (refusedAt refusal place) refl)
+    past-turn ds st (goes d st′) p c = after-done ds d (whole job st′ (oneLess budget)) ∙ rest (ds ++ d ∷ []) st′ p c
+    past-turn ds st (ends d st′) p c =
+        after-done ds d (just ended)
+        ∙ after-just (recordsBy (ds ++ d ∷ [])) ended
+        ∙ sym (over-now job n (turned (during ds st) (ends d st′)) ended refl)
+
+    pub past-block :
+        (ds : List BlockDone) (st : Stand) → isSpent budget ≡ false → Placed st → C (more job (suc n) (during ds st))
+        → after (recordsBy ds) (whole job st budget) ≡ outcomeSofar (more job (suc n) (during ds st))
+    unfolding more oneMore turnedUnless
+    past-block ds st e p c =
+        ap (after (recordsBy ds)) (one-block job st budget p e)
+        ∙ past-turn ds st (turnAt job st) (placed-kept job st p) c
+
+-- the first n executed blocks
+pub counted :
+    (job : Job) (n : ℕ) (ds : List BlockDone) (st : Stand) → Placed st
+    → after (recordsBy ds) (whole job st (First n)) ≡ outcomeSofar (more job n (during ds st))
+unfolding isSpent oneLess more outcomeSofar howSofar
+counted job zero ds st p =
+    ap (after (recordsBy ds)) (spent job st (First zero) refl) ∙ after-just (recordsBy ds) unfinished
+counted job (suc n) ds st p =
+    past-block (λ x. Unit {0}) job (First (suc n)) n
+    (λ ds′ st′ p′ c. ap (λ (k : ℕ). after (recordsBy ds′) (whole job st′ (First k))) (sym (one-down n)) ∙ counted job n ds′ st′ p′)
+    ds st (ne-eqb (suc n) 0 (λ e. omega arith)) p tt
+
+-- the whole, where n blocks bring it to its end or to a refusal
+abbrev pub Over : Sofar → Type 0
+Over x = (how : How) × (x .over ≡ some how)
+
+pub counted-whole :
+    (job : Job) (n : ℕ) (ds : List BlockDone) (st : Stand) → Placed st → Over (more job n (during ds st))
+    → after (recordsBy ds) (whole job st Whole) ≡ outcomeSofar (more job n (during ds st))
+unfolding isSpent oneLess more
+counted-whole job zero ds st p c = let e = c .1 in let z : _≡_ {A = ℕ} 0 1 = cc in absurd (omega arith)
+counted-whole job (suc n) ds st p c =
+    past-block Over job Whole n (λ ds′ st′ p′ c′. counted-whole job n ds′ st′ p′ c′) ds st refl p c

@@ -1,0 +1,377 @@
+-- Demand 3, both halves. In the frame of the common offset the two setups have the same start and the same computation, and
+-- differ in the travel alone.
+use Prim.Native.Nat.{ℕ, suc}
+use mathlib.Core.Path.{_≡_, refl, sym, _∙_, ap, ap₂, subst}
+use mathlib.Core.Bool.{Bool, true, false, false≢true, _&&_}
+use mathlib.Core.Option.{Option, none, some}
+use mathlib.Core.List.{List, [], _∷_, _++_, map}
+use native.Mathlib.Omega.{arith}
+use lib.Dec.{ltb}
+use lib.ListN.{length, length-map}
+use Rattle.terms.specs.Terms.{if_then_else_}
+use Rattle.lengths.specs.Units.{len}
+use Rattle.lengths.proofs.Ring.{shift}
+use Rattle.refusals.specs.declared.Refusal.the-variants.{LeavesTravel, DataTooLong}
+use Rattle.refusals.specs.declared.Place.{Place}
+use Rattle.points.specs.declared.Point.{Point}
+use Rattle.points.specs.Points.{moved, movedBack}
+use Rattle.setup.specs.declared.Axes.{Axes}
+use Rattle.setup.specs.declared.Setup.{Setup}
+use Rattle.setup.specs.Limits.{validSetup}
+use Rattle.setup.specs.Frame.{pointOf, offset, startOf, bedOf, originAt, switchOn}
+use Rattle.setup.specs.Fair.{Fair}
+use Rattle.setup.proofs.Valid as Valid
+use Rattle.records.specs.declared.Record.{Record}
+use Rattle.records.specs.Path.{endOf, pathStaysIn, recordMoved}
+use Rattle.settings.specs.declared.State.{State}
+use Rattle.settings.specs.Settings.{firstModes, firstState}
+use Rattle.blocks.specs.Machine.{machineOf}
+use Rattle.blocks.specs.Reach.{Reachable}
+use Rattle.lines.specs.Blocks.{Block, blocksOf}
+use Rattle.programs.specs.Openings.{Table, table, placeOf}
+use Rattle.programs.specs.Openings as Openings
+use Rattle.interpreter.specs.declared.Budget.the-variants.{Whole, First}
+use Rattle.interpreter.specs.declared.Answer.the-variants.{Done, Refused}
+use Rattle.interpreter.specs.Walk.{How, ended, refusedAt, Outcome}
+use Rattle.interpreter.specs.Run.{firstOf, finishOf, nowhere, outcome, recordsOf, answerBy, answerOf}
+use Rattle.claims.specs.Steps.{BlockDone, refuses, turnAt, Sofar, turned, oneMore, more, recordsBy, howSofar, outcomeSofar, tableIn, subsOf, jobOf, standAt, refusedAtOnce, begunBy, begun, firstBlocks}
+use Rattle.claims.specs.Travel.{inTravel}
+use Rattle.claims.specs.Displaced.{displaced, allMoved, stayIn, LeavesFirst}
+use Rattle.claims.proofs.Turns.{open-turn, more-over}
+use Rattle.claims.proofs.Counted.{records-last, Over}
+use Rattle.claims.proofs.Paths.{stays-both}
+use Rattle.claims.proofs.Displacing.{records-twice}
+use Rattle.claims.proofs.Runs.{first-n, sufficient, some-n, begun-with}
+use Rattle.claims.proofs.Travel.{Stayed, run-stayed, begun-stayed, same-start, same-stays}
+use Rattle.claims.proofs.Answers.{Close, under, atEnd, atRefusal, run-close}
+use Rattle.claims.proofs.Stepping.{one-later}
+use Rattle.claims.proofs.Compared.{Compared, same, parts, compared}
+
+-- ---- the two setups in the frame
+
+module _ (by : Axes) (s : Setup) where
+  abbrev t : Setup
+  t = displaced by s
+
+  start-same : startOf t ≡ startOf s
+  unfolding startOf offset movedBack
+  start-same =
+      let x = shift (s .start .x) (s .exofs .x) (by .x) in
+      let y = shift (s .start .y) (s .exofs .y) (by .y) in
+      let z = shift (s .start .z) (s .exofs .z) (by .z) in
+      λ i. record { x = len (x i); y = len (y i); z = len (z i) }
+
+  first-same : firstOf t ≡ firstOf s
+  unfolding firstOf
+  first-same = ap (λ (p : Point). firstState p (len (s .feed)) (len (s .speed))) start-same
+
+  table-same : (u : Table) (bs : List Block) (room : ℕ) → begunBy u t bs room ≡ begunBy u s bs room
+  unfolding begunBy standAt refusedAtOnce
+  table-same (Openings.refusedAt r place) bs room =
+      ap
+      (λ (q : State).
+      record {
+        executed = [];
+        stand = record { state = q; room = room; left = 4; ahead = []; callers = [] };
+        over = some (refusedAt r place);
+      })
+      first-same
+  table-same (table main subs) bs room =
+      ap
+      (λ (q : State).
+      record {
+        executed = [];
+        stand = record { state = q; room = room; left = 4; ahead = Openings.blocksAt bs main; callers = [] };
+        over = none;
+      })
+      first-same
+
+  begun-same : (bytes : List ℕ) (room : ℕ) → validSetup s ≡ true → validSetup t ≡ true → begun t bytes room ≡ begun s bytes room
+  unfolding begun begunBy
+  begun-same bytes room v w = rw (v, w) (go (ltb 65_535 (length bytes)))
+    where
+      go :
+          (long : Bool)
+          → (if long then refusedAtOnce t room DataTooLong nowhere
+          else begunBy (tableIn (blocksOf bytes)) t (blocksOf bytes) room)
+          ≡ (if long then refusedAtOnce s room DataTooLong nowhere
+          else begunBy (tableIn (blocksOf bytes)) s (blocksOf bytes) room)
+      go true = table-same (Openings.refusedAt DataTooLong nowhere) [] room
+      go false = table-same (tableIn (blocksOf bytes)) (blocksOf bytes) room
+
+  -- records displaced from the first setup's machine units are those of the second
+  moved-records : (rs : List Record) → allMoved by (map (recordMoved (offset s)) rs) ≡ map (recordMoved (offset t)) rs
+  unfolding offset moved
+  moved-records rs = records-twice (offset s) (pointOf by) rs
+
+  -- and stay in the travel as they do in the frame
+  moved-stays :
+      (rs : List Record)
+      → stayIn t (allMoved by (map (recordMoved (offset s)) rs)) ≡ pathStaysIn (machineOf (bedOf t) .stays) (startOf t) rs
+  unfolding stayIn
+  moved-stays rs =
+      ap (stayIn t) (moved-records rs)
+      ∙ ap (λ (p : Point). pathStaysIn (inTravel t) p (map (recordMoved (offset t)) rs)) (sym (same-start t))
+      ∙ same-stays t (startOf t) rs
+
+  -- the second setup's run begins in a state that a run can reach
+  first-reached : validSetup t ≡ true → Reachable (bedOf t) (firstOf t)
+  unfolding firstOf firstState firstModes bedOf
+  first-reached w =
+      record {
+        at = Valid.start-inside t w;
+        origin = omega arith;
+        feed = Valid.valid-feed t w;
+        speed = Valid.valid-speed t w;
+      }
+
+-- ---- a program that ends under the first setup
+
+done-ended : (o : Option How) (k count : ℕ) → Close o → answerBy (howSofar o) k ≡ Done count → o ≡ some ended
+unfolding answerBy howSofar
+done-ended o k count under e = let z : _≡_ {A = ℕ} 0 1 = cc in absurd (omega arith)
+done-ended o k count atEnd e = refl
+done-ended o k count (atRefusal r place) e = let z : _≡_ {A = ℕ} 0 1 = cc in absurd (omega arith)
+
+module _ (by : Axes) (s : Setup) (bytes : List ℕ) (room : ℕ)
+    (v : validSetup s ≡ true) (w : validSetup (displaced by s) ≡ true) (six : length (s .origins) ≡ 6)
+    (count : ℕ) (done : answerOf s bytes room Whole ≡ Done count)
+  where
+    abbrev second : Setup
+    second = displaced by s
+
+    abbrev staysThere : Point → Record → Bool
+    staysThere = machineOf (bedOf second) .stays
+
+    fair : Fair (bedOf second)
+    fair = Valid.fair second w six
+
+    n : ℕ
+    n = some-n s bytes room .0
+
+    over : Over (firstBlocks s bytes room n)
+    unfolding n
+    over = some-n s bytes room .1
+
+    is-ended : firstBlocks s bytes room n .over ≡ some ended
+    unfolding answerOf outcomeSofar
+    is-ended =
+        done-ended (firstBlocks s bytes room n .over) (length (recordsBy (firstBlocks s bytes room n .executed))) count
+        (run-close s bytes room n)
+        (ap (λ (o : Outcome). answerBy (o .how) (length (o .made))) (sym (sufficient s bytes room n over)) ∙ done)
+
+    reached : Reachable (bedOf second) (begun s bytes room .stand .state)
+    reached =
+        begun-with (λ ds q. Reachable (bedOf second) q) s bytes room
+        (subst (λ (q : State). Reachable (bedOf second) q) (first-same by s) (first-reached by s w))
+
+    -- the run under the second setup, block by block, from the first setup's beginning
+    second-run : (k : ℕ) → firstBlocks second bytes room k ≡ more (jobOf second bytes) k (begun s bytes room)
+    unfolding firstBlocks
+    second-run k = ap (more (jobOf second bytes) k) (begun-same by s bytes room v w)
+
+    abbrev Outcomes : Type 0
+    Outcomes =
+        Compared (bedOf second) (machineOf (bedOf s) .fits) (machineOf (bedOf s) .stays) fair (switchOn s) (blocksOf bytes)
+        (finishOf bytes (blocksOf bytes)) (subsOf (tableIn (blocksOf bytes))) (begun s bytes room) n
+
+    runs-compared : Outcomes
+    unfolding firstBlocks jobOf machineOf bedOf originAt switchOn
+    runs-compared = go (begun s bytes room .over) refl
+      where
+        go : (o : Option How) → begun s bytes room .over ≡ o → Outcomes
+        go none e =
+            compared (bedOf second) (machineOf (bedOf s) .fits) (machineOf (bedOf s) .stays) fair (switchOn s) (blocksOf bytes)
+            (finishOf bytes (blocksOf bytes)) (subsOf (tableIn (blocksOf bytes))) n (begun s bytes room) reached e is-ended
+        go (some how) e =
+            same
+            (more-over (jobOf second bytes) n (begun s bytes room) how e
+            ∙ sym (more-over (jobOf s bytes) n (begun s bytes room) how e))
+
+    -- where the second setup's run leaves the first one's
+    record Parting : Type 0 where
+      before : ℕ
+      alike : firstBlocks second bytes room before ≡ firstBlocks s bytes room before
+      open′ : firstBlocks s bytes room before .over ≡ none
+      block : BlockDone
+      next : firstBlocks s bytes room (suc before) .executed ≡ firstBlocks s bytes room before .executed ++ block ∷ []
+      refused :
+          turnAt (jobOf second bytes) (firstBlocks s bytes room before .stand) ≡ refuses LeavesTravel (placeOf (block .block))
+      leaves : pathStaysIn staysThere (firstBlocks s bytes room before .stand .state .at) (block .made) ≡ false
+      rest : List Record
+      all :
+          recordsBy (firstBlocks s bytes room n .executed)
+          ≡ recordsBy (firstBlocks s bytes room (suc before) .executed) ++ rest
+
+    data Either : Type 0 where
+      asFirst : firstBlocks second bytes room n ≡ firstBlocks s bytes room n → Either
+      leaving : Parting → Either
+
+    either : Either
+    unfolding firstBlocks jobOf machineOf bedOf originAt switchOn
+    either = go runs-compared
+      where
+        go : Outcomes → Either
+        go (same e) = asFirst (second-run n ∙ e)
+        go (parts p) =
+            leaving
+            (record {
+              before = p .before;
+              alike = second-run (p .before) ∙ p .same;
+              open′ = p .under;
+              block = p .block;
+              next = p .next;
+              refused = p .refused;
+              leaves = p .leaves;
+              rest = p .rest;
+              all = p .all;
+            })
+
+    -- ---- the records of the first blocks
+
+    whole-made : outcome s bytes room Whole .made ≡ recordsBy (firstBlocks s bytes room n .executed)
+    unfolding outcomeSofar
+    whole-made = ap (λ (o : Outcome). o .made) (sufficient s bytes room n over)
+
+    first-made : (k : ℕ) → outcome s bytes room (First k) .made ≡ recordsBy (firstBlocks s bytes room k .executed)
+    unfolding outcomeSofar
+    first-made k = ap (λ (o : Outcome). o .made) (first-n s bytes room k)
+
+    -- the displaced records of the whole stay where the run's records do in the frame
+    whole-stays :
+        stayIn second (allMoved by (recordsOf s bytes room Whole))
+        ≡ pathStaysIn staysThere (startOf second) (recordsBy (firstBlocks s bytes room n .executed))
+    unfolding recordsOf
+    whole-stays =
+        moved-stays by s (outcome s bytes room Whole .made) ∙ ap (pathStaysIn staysThere (startOf second)) whole-made
+
+    first-stays :
+        (k : ℕ)
+        → stayIn second (allMoved by (recordsOf s bytes room (First k)))
+        ≡ pathStaysIn staysThere (startOf second) (recordsBy (firstBlocks s bytes room k .executed))
+    unfolding recordsOf
+    first-stays k =
+        moved-stays by s (outcome s bytes room (First k) .made) ∙ ap (pathStaysIn staysThere (startOf second)) (first-made k)
+
+    -- the second setup's own blocks stay in its travel
+    second-stayed :
+        (k : ℕ)
+        → Stayed staysThere (startOf second) (firstBlocks second bytes room k .executed) (firstBlocks second bytes room k .stand .state)
+    unfolding firstBlocks jobOf
+    second-stayed k =
+        run-stayed (jobOf second bytes) (startOf second) k (begun second bytes room) (begun-stayed staysThere second bytes room)
+
+    -- ---- where both run alike
+
+    outcome-same : firstBlocks second bytes room n ≡ firstBlocks s bytes room n → outcome second bytes room Whole ≡ outcome s bytes room Whole
+    outcome-same e =
+        let there : Over (firstBlocks second bytes room n) = (ended, ap (λ (x : Sofar). x .over) e ∙ is-ended) in
+        sufficient second bytes room n there ∙ ap outcomeSofar e ∙ sym (sufficient s bytes room n over)
+
+    -- ---- where they part
+
+    module _ (p : Parting) where
+      abbrev earlier : List Record
+      earlier = recordsBy (firstBlocks s bytes room (p .before) .executed)
+
+      with-block : recordsBy (firstBlocks s bytes room (suc (p .before)) .executed) ≡ earlier ++ p .block .made
+      with-block = ap recordsBy (p .next) ∙ records-last (firstBlocks s bytes room (p .before) .executed) (p .block)
+
+      earlier-stay : pathStaysIn staysThere (startOf second) earlier ≡ true
+      earlier-stay =
+          subst (λ (x : Sofar). pathStaysIn staysThere (startOf second) (recordsBy (x .executed)) ≡ true) (p .alike)
+          (second-stayed (p .before) .path)
+
+      tool-at : firstBlocks s bytes room (p .before) .stand .state .at ≡ endOf (startOf second) earlier
+      tool-at =
+          subst (λ (x : Sofar). x .stand .state .at ≡ endOf (startOf second) (recordsBy (x .executed))) (p .alike)
+          (second-stayed (p .before) .at)
+
+      block-leaves : pathStaysIn staysThere (startOf second) (earlier ++ p .block .made) ≡ false
+      block-leaves =
+          stays-both staysThere (startOf second) earlier (p .block .made)
+          ∙ ap₂ _&&_ earlier-stay
+          (ap (λ (q : Point). pathStaysIn staysThere q (p .block .made)) (sym tool-at) ∙ p .leaves)
+
+      whole-leaves : pathStaysIn staysThere (startOf second) (recordsBy (firstBlocks s bytes room n .executed)) ≡ false
+      whole-leaves =
+          ap (pathStaysIn staysThere (startOf second)) (p .all ∙ ap (_++ p .rest) with-block)
+          ∙ stays-both staysThere (startOf second) (earlier ++ p .block .made) (p .rest)
+          ∙ ap (_&& pathStaysIn staysThere (endOf (startOf second) (earlier ++ p .block .made)) (p .rest)) block-leaves
+
+      -- the second setup's run is refused at the block
+      second-refused :
+          firstBlocks second bytes room (suc (p .before))
+          ≡ turned (firstBlocks s bytes room (p .before)) (refuses LeavesTravel (placeOf (p .block .block)))
+      second-refused =
+          one-later second bytes room (p .before)
+          ∙ ap (oneMore (jobOf second bytes)) (p .alike)
+          ∙ open-turn (jobOf second bytes) (firstBlocks s bytes room (p .before)) (p .open′)
+          ∙ ap (turned (firstBlocks s bytes room (p .before))) (p .refused)
+
+      second-outcome :
+          outcome second bytes room Whole
+          ≡ record { how = refusedAt LeavesTravel (placeOf (p .block .block)); made = outcome s bytes room (First (p .before)) .made }
+      unfolding outcomeSofar howSofar turned
+      second-outcome =
+          let place : Place = placeOf (p .block .block) in
+          let there : Over (firstBlocks second bytes room (suc (p .before))) =
+          (refusedAt LeavesTravel place, ap (λ (x : Sofar). x .over) second-refused) in
+          sufficient second bytes room (suc (p .before)) there
+          ∙ ap outcomeSofar second-refused
+          ∙ ap (λ (rs : List Record). record { how = refusedAt LeavesTravel place; made = rs }) (sym (first-made (p .before)))
+
+      leaves-first : LeavesFirst by s bytes room
+      unfolding answerOf recordsOf answerBy
+      leaves-first =
+          let made : List Record = outcome s bytes room (First (p .before)) .made in
+          record {
+            before = p .before;
+            block = p .block;
+            executed = p .next;
+            stays = first-stays (p .before) ∙ earlier-stay;
+            leaves =
+                first-stays (suc (p .before)) ∙ ap (pathStaysIn staysThere (startOf second)) with-block ∙ block-leaves;
+            answer =
+                ap (λ (o : Outcome). answerBy (o .how) (length (o .made))) second-outcome
+                ∙ ap (λ (c : ℕ). Refused LeavesTravel (placeOf (p .block .block)) c)
+                (sym (length-map made (recordMoved (offset s))));
+            records =
+                ap (λ (o : Outcome). map (recordMoved (offset second)) (o .made)) second-outcome ∙ sym (moved-records by s made);
+          }
+
+    -- ---- the two halves
+
+    -- "If a program ends under the first, and its whole path, so displaced, stays in the travel as document 01 measures it, it
+    -- ends under the second with the same records, all points and arc centres displaced and every other number equal."
+    pub moves-the-cut :
+        stayIn (displaced by s) (allMoved by (recordsOf s bytes room Whole)) ≡ true
+        → (answerOf (displaced by s) bytes room Whole ≡ Done count)
+        × (recordsOf (displaced by s) bytes room Whole ≡ allMoved by (recordsOf s bytes room Whole))
+    unfolding answerOf recordsOf
+    moves-the-cut stay = go either
+      where
+        go :
+            Either
+            → (answerOf (displaced by s) bytes room Whole ≡ Done count)
+            × (recordsOf (displaced by s) bytes room Whole ≡ allMoved by (recordsOf s bytes room Whole))
+        go (asFirst e) = (
+          ap (λ (o : Outcome). answerBy (o .how) (length (o .made))) (outcome-same e) ∙ done,
+          ap (λ (o : Outcome). map (recordMoved (offset second)) (o .made)) (outcome-same e)
+              ∙ sym (moved-records by s (outcome s bytes room Whole .made)),
+        )
+        go (leaving p) = absurd (false≢true (sym (whole-stays ∙ whole-leaves p) ∙ stay))
+
+    -- "If it ends under the first and that path does not stay, the second refuses for travel at the first executed block whose
+    -- displaced path leaves it, with the earlier records displaced."
+    pub refuses-for-travel :
+        stayIn (displaced by s) (allMoved by (recordsOf s bytes room Whole)) ≡ false → LeavesFirst by s bytes room
+    refuses-for-travel leave = go either
+      where
+        go : Either → LeavesFirst by s bytes room
+        go (asFirst e) =
+            let stays =
+            subst (λ (x : Sofar). pathStaysIn staysThere (startOf second) (recordsBy (x .executed)) ≡ true) e
+            (second-stayed n .path) in
+            absurd (false≢true (sym leave ∙ whole-stays ∙ stays))
+        go (leaving p) = leaves-first p

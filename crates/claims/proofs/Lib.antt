@@ -1,0 +1,17 @@
+pub mod Verdicts
+pub mod Blockwise
+pub mod Turns
+pub mod Counted
+pub mod Finishes
+pub mod Runs
+pub mod Paths
+pub mod Travel
+pub mod Displacing
+pub mod Answers
+pub mod Refused
+pub mod Stepping
+pub mod Twins
+pub mod Compared
+pub mod Displaced
+pub mod Opened
+pub mod Examples

@@ -1,0 +1,128 @@
+-- "A refused block adds no record and changes no setting, earlier records stand": where a run was refused, its records are
+-- those of the run that stops before the block.
+use Prim.Native.Nat.{ℕ, zero, suc}
+use mathlib.Core.Path.{_≡_, refl, sym, _∙_, ap, ap₂}
+use mathlib.Core.Option.{Option, none, some}
+use mathlib.Core.List.{List, []}
+use native.Mathlib.Omega.{arith}
+use Rattle.refusals.specs.declared.Refusal.{Refusal}
+use Rattle.refusals.specs.declared.Place.{Place}
+use Rattle.setup.specs.declared.Setup.{Setup}
+use Rattle.records.specs.declared.Record.{Record}
+use Rattle.interpreter.specs.declared.Budget.{Budget}
+use Rattle.interpreter.specs.Walk.{Job, How, refusedAt, Outcome, just}
+use Rattle.interpreter.specs.Run.{outcome}
+use Rattle.claims.specs.Steps.{BlockDone, Turn, refuses, goes, ends, turnAt, Sofar, turned, oneMore, more, recordsBy, howSofar, outcomeSofar, jobOf, begun, firstBlocks}
+use Rattle.claims.specs.Answers.{RefusedBlock, RefusedWhere, atOnce, atBlock}
+use Rattle.claims.proofs.Turns.{open-turn, one-over, more-over}
+use Rattle.claims.proofs.Runs.{first-n, some-blocks, begun-with}
+
+abbrev refusedSofar : Sofar → Refusal → Place → Sofar
+refusedSofar x r place = record { executed = x .executed; stand = x .stand; over = some (refusedAt r place) }
+
+-- the block at which a run was refused
+record Refusing (job : Job) (x : Sofar) (n : ℕ) (r : Refusal) (place : Place) : Type 0 where
+  before : ℕ
+  open′ : more job before x .over ≡ none
+  now : more job (suc before) x ≡ refusedSofar (more job before x) r place
+  same : more job n x ≡ more job (suc before) x
+
+data Origin (job : Job) (x : Sofar) (n : ℕ) (r : Refusal) (place : Place) : Type 0 where
+  already : x .over ≡ some (refusedAt r place) → Origin job x n r place
+  later : Refusing job x n r place → Origin job x n r place
+
+turn-refuses :
+    (x : Sofar) (t : Turn) (r : Refusal) (place : Place) → turned x t .over ≡ some (refusedAt r place)
+    → turned x t ≡ refusedSofar x r place
+unfolding turned
+turn-refuses x (refuses q p) r place e =
+    ap (λ (o : Option How). record { executed = x .executed; stand = x .stand; over = o }) e
+turn-refuses x (goes d st) r place e = let z : _≡_ {A = ℕ} 0 1 = cc in absurd (omega arith)
+turn-refuses x (ends d st) r place e = let z : _≡_ {A = ℕ} 0 1 = cc in absurd (omega arith)
+
+one-origin :
+    (o : Option How) (job : Job) (x : Sofar) (n : ℕ) (r : Refusal) (place : Place) → x .over ≡ o
+    → oneMore job x .over ≡ some (refusedAt r place) → Origin job x (suc n) r place
+unfolding more
+one-origin none job x n r place e k =
+    let turn = open-turn job x e in
+    later
+    (record {
+      before = 0;
+      open′ = e;
+      now =
+          turn
+          ∙ turn-refuses x (turnAt job (x .stand)) r place (ap (λ (y : Sofar). y .over) (sym turn) ∙ k);
+      same = more-over job n (oneMore job x) (refusedAt r place) k;
+    })
+one-origin (some how) job x n r place e k =
+    already (ap (λ (y : Sofar). y .over) (sym (one-over job x how e)) ∙ k)
+
+origin :
+    (job : Job) (n : ℕ) (x : Sofar) (r : Refusal) (place : Place) → more job n x .over ≡ some (refusedAt r place)
+    → Origin job x n r place
+unfolding more
+origin job zero x r place e = already e
+origin job (suc n) x r place e = go (origin job n (oneMore job x) r place e)
+  where
+    go : Origin job (oneMore job x) n r place → Origin job x (suc n) r place
+    go (already k) = one-origin (x .over) job x n r place refl k
+    go (later l) = later (record { before = suc (l .before); open′ = l .open′; now = l .now; same = l .same })
+
+refused-over : (o : Option How) (r : Refusal) (place : Place) → howSofar o ≡ refusedAt r place → o ≡ some (refusedAt r place)
+unfolding howSofar
+refused-over none r place e = let z : _≡_ {A = ℕ} 0 1 = cc in absurd (omega arith)
+refused-over (some how) r place e = ap some e
+
+module _ (s : Setup) (bytes : List ℕ) (room : ℕ) (r : Refusal) (place : Place) where
+  begun-empty : begun s bytes room .executed ≡ []
+  begun-empty = begun-with (λ ds st. ds ≡ []) s bytes room refl
+
+  -- a run that was refused before its first block
+  at-once : begun s bytes room .over ≡ some (refusedAt r place) → (budget : Budget) → outcome s bytes room budget ≡ just (refusedAt r place)
+  unfolding outcomeSofar howSofar recordsBy firstBlocks
+  at-once e budget =
+      let n = some-blocks s bytes room budget in
+      n .1
+      ∙ ap outcomeSofar (more-over (jobOf s bytes) (n .0) (begun s bytes room) (refusedAt r place) e)
+      ∙ ap₂ (λ (o : Option How) (ds : List BlockDone). record { how = howSofar o; made = recordsBy ds }) e begun-empty
+
+  at-block :
+      (n : ℕ) (budget : Budget) → outcome s bytes room budget ≡ outcomeSofar (firstBlocks s bytes room n)
+      → Refusing (jobOf s bytes) (begun s bytes room) n r place
+      → RefusedBlock s bytes room r place (outcome s bytes room budget .made)
+  unfolding outcomeSofar howSofar firstBlocks
+  at-block n budget e l =
+      let k : ℕ = l .before in
+      let made : outcome s bytes room budget .made ≡ recordsBy (firstBlocks s bytes room k .executed) =
+      ap (λ (o : Outcome). o .made) e
+      ∙ ap (λ (x : Sofar). recordsBy (x .executed)) (l .same ∙ l .now) in
+      record {
+        before = k;
+        stops =
+            first-n s bytes room k
+            ∙ ap₂ (λ (o : Option How) (rs : List Record). record { how = howSofar o; made = rs }) (l .open′) (sym made);
+        refused =
+            first-n s bytes room (suc k)
+            ∙ ap outcomeSofar (l .now)
+            ∙ ap (λ (rs : List Record). record { how = refusedAt r place; made = rs }) (sym made);
+        settings = ap (λ (x : Sofar). x .stand) (l .now);
+      }
+
+  pub refused-adds-nothing :
+      (budget : Budget) → outcome s bytes room budget .how ≡ refusedAt r place
+      → RefusedWhere s bytes room r place (outcome s bytes room budget .made)
+  unfolding outcomeSofar firstBlocks
+  refused-adds-nothing budget e =
+      let n = some-blocks s bytes room budget in
+      let x : Sofar = firstBlocks s bytes room (n .0) in
+      let over : x .over ≡ some (refusedAt r place) =
+      refused-over (x .over) r place (ap (λ (o : Outcome). o .how) (sym (n .1)) ∙ e) in
+      go (n .0) (n .1) (origin (jobOf s bytes) (n .0) (begun s bytes room) r place over)
+    where
+      go :
+          (n : ℕ) → outcome s bytes room budget ≡ outcomeSofar (firstBlocks s bytes room n)
+          → Origin (jobOf s bytes) (begun s bytes room) n r place
+          → RefusedWhere s bytes room r place (outcome s bytes room budget .made)
+      go n k (already o) = atOnce (at-once o) (ap (λ (q : Outcome). q .made) (at-once o budget))
+      go n k (later l) = atBlock (at-block n budget k l)

@@ -1,0 +1,63 @@
+-- Demand 3, "Moving the work moves the cut and nothing else": the two setups, and what the second one answers where the displaced
+-- path leaves the travel.
+use Prim.Native.Nat.{ℕ, suc}
+use mathlib.Core.Path.{_≡_}
+use mathlib.Core.Bool.{Bool, true, false}
+use mathlib.Core.List.{List, [], _∷_, _++_, map}
+use lib.IntN.{_+ℤ_}
+use lib.ListN.{length}
+use Rattle.refusals.specs.declared.Refusal.the-variants.{LeavesTravel}
+use Rattle.setup.specs.declared.Axes.{Axes}
+use Rattle.setup.specs.declared.Setup.{Setup}
+use Rattle.setup.specs.Frame.{pointOf}
+use Rattle.records.specs.declared.Record.{Record}
+use Rattle.records.specs.Path.{pathStaysIn, recordMoved}
+use Rattle.programs.specs.Openings.{placeOf}
+use Rattle.interpreter.specs.declared.Budget.the-variants.{Whole, First}
+use Rattle.interpreter.specs.declared.Answer.the-variants.{Refused}
+use Rattle.interpreter.specs.Run.{recordsOf, answerOf}
+use Rattle.claims.specs.Steps.{BlockDone, firstBlocks}
+use Rattle.claims.specs.Travel.{inTravel}
+
+abbrev pub axesMoved : Axes → Axes → Axes
+axesMoved by a = record { x = a .x +ℤ by .x; y = a .y +ℤ by .y; z = a .z +ℤ by .z }
+
+-- "two valid setups that differ only in that the common offset and the start point are displaced by the same distances":
+-- the second of them
+abbrev pub displaced : Axes → Setup → Setup
+displaced by s =
+    record {
+      low = s .low;
+      high = s .high;
+      start = axesMoved by (s .start);
+      exofs = axesMoved by (s .exofs);
+      origins = s .origins;
+      feed = s .feed;
+      lowest = s .lowest;
+      highest = s .highest;
+      speed = s .speed;
+      skip = s .skip;
+    }
+
+-- "the same records, all points and arc centres displaced and every other number equal"
+abbrev pub allMoved : Axes → List Record → List Record
+allMoved by rs = map (recordMoved (pointOf by)) rs
+
+-- records in machine units, their path beginning at the setup's start, stay in the setup's travel
+unfoldable pub stayIn : Setup → List Record → Bool
+stayIn s rs = pathStaysIn (inTravel s) (pointOf (s .start)) rs
+
+-- "the second refuses for travel at the first executed block whose displaced path leaves it, with the earlier records
+-- displaced": `before` blocks are executed before it
+pub record LeavesFirst (by : Axes) (s : Setup) (bytes : List ℕ) (room : ℕ) : Type 0 where
+  pub before : ℕ
+  pub block : BlockDone
+  pub executed :
+      firstBlocks s bytes room (suc before) .executed ≡ firstBlocks s bytes room before .executed ++ block ∷ []
+  pub stays : stayIn (displaced by s) (allMoved by (recordsOf s bytes room (First before))) ≡ true
+  pub leaves : stayIn (displaced by s) (allMoved by (recordsOf s bytes room (First (suc before)))) ≡ false
+  -- the block's number and its first byte
+  pub answer :
+      answerOf (displaced by s) bytes room Whole
+      ≡ Refused LeavesTravel (placeOf (block .block)) (length (recordsOf s bytes room (First before)))
+  pub records : recordsOf (displaced by s) bytes room Whole ≡ allMoved by (recordsOf s bytes room (First before))

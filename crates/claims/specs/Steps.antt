@@ -1,0 +1,187 @@
+-- A run seen block by block: where it stands after the first n executed blocks, which blocks those were and what each added.
+-- The rules of the run (specs/Walk.antt of `interpreter`) go by programs and calls; proofs/Counted.antt shows that both give
+-- the same for every n.
+use Prim.Native.Nat.{ℕ, zero, suc, _-_}
+use mathlib.Core.Bool.{Bool, true, false, not, _||_}
+use mathlib.Core.Option.{Option, none, some}
+use mathlib.Core.List.{List, [], _∷_, _++_}
+use lib.Dec.{ltb}
+use lib.ListN.{length}
+use Rattle.terms.specs.Terms.{if_then_else_}
+use Rattle.refusals.specs.declared.Refusal.{Refusal}
+use Rattle.refusals.specs.declared.Refusal.the-variants.{NoEnd, FirstBlock, BadSetup, DataTooLong}
+use Rattle.refusals.specs.declared.Place.{Place}
+use Rattle.points.specs.declared.Point.{Point}
+use Rattle.setup.specs.declared.Setup.{Setup}
+use Rattle.setup.specs.Limits.{validSetup}
+use Rattle.setup.specs.Frame.{bedOf, switchOn}
+use Rattle.records.specs.declared.Record.{Record}
+use Rattle.records.specs.Layout.{roomOf}
+use Rattle.settings.specs.declared.State.{State}
+use Rattle.blocks.specs.Machine.{machineOf}
+use Rattle.blocks.specs.Exec.{Verdict, refused, accepted}
+use Rattle.blocks.specs.declared.Control.{Control}
+use Rattle.blocks.specs.declared.Control.the-variants.{On, Call, Back, Stop}
+use Rattle.lines.specs.Blocks.{Block, blocksOf, closes, opens}
+use Rattle.programs.specs.Openings.{Table, table, placeOf, known, programsFrom, blocksAt}
+use Rattle.programs.specs.Openings as Openings
+use Rattle.programs.specs.declared.Program.{Program}
+use Rattle.interpreter.specs.declared.Budget.the-variants.{Whole}
+use Rattle.interpreter.specs.Walk.{Job, How, ended, unfinished, refusedAt, Outcome, isSkipped, verdictOn, blocksFor}
+use Rattle.interpreter.specs.Run.{firstOf, finishOf, nowhere}
+
+-- a block that was executed: where the tool stood before it, and its records
+pub record BlockDone : Type 0 where
+  pub block : Block
+  pub from : Point
+  pub made : List Record
+
+-- Where a run stands: the settings and the room left in the list, the levels left for calls, and the blocks that lie ahead
+-- in the program that runs and, behind its return, in those that called it.
+pub record Stand : Type 0 where
+  pub state : State
+  pub room : ℕ
+  pub left : ℕ
+  pub ahead : List Block
+  pub callers : List (List Block)
+
+-- What the block that is reached next does: it is refused, a missing end too; or it is executed, and the run goes on or is
+-- at its end.
+pub data Turn : Type 0 where
+  refuses : Refusal → Place → Turn
+  goes : BlockDone → Stand → Turn
+  ends : BlockDone → Stand → Turn
+
+-- the stand past a block that leaves a state and adds records
+unfoldable pub past : Stand → List Block → State → List Record → Stand
+past st rest s made =
+    record { state = s; room = st .room - roomOf made; left = st .left; ahead = rest; callers = st .callers }
+
+-- "M98 P: calls", one level down
+unfoldable pub entering : Stand → List Block → Stand
+entering st blocks =
+    record {
+      state = st .state;
+      room = st .room;
+      left = st .left - 1;
+      ahead = blocks;
+      callers = st .ahead ∷ st .callers;
+    }
+
+-- "M99: returns", to the block after the call; the main does not return, since M99 is refused in it
+unfoldable pub returning : List (List Block) → Stand → BlockDone → Turn
+returning [] st d = ends d st
+returning (rest ∷ callers) st d =
+    goes d (record { state = st .state; room = st .room; left = suc (st .left); ahead = rest; callers = callers })
+
+unfoldable pub led : Control → Job → Stand → BlockDone → Turn
+led On job st d = goes d st
+led (Call n) job st d = goes d (entering st (blocksFor (job .blocks) (known (job .programs) n)))
+led Back job st d = returning (st .callers) st d
+led Stop job st d = ends d st
+
+unfoldable pub turnBy : Verdict → Job → Stand → Block → List Block → Turn
+turnBy (refused blame) job st b rest = refuses (blame .refusal) (record { block = b .number; byte = blame .byte })
+turnBy (accepted s control made) job st b rest =
+    led control job (past st rest s made) (record { block = b; from = st .state .at; made = made })
+
+unfoldable pub verdictAt : Job → Stand → Block → Verdict
+verdictAt job st b = verdictOn job (st .left) b (record { state = st .state; room = st .room; budget = Whole })
+
+-- a skipped block counts as executed and adds nothing
+unfoldable pub turnUnder : Bool → Job → Stand → Block → List Block → Turn
+turnUnder true job st b rest = goes (record { block = b; from = st .state .at; made = [] }) (past st rest (st .state) [])
+turnUnder false job st b rest = turnBy (verdictAt job st b) job st b rest
+
+unfoldable pub turnUnless : Bool → Job → Stand → Block → List Block → Turn
+turnUnless true job st b rest = refuses NoEnd (placeOf b)
+turnUnless false job st b rest = turnUnder (isSkipped job b) job st b rest
+
+unfoldable pub turnIn : List Block → Job → Stand → Turn
+turnIn [] job st = refuses NoEnd (job .finish)
+turnIn (b ∷ rest) job st = turnUnless (opens b || closes b) job st b rest
+
+unfoldable pub turnAt : Job → Stand → Turn
+turnAt job st = turnIn (st .ahead) job st
+
+-- A run so far: the blocks executed in their order, where it stands, and how it is over, if it is.
+pub record Sofar : Type 0 where
+  pub executed : List BlockDone
+  pub stand : Stand
+  pub over : Option How
+
+-- a refused block is not executed, adds nothing and leaves the stand, settings and room among it, as it was
+unfoldable pub turned : Sofar → Turn → Sofar
+turned x (refuses refusal place) =
+    record { executed = x .executed; stand = x .stand; over = some (refusedAt refusal place) }
+turned x (goes d st) = record { executed = x .executed ++ d ∷ []; stand = st; over = none }
+turned x (ends d st) = record { executed = x .executed ++ d ∷ []; stand = st; over = some ended }
+
+unfoldable pub turnedUnless : Option How → Job → Sofar → Sofar
+turnedUnless none job x = turned x (turnAt job (x .stand))
+turnedUnless (some how) job x = x
+
+-- one executed block more; "past the end or a refusal answer and list stay as they were"
+unfoldable pub oneMore : Job → Sofar → Sofar
+oneMore job x = turnedUnless (x .over) job x
+
+unfoldable pub more : Job → ℕ → Sofar → Sofar
+more job zero x = x
+more job (suc n) x = more job n (oneMore job x)
+
+unfoldable pub recordsBy : List BlockDone → List Record
+recordsBy [] = []
+recordsBy (d ∷ ds) = d .made ++ recordsBy ds
+
+-- "before the end the answer is 'not finished'"
+unfoldable pub howSofar : Option How → How
+howSofar none = unfinished
+howSofar (some how) = how
+
+unfoldable pub outcomeSofar : Sofar → Outcome
+outcomeSofar x = record { how = howSofar (x .over); made = recordsBy (x .executed) }
+
+-- ---- a data set under a setup
+
+-- the openings, behind a first block that is `%` alone
+unfoldable pub tableIn : List Block → Table
+tableIn [] = Openings.refusedAt FirstBlock (record { block = 1; byte = 0 })
+tableIn (b ∷ bs) = if closes b then programsFrom b bs else Openings.refusedAt FirstBlock (record { block = 1; byte = 0 })
+
+unfoldable pub subsOf : Table → List Program
+subsOf (table main subs) = subs
+subsOf (Openings.refusedAt refusal place) = []
+
+unfoldable pub jobOf : Setup → List ℕ → Job
+jobOf s bytes =
+    record {
+      machine = machineOf (bedOf s);
+      skips = switchOn s;
+      blocks = blocksOf bytes;
+      finish = finishOf bytes (blocksOf bytes);
+      programs = subsOf (tableIn (blocksOf bytes));
+    }
+
+-- the stand before the first block, "all four levels left"
+unfoldable pub standAt : Setup → ℕ → List Block → Stand
+standAt s room blocks = record { state = firstOf s; room = room; left = 4; ahead = blocks; callers = [] }
+
+unfoldable pub refusedAtOnce : Setup → ℕ → Refusal → Place → Sofar
+refusedAtOnce s room refusal place =
+    record { executed = []; stand = standAt s room []; over = some (refusedAt refusal place) }
+
+unfoldable pub begunBy : Table → Setup → List Block → ℕ → Sofar
+begunBy (Openings.refusedAt refusal place) s bs room = refusedAtOnce s room refusal place
+begunBy (table main subs) s bs room =
+    record { executed = []; stand = standAt s room (blocksAt bs main); over = none }
+
+-- "Refusals 11 to 13 and of openings come at n = 0 too."
+unfoldable pub begun : Setup → List ℕ → ℕ → Sofar
+begun s bytes room =
+    if ltb 65_535 (length bytes) then refusedAtOnce s room DataTooLong nowhere
+    else if not (validSetup s) then refusedAtOnce s room BadSetup nowhere
+    else begunBy (tableIn (blocksOf bytes)) s (blocksOf bytes) room
+
+-- the first n executed blocks of a data set under a setup
+unfoldable pub firstBlocks : Setup → List ℕ → ℕ → ℕ → Sofar
+firstBlocks s bytes room n = more (jobOf s bytes) n (begun s bytes room)
