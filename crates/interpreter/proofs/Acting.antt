@@ -1,13 +1,13 @@
 -- What a block leads to: the laws of its verdict, and of the walk that goes on from it. Assumes nothing.
-use Prim.Native.Nat.{ℕ, zero, suc, _+_, _-_, _≤_, _<_}
-use mathlib.Core.Path.{_≡_, refl, sym, _∙_, ap}
-use mathlib.Core.Bool.{Bool, true, false}
+use Prim.Native.Nat.{ℕ, _+_, _-_, _≤_}
+use mathlib.Core.Path.{_≡_, refl}
+use mathlib.Core.Bool.{true}
 use mathlib.Core.Option.{Option, none, some}
-use mathlib.Core.List.{List, [], _∷_, _++_}
+use mathlib.Core.List.{List}
 use native.Mathlib.Omega.{arith}
-use lib.ListN.{length, drop}
+use lib.ListN.{length}
 use lib.Seq.{sets, length-sets}
-use Rattle.terms.specs.Terms.{if_then_else_, stands}
+use Rattle.terms.specs.Terms.{stands}
 use Rattle.refusals.specs.declared.Place.{Place}
 use Rattle.lines.specs.Blocks.{Block}
 use Rattle.setup.specs.declared.Bed.{Bed}
@@ -27,7 +27,7 @@ use Rattle.interpreter.specs.Walk.{Going, How, ended, returned, refusedA
 use Rattle.interpreter.specs.Steps.{goingOf, progressOn, entering, turned, acted, endingBy, Acts, Comes, Ran, Fits}
 use Rattle.interpreter.specs.declared.Progress.{Progress}
 use Rattle.interpreter.specs.declared.Ending.{Ending}
-use Rattle.interpreter.specs.declared.Ending.the-variants.{Ended, Returned, Refused}
+use Rattle.interpreter.specs.declared.Ending.the-variants.{Ended, Returned}
 use Rattle.interpreter.specs.declared.Act.{Act}
 use Rattle.interpreter.specs.declared.Act.the-variants.{Goes, Enters, Halts}
 use Rattle.interpreter.proofs.Endings.{count-room, going-on, ran-just, ran-after}

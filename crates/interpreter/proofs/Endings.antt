@@ -9,7 +9,7 @@ use lib.Seq.{sets, length-sets}
 use Rattle.points.specs.declared.Point.{Point}
 use Rattle.setup.specs.declared.Bed.{Bed}
 use Rattle.records.specs.declared.Record.{Record}
-use Rattle.records.specs.Layout.{kindOf, kindLength, roomOf, listBytes}
+use Rattle.records.specs.Layout.{kindOf, roomOf, listBytes}
 use Rattle.records.specs.Path.{recordMoved}
 use Rattle.records.specs.Writing.{Wrote}
 use Rattle.records.proofs.Laid.{mark-room, list-length}
@@ -21,7 +21,7 @@ use Rattle.interpreter.specs.Walk.{Going, How, ended, returned, unfinish
 use Rattle.interpreter.specs.Steps.{goingOf, progressOn, endingBy, Comes, Ran, Fits}
 use Rattle.interpreter.specs.declared.Progress.{Progress}
 use Rattle.interpreter.specs.declared.Ending.{Ending}
-use Rattle.interpreter.specs.declared.Ending.the-variants.{Ended, Returned, Unfinished, Refused}
+use Rattle.interpreter.specs.declared.Ending.the-variants.{Returned}
 
 -- a record takes a byte at least
 pub count-room : (rs : List Record) → length rs ≤ roomOf rs

@@ -1,22 +1,18 @@
 -- What the code of a block answers, as the verdict of the rules. Assumes nothing.
-use Prim.Native.Nat.{ℕ, _+_, _-_, _≤_, _<_}
+use Prim.Native.Nat.{ℕ, _+_, _-_, _≤_}
 use mathlib.Core.Path.{_≡_, refl, sym, _∙_, ap}
-use mathlib.Core.Bool.{Bool, true, false, _&&_}
-use mathlib.Core.Option.{Option, none, some}
+use mathlib.Core.Bool.{true, false}
 use mathlib.Core.List.{List, [], _∷_}
 use native.Mathlib.Omega.{arith}
 use lib.ListN.{length, drop}
-use lib.Seq.{sets, drop-drop}
-use Rattle.terms.specs.Terms.{if_then_else_}
+use lib.Seq.{drop-drop}
 use Rattle.refusals.specs.declared.Refusal.{Refusal}
 use Rattle.refusals.specs.declared.Refusal.the-variants.{NumberNotFound}
 use Rattle.refusals.specs.declared.Place.{Place}
 use Rattle.lines.specs.Blocks.{beginsWith, textFrom, lengthFrom, blockFrom}
 use Rattle.gaps.proofs.Laws.{text-drop, text-next}
 use Rattle.setup.specs.declared.Bed.{Bed}
-use Rattle.records.specs.declared.Record.{Record}
 use Rattle.records.specs.Layout.{roomOf, listBytes}
-use Rattle.settings.specs.declared.State.{State}
 use Rattle.programs.specs.declared.Program.{Program}
 use Rattle.programs.specs.Openings.{known}
 use Rattle.programs.specs.Found.{subsOf}

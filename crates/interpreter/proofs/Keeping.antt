@@ -1,15 +1,15 @@
 -- What a block keeps that is accepted: settings that a run can reach, its records in the list's room, and a subprogram and a level for
 -- its call. Assumes nothing.
 use Prim.Native.Nat.{ℕ, _+_, _-_, _≤_}
-use mathlib.Core.Path.{_≡_, refl, sym, _∙_, ap}
-use mathlib.Core.Bool.{Bool, true, false, not}
+use mathlib.Core.Path.{_≡_, refl}
+use mathlib.Core.Bool.{true, false, not}
 use mathlib.Core.Option.{Option, none, some}
-use mathlib.Core.List.{List, [], _∷_}
+use mathlib.Core.List.{List, []}
 use native.Mathlib.Omega.{arith}
 use borrow.Author.Tests.{eqb-false, not-false}
 use lib.Dec.{eqb}
-use lib.ListN.{length, drop}
-use Rattle.terms.specs.Terms.{if_then_else_, firstOf, stands}
+use lib.ListN.{drop}
+use Rattle.terms.specs.Terms.{if_then_else_, firstOf}
 use Rattle.refusals.specs.declared.Refusal.the-variants.{NumberNotFound, NestOver}
 use Rattle.lines.specs.Blocks.{Block}
 use Rattle.words.specs.declared.Word.{Word}
@@ -50,7 +50,7 @@ use Rattle.blocks.specs.Exec.{
 use Rattle.blocks.specs.Reach.{Reachable}
 use Rattle.blocks.specs.Keeping.{Keeps}
 use Rattle.blocks.proofs.Accepting.{all-none, start-none, accepted-kept}
-use Rattle.interpreter.specs.Walk.{Going, isSkipped, slashLength, verdictOn}
+use Rattle.interpreter.specs.Walk.{isSkipped, slashLength, verdictOn}
 use Rattle.interpreter.specs.Steps.{jobOf, goingOf, verdictAt}
 use Rattle.interpreter.specs.declared.Task.{Task}
 use Rattle.interpreter.specs.declared.Progress.{Progress}

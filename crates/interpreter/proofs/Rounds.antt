@@ -1,7 +1,7 @@
 -- The loop over a program's blocks. What is left gives the same: the walk from here, with the list as it is, ends and leaves what the
 -- whole walk leaves of the list at entry. Assumes nothing.
 use Prim.Native.Nat.{ℕ, zero, suc, _+_, _-_, _≤_, _<_}
-use mathlib.Core.Path.{_≡_, refl, sym, _∙_, ap}
+use mathlib.Core.Path.{_≡_, refl, _∙_, ap}
 use mathlib.Core.Bool.{true, false}
 use mathlib.Core.Option.{some}
 use mathlib.Core.List.{List}
@@ -9,7 +9,7 @@ use native.Mathlib.Omega.{arith}
 use lib.ListN.{length, drop}
 use lib.Seq.{length-sets}
 use Rattle.refusals.specs.declared.Refusal.the-variants.{NoEnd}
-use Rattle.lines.specs.Blocks.{Block, blockFrom, blocksFrom, lengthFrom}
+use Rattle.lines.specs.Blocks.{blockFrom, blocksFrom, lengthFrom}
 use Rattle.lines.proofs.Lines.{length-some}
 use Rattle.cycles.specs.Writing.{movedBytes}
 use Rattle.programs.specs.declared.Program.{Program}
@@ -19,7 +19,7 @@ use Rattle.programs.specs.Places.{Begins, Placed}
 use Rattle.programs.proofs.Places.{begins-next}
 use Rattle.blocks.specs.Exec.{Verdict}
 use Rattle.blocks.specs.Doing.{madeOf}
-use Rattle.interpreter.specs.Walk.{Going, returned, unfinished, refusedAt, Outcome, isSpent, obey, walk, blocksFor, callees}
+use Rattle.interpreter.specs.Walk.{Going, unfinished, refusedAt, Outcome, isSpent, obey, walk, blocksFor, callees}
 use Rattle.interpreter.specs.Steps.{jobOf, goingOf, walkFrom, programEnds, verdictAt, endingBy, Acts, Ran, Sound, Fits}
 use Rattle.interpreter.specs.declared.Task.{Task}
 use Rattle.interpreter.specs.declared.Progress.{Progress}
@@ -39,6 +39,14 @@ pub record Walking (l : List ℕ) (task : Task) (left : ℕ) (whole : Outcome) (
   pub same :
       (last : List ℕ) (r : Ending) → Ran (task .bed) (walkFrom l (length list) task left n at p) p list last r
       → Ran (task .bed) whole p₀ was last r
+
+-- the verdict on the block at a place, and the walk from there
+abbrev verdict-on : List ℕ → Task → ℕ → List ℕ → ℕ → ℕ → Progress → Verdict
+verdict-on l task left list n at p = verdictAt (jobOf l task) left (blockFrom n at (drop at l)) (goingOf (length list) p)
+
+abbrev walk-on : List ℕ → Task → ℕ → List ℕ → ℕ → ℕ → Progress → (ℕ → Going → Outcome) → (Going → Outcome) → Outcome
+walk-on l task left list n at p callee rest =
+    obey (verdict-on l task left list n at p) (blockFrom n at (drop at l)) callee rest (goingOf (length list) p)
 
 -- the walk of a call is the walk of its subprogram, with one level less
 callee-is :
@@ -79,13 +87,13 @@ module _ (l : List ℕ) (task : Task) (left : ℕ) where
       pub walking-inside : at < length l
       walking-inside = goes-inside l at f
 
-      module _ {is : List ℕ} {a : Act} (acts : Acts (task .bed) (verdictAt (jobOf l task) left (blockFrom n at (drop at l)) (goingOf (length list) p)) (subsOf (task .programs)) (record { block = n; byte = at }) (at + lengthFrom (drop at l)) p list is a) where
+      module _ {is : List ℕ} {a : Act} (acts : Acts (task .bed) (verdict-on l task left list n at p) (subsOf (task .programs)) (record { block = n; byte = at }) (at + lengthFrom (drop at l)) p list is a) where
         rest : Going → Outcome
         rest = walk (jobOf l task) left (callees (jobOf l task) left) (blocksFrom l (n + 1) (at + lengthFrom (drop at l)))
 
         leads :
             Leads (task .bed) (subsOf (task .programs)) left
-            (λ callee rest. obey (verdictAt (jobOf l task) left (blockFrom n at (drop at l)) (goingOf (length list) p)) (blockFrom n at (drop at l)) callee rest (goingOf (length list) p))
+            (walk-on l task left list n at p)
             p list is (at + lengthFrom (drop at l)) a
         leads =
             acts-lead (task .bed) (subsOf (task .programs)) left (blockFrom n at (drop at l)) (record { block = n; byte = at }) (at + lengthFrom (drop at l)) p list refl (w .fits)
@@ -94,24 +102,24 @@ module _ (l : List ℕ) (task : Task) (left : ℕ) where
         -- what the block's walk leaves, the whole walk leaves
         on :
             {last : List ℕ} {r : Ending}
-            → Ran (task .bed) (obey (verdictAt (jobOf l task) left (blockFrom n at (drop at l)) (goingOf (length list) p)) (blockFrom n at (drop at l)) (callees (jobOf l task) left) rest (goingOf (length list) p)) p list last r
+            → Ran (task .bed) (walk-on l task left list n at p (callees (jobOf l task) left) rest) p list last r
             → Ran (task .bed) whole p₀ was last r
         unfolding walkFrom goingOf rest
         on {last} {r} h = w .same last r (rw (walk-goes l task left (callees (jobOf l task) left) (goingOf (length list) p) n at e f) h)
 
         acts-length : length is ≡ length list
-        acts-length = ap length (acts .bytes) ∙ length-sets list (p .next) (movedBytes (task .bed .offset) (madeOf (verdictAt (jobOf l task) left (blockFrom n at (drop at l)) (goingOf (length list) p))))
+        acts-length = ap length (acts .bytes) ∙ length-sets list (p .next) (movedBytes (task .bed .offset) (madeOf (verdict-on l task left list n at p)))
 
         pub acts-kept : length is ≡ length was
         acts-kept = acts-length ∙ w .kept
 
         pub walking-halts : {ending : Ending} → a ≡ Halts ending → Ran (task .bed) whole p₀ was is ending
         walking-halts {ending} g =
-            let h : Leads (task .bed) (subsOf (task .programs)) left (λ callee rest. obey (verdictAt (jobOf l task) left (blockFrom n at (drop at l)) (goingOf (length list) p)) (blockFrom n at (drop at l)) callee rest (goingOf (length list) p)) p list is (at + lengthFrom (drop at l)) (Halts ending) = rw g at leads in
+            let h : Leads (task .bed) (subsOf (task .programs)) left (walk-on l task left list n at p) p list is (at + lengthFrom (drop at l)) (Halts ending) = rw g at leads in
             on (h (callees (jobOf l task) left) rest)
 
         module _ {q : Progress} {next : ℕ} (g : a ≡ Goes q next) where
-          onward : Onward (task .bed) (subsOf (task .programs)) left (λ callee rest. obey (verdictAt (jobOf l task) left (blockFrom n at (drop at l)) (goingOf (length list) p)) (blockFrom n at (drop at l)) callee rest (goingOf (length list) p)) p list is (at + lengthFrom (drop at l)) q next
+          onward : Onward (task .bed) (subsOf (task .programs)) left (walk-on l task left list n at p) p list is (at + lengthFrom (drop at l)) q next
           onward = rw g at leads
 
           pub walking-goes : Walking l task left whole p₀ was is (n + 1) next q
@@ -130,7 +138,7 @@ module _ (l : List ℕ) (task : Task) (left : ℕ) where
           goes-less = omega (arith, onward .place-is, length-some l at walking-inside, walking-inside)
 
         module _ {program : Program} {q : Progress} {next : ℕ} (g : a ≡ Enters program q next) where
-          inward : Inward (task .bed) (subsOf (task .programs)) left (λ callee rest. obey (verdictAt (jobOf l task) left (blockFrom n at (drop at l)) (goingOf (length list) p)) (blockFrom n at (drop at l)) callee rest (goingOf (length list) p)) p list is (at + lengthFrom (drop at l)) program q next
+          inward : Inward (task .bed) (subsOf (task .programs)) left (walk-on l task left list n at p) p list is (at + lengthFrom (drop at l)) program q next
           inward = rw g at leads
 
           pub enters-level : 1 ≤ left

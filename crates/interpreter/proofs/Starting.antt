@@ -1,18 +1,14 @@
 -- What a run starts with, and what it answers. Assumes nothing.
 use Prim.Native.Nat.{ℕ, _+_, _-_, _≤_, _<_}
 use mathlib.Core.Path.{_≡_, refl, sym, _∙_, ap}
-use mathlib.Core.Bool.{Bool, true, false, not}
+use mathlib.Core.Bool.{Bool, true, false}
 use mathlib.Core.Option.{some}
-use mathlib.Core.List.{List, [], _∷_, _++_, map}
+use mathlib.Core.List.{List, [], _∷_}
 use native.Mathlib.Omega.{arith}
 use native.Mathlib.Decide.{decLt}
 use borrow.Author.Tests.{lt-ltb, le-ltb}
-use lib.Dec.{ltb}
-use lib.IntN.{pos}
 use lib.ListN.{length, drop}
-use lib.Seq.{sets, sets-eq, length-sets}
-use Rattle.terms.specs.Terms.{if_then_else_}
-use Rattle.lengths.specs.Units.{len}
+use lib.Seq.{sets-eq}
 use Rattle.refusals.specs.declared.Refusal.{Refusal}
 use Rattle.refusals.specs.declared.Refusal.the-variants.{FirstBlock, BadSetup, DataTooLong}
 use Rattle.refusals.specs.declared.Place.{Place}
@@ -22,34 +18,30 @@ use Rattle.points.specs.declared.Point.{Point}
 use Rattle.setup.specs.declared.Bed.{Bed}
 use Rattle.setup.specs.declared.Setup.{Setup}
 use Rattle.setup.specs.Limits.{validSetup}
-use Rattle.setup.specs.Frame.{offset, startOf, travelOf, bedOf, switchOn}
+use Rattle.setup.specs.Frame.{offset, bedOf, switchOn}
 use Rattle.setup.specs.Fair.{Fair}
 use Rattle.setup.proofs.Valid.{valid-feed, valid-speed, start-inside}
-use Rattle.records.specs.declared.Record.{Record}
 use Rattle.records.specs.Layout.{roomOf, listBytes}
 use Rattle.settings.specs.declared.State.{State}
 use Rattle.settings.specs.Settings.{firstState, firstModes}
 use Rattle.cycles.specs.Writing.{movedBytes}
-use Rattle.programs.specs.declared.Program.{Program}
 use Rattle.programs.specs.declared.Programs.{Programs}
 use Rattle.programs.specs.declared.Scanned.{Scanned}
 use Rattle.programs.specs.declared.Verdict.{Verdict}
 use Rattle.programs.specs.declared.Verdict.the-variants as Verdict
-use Rattle.programs.specs.Openings.{Table, table, refusedAt, programsFrom, known, blocksAt}
-use Rattle.programs.specs.Found.{subsOf, tableBy, tableOf, Ready}
+use Rattle.programs.specs.Openings.{Table, table, refusedAt, programsFrom}
+use Rattle.programs.specs.Found.{subsOf, tableBy, tableOf}
 use Rattle.programs.specs.Answers as Answers
 use Rattle.programs.specs.Places.{Placed, TablePlaced}
 use Rattle.programs.proofs.Places.{found-placed, main-placed, subs-placed, known-placed}
-use Rattle.blocks.specs.Machine.{machineOf}
 use Rattle.blocks.specs.Reach.{Reachable}
-use Rattle.interpreter.specs.Walk.{How, ended, returned, unfinished, Outcome, just, walk, callees}
+use Rattle.interpreter.specs.Walk.{How, ended, returned, unfinished, Outcome, just}
 use Rattle.interpreter.specs.Walk as Walk
-use Rattle.interpreter.specs.Run.{firstOf, nowhere, finishOf, runTable, runBlocks, outcome, recordsOf, answerBy, answerOf}
+use Rattle.interpreter.specs.Run.{firstOf, nowhere, runTable, runBlocks, outcome, recordsOf, answerBy, answerOf}
 use Rattle.interpreter.specs.Steps.{jobOf, goingOf, walkFrom, endingBy, answerFor, Ran, Sound, Fits, Opened, Gives, Owes}
 use Rattle.interpreter.specs.declared.Budget.{Budget}
 use Rattle.interpreter.specs.declared.Answer.{Answer}
 use Rattle.interpreter.specs.declared.Answer.the-variants.{Refused}
-use Rattle.interpreter.specs.declared.Task.{Task}
 use Rattle.interpreter.specs.declared.Progress.{Progress}
 use Rattle.interpreter.specs.declared.Ending.{Ending}
 use Rattle.interpreter.proofs.Endings.{moved-length}

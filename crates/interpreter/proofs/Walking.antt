@@ -5,14 +5,14 @@ use mathlib.Core.Bool.{Bool, true, false, _||_}
 use mathlib.Core.List.{List, [], _∷_}
 use native.Mathlib.Omega.{arith}
 use native.Mathlib.Decide.{decLt}
-use lib.ListN.{length, drop, drop-of-length-le, getD}
+use lib.ListN.{length, drop, drop-of-length-le}
 use Rattle.terms.specs.Terms.{if_then_else_}
 use Rattle.refusals.specs.declared.Refusal.the-variants.{NoEnd}
 use Rattle.refusals.specs.declared.Place.{Place}
 use Rattle.lines.specs.Blocks.{Block, blockFrom, blocksFrom, lengthFrom, beginsWith, isPercent, textFrom, opens, closes}
 use Rattle.lines.proofs.Lines.{at-place, blocks-step, blocks-end}
 use Rattle.programs.specs.Places.{Begins}
-use Rattle.blocks.specs.Exec.{Verdict, accepted}
+use Rattle.blocks.specs.Exec.{accepted}
 use Rattle.blocks.specs.declared.Control.the-variants.{On}
 use Rattle.interpreter.specs.Walk.{Job, Going, Outcome, unfinished, refusedAt, just, after, isSpent, isSkipped, follow, obey, verdictOn, runBlock, reached, walk}
 use Rattle.interpreter.specs.Steps.{jobOf, programEnds, verdictAt}

@@ -20,9 +20,7 @@ ghost use Rattle.setup.specs.Frame.{offset};
 ghost use Rattle.records.specs.Reading.{readAt};
 ghost use Rattle.programs.specs.Openings.{table};
 ghost use Rattle.programs.specs.Found.{subsOf};
-ghost use Rattle.settings.specs.declared.State.{State};
 ghost use Rattle.interpreter.specs.declared.Budget.the-variants.{Whole, First};
-ghost use Rattle.interpreter.specs.Walk.{Outcome};
 ghost use Rattle.interpreter.specs.Run.{firstOf, runTable, outcome};
 ghost use Rattle.interpreter.specs.Steps.{Opened, Gives, Owes, answerFor};
 

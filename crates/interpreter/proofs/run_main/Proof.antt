@@ -1,6 +1,5 @@
 -- `interpreter::run_main` meets its contract. Assumes nothing.
 use mathlib.Core.Path.{_≡_, refl, sym, _∙_, ap}
-use native.Mathlib.Omega.{arith}
 use borrow.Author.Needs.{needs}
 use lib.ListN.{length, length-map}
 use Rattle.setup.specs.declared.Bed.{Bed}

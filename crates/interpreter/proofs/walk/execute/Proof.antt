@@ -3,7 +3,7 @@ use Prim.Native.Nat.{_-_}
 use native.Mathlib.Omega.{arith}
 use borrow.Author.Needs.{needs}
 use lib.ListN.{length, drop}
-use Rattle.lines.specs.Blocks.{textFrom, lengthFrom}
+use Rattle.lines.specs.Blocks.{textFrom}
 use Rattle.programs.specs.Found.{subsOf}
 use Rattle.interpreter.proofs.Executing.{acts-refused, acts-accepted, acts-counts}
 use Rattle.interpreter.proofs.Keeping.{exec-kept}

@@ -1,6 +1,5 @@
 -- `interpreter::walk::program_ends` meets its contract. Assumes nothing.
-use mathlib.Core.Path.{sym, _∙_, ap₂}
-use mathlib.Core.Bool.{_||_}
+use mathlib.Core.Path.{sym, _∙_}
 use native.Mathlib.Omega.{arith}
 use borrow.Author.Needs.{needs}
 use Rattle.interpreter.proofs.Walking.{ends-past, ends-opening, ends-percent}

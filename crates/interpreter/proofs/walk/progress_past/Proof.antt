@@ -1,5 +1,4 @@
 -- `interpreter::walk::progress_past` meets its contract. Assumes nothing.
-use mathlib.Core.Path.{sym}
 use borrow.Author.Needs.{needs}
 use Rattle.interpreter.proofs.Executing.{past-is}
 use Rattle.interpreter.proofs.walk.progress_past.Statement.{statement}
