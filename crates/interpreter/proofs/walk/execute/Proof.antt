@@ -13,7 +13,7 @@ use Rattle.interpreter.proofs.walk.execute.Tie as tie
 exec-requires : tie.Need-exec-requires
 exec-requires c κs =
     let s = c .before .before .before .before .before .before in
-    (s .pre .0, (s .pre .1 .1 .0 .next, (s .pre .1 .0 .fair, (s .pre .1 .1 .0 .state, s .pre .1 .0 .ready))))
+    (omega (arith, s .pre .0), (s .pre .1 .1 .0 .next, (s .pre .1 .0 .fair, (s .pre .1 .1 .0 .state, s .pre .1 .0 .ready))))
 
 progress-by-requires : tie.Need-progress-by-requires
 progress-by-requires c κs =
