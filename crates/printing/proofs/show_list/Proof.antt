@@ -1,12 +1,12 @@
--- `show::show_list` meets its contract: the place is in the list, and each record brings it nearer to the end. Assumes nothing.
+-- `printing::show_list` meets its contract: the place is in the list, and each record brings it nearer to the end. Assumes nothing.
 use Prim.Native.Nat.{_≤_, _+_, _-_}
 use mathlib.Core.Path.{sym, _∙_}
 use native.Mathlib.Omega.{arith}
 use borrow.Author.Needs.{needs}
 use lib.ListN.{length}
 use Rattle.records.proofs.Again.{read-on}
-use Rattle.show.proofs.show_list.Statement.{statement}
-use Rattle.show.proofs.show_list.Tie as tie
+use Rattle.printing.proofs.show_list.Statement.{statement}
+use Rattle.printing.proofs.show_list.Tie as tie
 
 abbrev Inv-loop : tie.InvT-loop
 Inv-loop list at₀ at = at ≤ length list
