@@ -1,0 +1,4 @@
+pub mod Places
+pub mod Worths
+pub mod Filling
+pub mod Opened

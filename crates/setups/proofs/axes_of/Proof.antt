@@ -1,0 +1,59 @@
+-- `setups::axes_of` meets its contract: each number is the one that the i64 holds. Assumes nothing.
+use borrow.Author.Needs.{needs}
+use mathlib.Core.Path.{_≡_, refl, sym, ap, _∙_}
+use lib.IntN.{pos}
+use lib.ListN.{getD}
+use mir.Syntax.{w64}
+use mir.Val.{SFits}
+use mir.Facts.{toZ-ofZ}
+use Prim.Native.Nat.{_+_}
+use Rattle.setups.specs.Setups.{axesOf, numberOf}
+use Rattle.setups.proofs.axes_of.Statement.{statement}
+use Rattle.setups.proofs.axes_of.Tie as tie
+
+mul-x : tie.Need-mul-x
+mul-x c = search needs
+
+array-copy-out-x : tie.Need-array-copy-out-x
+array-copy-out-x c = search needs
+
+add-y : tie.Need-add-y
+add-y c = search needs
+
+mul-y : tie.Need-mul-y
+mul-y c = search needs
+
+array-copy-out-y : tie.Need-array-copy-out-y
+array-copy-out-y c = search needs
+
+add-z : tie.Need-add-z
+add-z c = search needs
+
+mul-z : tie.Need-mul-z
+mul-z c = search needs
+
+array-copy-out-z : tie.Need-array-copy-out-z
+array-copy-out-z c = search needs
+
+returns : tie.Need-returns
+unfolding axesOf
+returns c =
+    let a = c .before .before .before .before .before .before .args in
+    let x : SFits w64 (numberOf (a .t1) (a .at)) = search needs in
+    let y : SFits w64 (numberOf (a .t1) (a .at + 1)) = search needs in
+    let z : SFits w64 (numberOf (a .t1) (a .at + 2)) = search needs in
+    rw (toZ-ofZ x, toZ-ofZ y, toZ-ofZ z)
+
+pub axes-of-spec : {M : Type 1} → statement M
+axes-of-spec =
+    tie.close
+    (tie.spec
+    mul-x
+    array-copy-out-x
+    add-y
+    mul-y
+    array-copy-out-y
+    add-z
+    mul-z
+    array-copy-out-z
+    returns)

@@ -1,0 +1,56 @@
+-- `setups::number_at` meets its contract: the next word, and what it is worth. Assumes nothing.
+use borrow.Author.Needs.{needs}
+use mathlib.Core.Path.{_≡_, refl, sym, ap, _∙_}
+use Rattle.setups.proofs.Places.{standing}
+use Rattle.setups.proofs.Filling.{number-missing, number-fits, number-unfit}
+use Rattle.setups.proofs.number_at.Statement.{statement}
+use Rattle.setups.proofs.number_at.Tie as tie
+
+next-word-requires : tie.Need-next-word-requires
+next-word-requires c κs = search needs
+
+word-end-requires : tie.Need-word-end-requires
+word-end-requires c κs = search needs
+
+returns : tie.Need-returns
+returns c =
+    let w = c .before in
+    let a = w .before .before .before in
+    number-missing (a .args .s .now) (a .args .at) (w .before .next-word .result) (w .word-end .result) (w .before .next-word .ensures) (w .word-end .ensures) (c .if1 .taken)
+
+worth-at-requires : tie.Need-worth-at-requires
+worth-at-requires c κs =
+    let w = c .before in
+    let word = standing (w .before .before .before .args .s .now) (w .before .next-word .result) (w .word-end .result) (w .word-end .ensures) (c .if1 .left) in
+    (word .some, word .within)
+
+enum-known-z : tie.Need-enum-known-z
+enum-known-z c = search needs
+
+enum-known-wrong : tie.Need-enum-known-wrong
+enum-known-wrong c = search needs
+
+returns-2 : tie.Need-returns-2
+returns-2 c =
+    let w = c .before .before .before .before .before in
+    let a = w .before .before .before in
+    number-fits (a .args .s .now) (a .args .at) (w .before .next-word .result) (w .word-end .result) (w .before .next-word .ensures) (w .word-end .ensures) (c .before .before .before .before .if1 .left) _ (sym (c .before .before .before .worth-at .ensures) ∙ c .before .z .given .1)
+
+returns-3 : tie.Need-returns-3
+returns-3 c =
+    let w = c .before .before .before .before .before in
+    let a = w .before .before .before in
+    number-unfit (a .args .s .now) (a .args .at) (w .before .next-word .result) (w .word-end .result) (w .before .next-word .ensures) (w .word-end .ensures) (c .before .before .before .before .if1 .left) _ (sym (c .before .before .before .worth-at .ensures) ∙ c .before .wrong .given .1)
+
+pub number-at-spec : {M : Type 1} → statement M
+number-at-spec =
+    tie.close
+    (tie.spec
+    next-word-requires
+    word-end-requires
+    returns
+    worth-at-requires
+    enum-known-z
+    enum-known-wrong
+    returns-2
+    returns-3)

@@ -1,0 +1,3 @@
+pub mod Texts
+pub mod Figures
+pub mod Setups
