@@ -1,0 +1,124 @@
+// Runs the cases that come on standard input, one after the other, and prints for each the records and then the answer. A
+// case is a line of 38 whole numbers with one space between: the setup's 35 in document 01's order, the count of blocks to
+// run or a number below 0 for the whole, the room for records, and the data's length; then the data's bytes as they are, and
+// a line's end. What is no case ends the run by `bad case`. The input has to be shorter than 1 MiB.
+mod header;
+mod numbers;
+
+ghost use mathlib.Core.Path.{_≡_};
+ghost use Prim.Native.Nat.{_≤_, _<_};
+ghost use lib.ListN.{length};
+ghost use Rattle.cases.specs.Places.{Inside};
+use header::header_at;
+use header::setup_of;
+use interpreter::Answer;
+use lengths::Len;
+use libc::STDIN_FILENO;
+use libc::STDOUT_FILENO;
+use numbers::natural;
+use setup::Setup;
+
+// A case's numbers, its room, and the places where its data begins and ends; or none.
+pub struct Case {
+    pub numbers: [i64; 38],
+    pub room: usize,
+    pub from: usize,
+    pub end: usize,
+    pub stands: bool,
+}
+
+// A call hands the array over as an unknown of a known length, so that no proof writes a million zeros out.
+fn room() -> [u8; 1048576]
+    ensures { λ r. ⌜ 1048576 ≡ length r ⌝ }
+{
+    [0; 1048576]
+}
+
+fn main() {
+    let mut input = room();
+    let n = io::read_full(STDIN_FILENO, &mut input);
+    if n == 1048576 {
+        io::write_all(STDOUT_FILENO, b"too long\n");
+        return;
+    }
+    let mut list = io::large_buffer();
+    run_cases(&input[..n], &mut list);
+}
+
+fn run_cases(input: &[u8], list: &mut [u8]) {
+    let mut at: usize = 0;
+    while at < input.len() {
+        let case = case_at(input, at, list.len());
+        if !case.stands {
+            io::write_all(STDOUT_FILENO, b"bad case\n");
+            return;
+        }
+        run_case(case, input, list);
+        at = case.end + 1;
+    }
+}
+
+fn run_case(case: Case, input: &[u8], list: &mut [u8])
+    requires { ⌜ (case .from ≤ case .end) × (case .end ≤ length (now input)) × (case .room ≤ length (now list)) ⌝ }
+{
+    let numbers = case.numbers;
+    let blocks = numbers[35];
+    let from = case.from;
+    let end = case.end;
+    let room = case.room;
+    let answer = answer_to(
+        setup_of(numbers),
+        Len::of(blocks),
+        &input[from..end],
+        &mut list[..room],
+    );
+    printing::show_run(list, answer);
+}
+
+fn answer_to(setup: Setup, blocks: Len, data: &[u8], list: &mut [u8]) -> Answer {
+    let zero = Len::zero();
+    if blocks.below(zero) {
+        interpreter::run(setup, data, list)
+    } else {
+        interpreter::run_blocks(setup, data, list, blocks.apart(zero))
+    }
+}
+
+// The case that begins at a place, where its records may have so much room at most.
+fn case_at(input: &[u8], at: usize, most: usize) -> Case
+    requires { ⌜ at < length (now input) ⌝ }
+    ensures { λ r. ⌜ Inside at (length (now (input .entry))) most r ⌝ }
+{
+    let header = header_at(input, at);
+    let numbers = header.numbers;
+    let from = header.next;
+    let none = Case {
+        numbers,
+        room: 0,
+        from: at,
+        end: at,
+        stands: false,
+    };
+    if !header.stands {
+        return none;
+    }
+    let room = natural(numbers[36]);
+    let length = natural(numbers[37]);
+    if (most as u64) < room {
+        return none;
+    }
+    if (input.len() - from) as u64 <= length {
+        return none;
+    }
+    let end = from + length as usize;
+    if input[end] != b'\n' {
+        return none;
+    }
+    Case {
+        numbers,
+        room: room as usize,
+        from,
+        end,
+        stands: true,
+    }
+}
