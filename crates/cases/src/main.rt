@@ -2,30 +2,15 @@
 // case is a line of 38 whole numbers with one space between: the setup's 35 in document 01's order, the count of blocks to
 // run or a number below 0 for the whole, the room for records, and the data's length; then the data's bytes as they are, and
 // a line's end. What is no case ends the run by `bad case`. The input has to be shorter than 1 MiB.
-mod header;
-mod numbers;
-
 ghost use mathlib.Core.Path.{_≡_};
-ghost use Prim.Native.Nat.{_≤_, _<_};
+ghost use Prim.Native.Nat.{_≤_};
 ghost use lib.ListN.{length};
-ghost use Rattle.cases.specs.Places.{Inside};
-use header::header_at;
-use header::setup_of;
-use interpreter::Answer;
+use headers::Case;
 use lengths::Len;
 use libc::STDIN_FILENO;
 use libc::STDOUT_FILENO;
-use numbers::natural;
+use refusals::Answer;
 use setup::Setup;
-
-// A case's numbers, its room, and the places where its data begins and ends; or none.
-pub struct Case {
-    pub numbers: [i64; 38],
-    pub room: usize,
-    pub from: usize,
-    pub end: usize,
-    pub stands: bool,
-}
 
 // A call hands the array over as an unknown of a known length, so that no proof writes a million zeros out.
 fn room() -> [u8; 1048576]
@@ -48,7 +33,7 @@ fn main() {
 fn run_cases(input: &[u8], list: &mut [u8]) {
     let mut at: usize = 0;
     while at < input.len() {
-        let case = case_at(input, at, list.len());
+        let case = headers::case_at(input, at, list.len());
         if !case.stands {
             io::write_all(STDOUT_FILENO, b"bad case\n");
             return;
@@ -67,7 +52,7 @@ fn run_case(case: Case, input: &[u8], list: &mut [u8])
     let end = case.end;
     let room = case.room;
     let answer = answer_to(
-        setup_of(numbers),
+        headers::setup_of(numbers),
         Len::of(blocks),
         &input[from..end],
         &mut list[..room],
@@ -81,44 +66,5 @@ fn answer_to(setup: Setup, blocks: Len, data: &[u8], list: &mut [u8]) -> Answer 
         interpreter::run(setup, data, list)
     } else {
         interpreter::run_blocks(setup, data, list, blocks.apart(zero))
-    }
-}
-
-// The case that begins at a place, where its records may have so much room at most.
-fn case_at(input: &[u8], at: usize, most: usize) -> Case
-    requires { ⌜ at < length (now input) ⌝ }
-    ensures { λ r. ⌜ Inside at (length (now (input .entry))) most r ⌝ }
-{
-    let header = header_at(input, at);
-    let numbers = header.numbers;
-    let from = header.next;
-    let none = Case {
-        numbers,
-        room: 0,
-        from: at,
-        end: at,
-        stands: false,
-    };
-    if !header.stands {
-        return none;
-    }
-    let room = natural(numbers[36]);
-    let length = natural(numbers[37]);
-    if (most as u64) < room {
-        return none;
-    }
-    if (input.len() - from) as u64 <= length {
-        return none;
-    }
-    let end = from + length as usize;
-    if input[end] != b'\n' {
-        return none;
-    }
-    Case {
-        numbers,
-        room: room as usize,
-        from,
-        end,
-        stands: true,
     }
 }

@@ -21,10 +21,10 @@ use Rattle.records.specs.Path.{recordMoved}
 use Rattle.lines.specs.Blocks.{blocksOf}
 use Rattle.programs.specs.Openings.{Table, table}
 use Rattle.programs.specs.Openings as Openings
-use Rattle.interpreter.specs.declared.Budget.{Budget}
-use Rattle.interpreter.specs.declared.Budget.the-variants.{Whole, First}
-use Rattle.interpreter.specs.Walk.{Job, Going, How, ended, returned, unfinished, refusedAt, Outcome}
-use Rattle.interpreter.specs.Run.{nowhere, outcome, recordsOf, answerBy, answerOf}
+use Rattle.runs.specs.declared.Budget.{Budget}
+use Rattle.runs.specs.declared.Budget.the-variants.{Whole, First}
+use Rattle.runs.specs.Walk.{Job, Going, How, ended, returned, unfinished, refusedAt, Outcome}
+use Rattle.runs.specs.Run.{nowhere, outcome, recordsOf, answerBy, answerOf}
 use Rattle.claims.specs.Steps.{
   Turn,
   refuses,
@@ -32,14 +32,14 @@ use Rattle.claims.specs.Steps.{
   ends,
   turnAt,
   Sofar,
-  turned,
+  afterTurn,
   turnedUnless,
   oneMore,
   more,
   howSofar,
   outcomeSofar,
   tableIn,
-  jobOf,
+  jobFor,
   refusedAtOnce,
   begunBy,
   begun,
@@ -55,8 +55,8 @@ pub data Close : Option How → Type 0 where
   atEnd : Close (some ended)
   atRefusal : (r : Refusal) (place : Place) → Close (some (refusedAt r place))
 
-turn-close : (x : Sofar) (t : Turn) → Close (turned x t .over)
-unfolding turned
+turn-close : (x : Sofar) (t : Turn) → Close (afterTurn x t .over)
+unfolding afterTurn
 turn-close x (refuses r place) = atRefusal r place
 turn-close x (goes d st) = under
 turn-close x (ends d st) = atEnd
@@ -92,7 +92,7 @@ begun-close s bytes room = go (ltb 65_535 (length bytes)) (validSetup s)
 
 pub run-close : (s : Setup) (bytes : List ℕ) (room n : ℕ) → Close (firstBlocks s bytes room n .over)
 unfolding firstBlocks
-run-close s bytes room n = more-close (jobOf s bytes) n (begun s bytes room) (begun-close s bytes room)
+run-close s bytes room n = more-close (jobFor s bytes) n (begun s bytes room) (begun-close s bytes room)
 
 -- ---- never
 

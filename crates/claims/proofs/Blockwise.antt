@@ -18,8 +18,8 @@ use Rattle.blocks.specs.declared.Control.{Control}
 use Rattle.blocks.specs.declared.Control.the-variants.{On, Call, Back, Stop}
 use Rattle.lines.specs.Blocks.{Block, closes, opens}
 use Rattle.programs.specs.Openings.{placeOf, known}
-use Rattle.interpreter.specs.declared.Budget.{Budget}
-use Rattle.interpreter.specs.Walk.{
+use Rattle.runs.specs.declared.Budget.{Budget}
+use Rattle.runs.specs.Walk.{
   Job,
   Going,
   How,
@@ -53,11 +53,11 @@ use Rattle.claims.specs.Steps.{
   goes,
   ends,
   past,
-  entering,
+  inCallee,
   returning,
   led,
   turnBy,
-  verdictAt,
+  verdictIn,
   turnUnder,
   turnUnless,
   turnIn,
@@ -162,8 +162,8 @@ call-leads :
     → eqb left 0 ≡ false
     → unwound job left callers
     (follow (Call n) (callees job left) (program job left bs) (record { state = s; room = room; budget = budget }))
-    ≡ whole job (entering (stand s room left bs callers) (blocksFor (job .blocks) (known (job .programs) n))) budget
-unfolding follow callees whole going entering bound
+    ≡ whole job (inCallee (stand s room left bs callers) (blocksFor (job .blocks) (known (job .programs) n))) budget
+unfolding follow callees whole going inCallee bound
 call-leads job zero callers bs n s room budget e = absurd (false≢true (sym e))
 call-leads job (suc left) callers bs n s room budget e =
     let blocks : List Block = blocksFor (job .blocks) (known (job .programs) n) in
@@ -181,15 +181,15 @@ back-leads job left [] bs s room budget d h = absurd (h refl)
 back-leads job left (rest ∷ callers) bs s room budget d h = refl
 
 pub calls-below : (job : Job) (st : Stand) (b : Block) (n : ℕ) (s : State) (made : List Record)
-    → verdictAt job st b ≡ accepted s (Call n) made → eqb (st .left) 0 ≡ false
-unfolding verdictAt verdictOn callsIn
+    → verdictIn job st b ≡ accepted s (Call n) made → eqb (st .left) 0 ≡ false
+unfolding verdictIn verdictOn callsIn
 calls-below job st b n s made e =
     call-has-level (job .machine) (callsIn (job .programs) (st .left)) (st .room) (st .state) (b .start)
     (b .start + slashLength b) (drop (slashLength b) (b .text)) s n made e
 
 returns-to : (job : Job) (st : Stand) (b : Block) (s : State) (made : List Record)
-    → Placed st → verdictAt job st b ≡ accepted s Back made → (st .callers ≡ []) → ⊥
-unfolding verdictAt verdictOn callsIn
+    → Placed st → verdictIn job st b ≡ accepted s Back made → (st .callers ≡ []) → ⊥
+unfolding verdictIn verdictOn callsIn
 returns-to job st b s made p e none-called =
     let main : st .left ≡ 4 = omega (arith, p .four, ap length none-called) in
     main-does-not-return (job .machine) (callsIn (job .programs) (st .left)) (st .room) (st .state) (b .start)
@@ -198,7 +198,7 @@ returns-to job st b s made p e none-called =
 -- an accepted block, by where it leads
 accepted-leads :
     (job : Job) (st : Stand) (b : Block) (bs : List Block) (budget : Budget) (s : State) (control : Control) (made : List Record)
-    → Placed st → verdictAt job st b ≡ accepted s control made
+    → Placed st → verdictIn job st b ≡ accepted s control made
     → after made
     (unwound job (st .left) (st .callers)
     (follow control (callees job (st .left)) (program job (st .left) bs) (goingOn (going st budget) s made)))
@@ -216,7 +216,7 @@ accepted-leads job st b bs budget s Stop made p e = ap (after made) (unwound-ove
 -- a verdict
 obeyed :
     (job : Job) (st : Stand) (b : Block) (bs : List Block) (budget : Budget) (v : Verdict)
-    → Placed st → verdictAt job st b ≡ v
+    → Placed st → verdictIn job st b ≡ v
     → unwound job (st .left) (st .callers) (obey v b (callees job (st .left)) (program job (st .left) bs) (going st budget))
     ≡ onward job budget (turnBy v job st b bs)
 unfolding obey turnBy onward
@@ -235,9 +235,9 @@ ran :
     → unwound job (st .left) (st .callers)
     (runBlock skips job (st .left) (callees job (st .left)) b (program job (st .left) bs) (going st budget))
     ≡ onward job budget (turnUnder skips job st b bs)
-unfolding runBlock turnUnder onward past goingOn going whole after verdictAt verdictOn
+unfolding runBlock turnUnder onward past goingOn going whole after verdictIn verdictOn
 ran true job st b bs budget p = refl
-ran false job st b bs budget p = obeyed job st b bs budget (verdictAt job st b) p refl
+ran false job st b bs budget p = obeyed job st b bs budget (verdictIn job st b) p refl
 
 -- a block that is reached
 reaches :

@@ -25,7 +25,7 @@ use Rattle.blocks.proofs.Accepting.{accepted-kept}
 use Rattle.lines.specs.Blocks.{Block, closes, opens}
 use Rattle.programs.specs.declared.Program.{Program}
 use Rattle.programs.specs.Openings.{placeOf}
-use Rattle.interpreter.specs.Walk.{Job, How, ended, refusedAt, isSkipped, slashLength, verdictOn}
+use Rattle.runs.specs.Walk.{Job, How, ended, refusedAt, isSkipped, slashLength, verdictOn}
 use Rattle.claims.specs.Steps.{
   BlockDone,
   Stand,
@@ -37,13 +37,13 @@ use Rattle.claims.specs.Steps.{
   returning,
   led,
   turnBy,
-  verdictAt,
+  verdictIn,
   turnUnder,
   turnUnless,
   turnIn,
   turnAt,
   Sofar,
-  turned,
+  afterTurn,
   turnedUnless,
   oneMore,
   more,
@@ -80,8 +80,8 @@ data Twin (stays : Point → Record → Bool) (from : Point) : Turn → Turn →
       → Twin stays from t (refuses LeavesTravel (placeOf (d .block)))
 
 turned-deed :
-    (x : Sofar) (t : Turn) (d : BlockDone) → deedOf t ≡ some d → turned x t .executed ≡ x .executed ++ d ∷ []
-unfolding deedOf turned
+    (x : Sofar) (t : Turn) (d : BlockDone) → deedOf t ≡ some d → afterTurn x t .executed ≡ x .executed ++ d ∷ []
+unfolding deedOf afterTurn
 turned-deed x (refuses r place) d e = let z : _≡_ {A = ℕ} 0 1 = cc in absurd (omega arith)
 turned-deed x (goes d′ st) d e = let done : d′ ≡ d = cc in ap (λ (c : BlockDone). x .executed ++ c ∷ []) done
 turned-deed x (ends d′ st) d e = let done : d′ ≡ d = cc in ap (λ (c : BlockDone). x .executed ++ c ∷ []) done
@@ -90,8 +90,8 @@ turned-deed x (ends d′ st) d e = let done : d′ ≡ d = cc in ap (λ (c : Blo
 abbrev Added : Sofar → Sofar → Type 0
 Added x y = (rest : List Record) × (recordsBy (y .executed) ≡ recordsBy (x .executed) ++ rest)
 
-turn-adds : (x : Sofar) (t : Turn) → Added x (turned x t)
-unfolding turned
+turn-adds : (x : Sofar) (t : Turn) → Added x (afterTurn x t)
+unfolding afterTurn
 turn-adds x (refuses r place) = ([], sym (append-nil (recordsBy (x .executed))))
 turn-adds x (goes d st) = (d .made, records-last (x .executed) d)
 turn-adds x (ends d st) = (d .made, records-last (x .executed) d)
@@ -132,12 +132,12 @@ module _ (bed : Bed) (fits : Record → Bool) (stays : Point → Record → Bool
 
     twin-accepted :
         (st : Stand) (b : Block) (bs : List Block) (s : State) (control : Control) (made : List Record)
-        → Reachable bed (st .state) → verdictAt job₁ st b ≡ accepted s control made
+        → Reachable bed (st .state) → verdictIn job₁ st b ≡ accepted s control made
         → (t : Bool) → pathStaysIn staysIn (st .state .at) made ≡ t
-        → Twin staysIn (st .state .at) (led control job₁ (past st bs s made) (doneWith b st made)) (turnBy (verdictAt job₂ st b) job₂ st b bs)
-    unfolding turnBy verdictAt verdictOn
+        → Twin staysIn (st .state .at) (led control job₁ (past st bs s made) (doneWith b st made)) (turnBy (verdictIn job₂ st b) job₂ st b bs)
+    unfolding turnBy verdictIn verdictOn
     twin-accepted st b bs s control made reach e true path =
-        let now : verdictAt job₂ st b ≡ accepted s control made =
+        let now : verdictIn job₂ st b ≡ accepted s control made =
         alike bed fits stays fair (callsIn programs (st .left)) (st .room) (st .state) reach (b .start)
         (b .start + slashLength b) (drop (slashLength b) (b .text)) s control made e path in
         let turn : Turn = led control job₁ (past st bs s made) (doneWith b st made) in
@@ -146,7 +146,7 @@ module _ (bed : Bed) (fits : Record → Bool) (stays : Point → Record → Bool
         ∙ sym (ap (λ (v : Verdict). turnBy v job₂ st b bs) now))
         (together turn)
     twin-accepted st b bs s control made reach e false path =
-        let now : verdictAt job₂ st b ≡ refused (record { refusal = LeavesTravel; byte = b .start }) =
+        let now : verdictIn job₂ st b ≡ refused (record { refusal = LeavesTravel; byte = b .start }) =
         parted bed fits stays fair (callsIn programs (st .left)) (st .room) (st .state) reach (b .start)
         (b .start + slashLength b) (drop (slashLength b) (b .text)) s control made e path in
         let turn : Turn = led control job₁ (past st bs s made) (doneWith b st made) in
@@ -154,11 +154,11 @@ module _ (bed : Bed) (fits : Record → Bool) (stays : Point → Record → Bool
         (apart turn (doneWith b st made) (led-deed control job₁ (past st bs s made) (doneWith b st made)) path)
 
     twin-verdict :
-        (st : Stand) (b : Block) (bs : List Block) (v : Verdict) → Reachable bed (st .state) → verdictAt job₁ st b ≡ v
-        → Twin staysIn (st .state .at) (turnBy v job₁ st b bs) (turnBy (verdictAt job₂ st b) job₂ st b bs)
+        (st : Stand) (b : Block) (bs : List Block) (v : Verdict) → Reachable bed (st .state) → verdictIn job₁ st b ≡ v
+        → Twin staysIn (st .state .at) (turnBy v job₁ st b bs) (turnBy (verdictIn job₂ st b) job₂ st b bs)
     unfolding turnBy
     twin-verdict st b bs (refused blame) reach e =
-        stopped (blame .refusal) (record { block = b .number; byte = blame .byte }) (turnBy (verdictAt job₂ st b) job₂ st b bs)
+        stopped (blame .refusal) (record { block = b .number; byte = blame .byte }) (turnBy (verdictIn job₂ st b) job₂ st b bs)
     twin-verdict st b bs (accepted s control made) reach e =
         twin-accepted st b bs s control made reach e (pathStaysIn staysIn (st .state .at) made) refl
 
@@ -167,7 +167,7 @@ module _ (bed : Bed) (fits : Record → Bool) (stays : Point → Record → Bool
         → Twin staysIn (st .state .at) (turnUnder t job₁ st b bs) (turnUnder t job₂ st b bs)
     unfolding turnUnder
     twin-skip true st b bs reach = together (goes (doneWith b st []) (past st bs (st .state) []))
-    twin-skip false st b bs reach = twin-verdict st b bs (verdictAt job₁ st b) reach refl
+    twin-skip false st b bs reach = twin-verdict st b bs (verdictIn job₁ st b) reach refl
 
     twin-closing :
         (t : Bool) (st : Stand) (b : Block) (bs : List Block) → Reachable bed (st .state)
@@ -188,7 +188,7 @@ module _ (bed : Bed) (fits : Record → Bool) (stays : Point → Record → Bool
 
     -- the second machine keeps to the states that a run of it can reach
     pub reach-kept : (n : ℕ) (x : Sofar) → Reachable bed (x .stand .state) → Reachable bed (more job₂ n x .stand .state)
-    unfolding verdictAt verdictOn
+    unfolding verdictIn verdictOn
     reach-kept n x reach =
         run-holds (λ ds s. Reachable bed s) job₂ (λ ds st b h. h)
         (λ ds st b s control made e h.
@@ -243,18 +243,18 @@ module _ (bed : Bed) (fits : Record → Bool) (stays : Point → Record → Bool
     both-turn :
         (x : Sofar) (n : ℕ) (t : Turn) → x .over ≡ none → Reachable bed (x .stand .state)
         → turnAt job₁ (x .stand) ≡ t → turnAt job₂ (x .stand) ≡ t
-        → (Reachable bed (turned x t .stand .state) → turned x t .over ≡ none → Compared (turned x t) n) → Compared x (suc n)
+        → (Reachable bed (afterTurn x t .stand .state) → afterTurn x t .over ≡ none → Compared (afterTurn x t) n) → Compared x (suc n)
     unfolding more
     both-turn x n t e reach k₁ k₂ later =
-        let one₁ : oneMore job₁ x ≡ turned x t = open-turn job₁ x e ∙ ap (turned x) k₁ in
-        let one₂ : oneMore job₂ x ≡ turned x t = open-turn job₂ x e ∙ ap (turned x) k₂ in
-        let kept : Reachable bed (turned x t .stand .state) =
+        let one₁ : oneMore job₁ x ≡ afterTurn x t = open-turn job₁ x e ∙ ap (afterTurn x) k₁ in
+        let one₂ : oneMore job₂ x ≡ afterTurn x t = open-turn job₂ x e ∙ ap (afterTurn x) k₂ in
+        let kept : Reachable bed (afterTurn x t .stand .state) =
         subst (λ (y : Sofar). Reachable bed (y .stand .state)) one₂ (reach-kept 1 x reach) in
-        onward x (turned x t) n one₁ one₂ (go (turned x t .over) refl kept)
+        onward x (afterTurn x t) n one₁ one₂ (go (afterTurn x t .over) refl kept)
       where
-        go : (o : Option How) → turned x t .over ≡ o → Reachable bed (turned x t .stand .state) → Compared (turned x t) n
+        go : (o : Option How) → afterTurn x t .over ≡ o → Reachable bed (afterTurn x t .stand .state) → Compared (afterTurn x t) n
         go none f kept = later kept f
-        go (some how) f kept = same (more-over job₂ n (turned x t) how f ∙ sym (more-over job₁ n (turned x t) how f))
+        go (some how) f kept = same (more-over job₂ n (afterTurn x t) how f ∙ sym (more-over job₁ n (afterTurn x t) how f))
 
     -- the first machine executes a block whose path leaves the second machine's travel
     parts-here :
@@ -263,7 +263,7 @@ module _ (bed : Bed) (fits : Record → Bool) (stays : Point → Record → Bool
         → pathStaysIn staysIn (x .stand .state .at) (d .made) ≡ false → Parts x (suc n)
     unfolding more
     parts-here x n t d e k₁ k₂ deed path =
-        let one₁ : oneMore job₁ x ≡ turned x t = open-turn job₁ x e ∙ ap (turned x) k₁ in
+        let one₁ : oneMore job₁ x ≡ afterTurn x t = open-turn job₁ x e ∙ ap (afterTurn x) k₁ in
         let added = more-adds job₁ n (oneMore job₁ x) in
         record {
           before = 0;
@@ -279,10 +279,10 @@ module _ (bed : Bed) (fits : Record → Bool) (stays : Point → Record → Bool
 
     -- a run that ends is not refused by its first machine
     not-stopped :
-        (x : Sofar) (n : ℕ) (r : Refusal) (place : Place) → more job₁ n (turned x (refuses r place)) .over ≡ some ended → ⊥
-    unfolding turned
+        (x : Sofar) (n : ℕ) (r : Refusal) (place : Place) → more job₁ n (afterTurn x (refuses r place)) .over ≡ some ended → ⊥
+    unfolding afterTurn
     not-stopped x n r place over =
-        let stop = more-over job₁ n (turned x (refuses r place)) (refusedAt r place) refl in
+        let stop = more-over job₁ n (afterTurn x (refuses r place)) (refusedAt r place) refl in
         let both : some (refusedAt r place) ≡ some ended = sym (ap (λ (y : Sofar). y .over) stop) ∙ over in
         let z : _≡_ {A = ℕ} 0 1 = cc in
         omega arith
@@ -291,8 +291,8 @@ module _ (bed : Bed) (fits : Record → Bool) (stays : Point → Record → Bool
     by-twin :
         (x : Sofar) (n : ℕ) (t₁ t₂ : Turn) → x .over ≡ none → Reachable bed (x .stand .state)
         → turnAt job₁ (x .stand) ≡ t₁ → turnAt job₂ (x .stand) ≡ t₂
-        → (Reachable bed (turned x t₁ .stand .state) → turned x t₁ .over ≡ none → Compared (turned x t₁) n)
-        → more job₁ n (turned x t₁) .over ≡ some ended
+        → (Reachable bed (afterTurn x t₁ .stand .state) → afterTurn x t₁ .over ≡ none → Compared (afterTurn x t₁) n)
+        → more job₁ n (afterTurn x t₁) .over ≡ some ended
         → Twin staysIn (x .stand .state .at) t₁ t₂ → Compared x (suc n)
     by-twin x n t₁ t₂ e reach k₁ k₂ later over (stopped r place t) = absurd (not-stopped x n r place over)
     by-twin x n t₁ t₂ e reach k₁ k₂ later over (together t) = both-turn x n t e reach k₁ k₂ later
@@ -304,7 +304,7 @@ module _ (bed : Bed) (fits : Record → Bool) (stays : Point → Record → Bool
     compared zero x reach e over = let z : _≡_ {A = ℕ} 0 1 = cc in absurd (omega arith)
     compared (suc n) x reach e over =
         let t : Turn = turnAt job₁ (x .stand) in
-        let over′ : more job₁ n (turned x t) .over ≡ some ended =
+        let over′ : more job₁ n (afterTurn x t) .over ≡ some ended =
         ap (λ (y : Sofar). more job₁ n y .over) (sym (open-turn job₁ x e)) ∙ over in
         by-twin x n t (turnAt job₂ (x .stand)) e reach refl refl
-        (λ kept f. compared n (turned x t) kept f over′) over′ (twin-turn (x .stand) reach)
+        (λ kept f. compared n (afterTurn x t) kept f over′) over′ (twin-turn (x .stand) reach)

@@ -7,9 +7,9 @@ use mathlib.Core.List.{List, [], _∷_, _++_, append-assoc, append-nil}
 use native.Mathlib.Omega.{arith}
 use borrow.Author.Tests.{ne-eqb}
 use Rattle.records.specs.declared.Record.{Record}
-use Rattle.interpreter.specs.declared.Budget.{Budget}
-use Rattle.interpreter.specs.declared.Budget.the-variants.{Whole, First}
-use Rattle.interpreter.specs.Walk.{Job, How, ended, unfinished, refusedAt, Outcome, just, isSpent, oneLess, after}
+use Rattle.runs.specs.declared.Budget.{Budget}
+use Rattle.runs.specs.declared.Budget.the-variants.{Whole, First}
+use Rattle.runs.specs.Walk.{Job, How, ended, unfinished, refusedAt, Outcome, just, isSpent, oneLess, after}
 use Rattle.claims.specs.Steps.{
   BlockDone,
   Stand,
@@ -19,7 +19,7 @@ use Rattle.claims.specs.Steps.{
   ends,
   turnAt,
   Sofar,
-  turned,
+  afterTurn,
   turnedUnless,
   oneMore,
   more,
@@ -58,17 +58,17 @@ module _ (C : Sofar → Type 0) (job : Job) (budget : Budget) (n : ℕ)
     → after (recordsBy ds) (whole job st (oneLess budget)) ≡ outcomeSofar (more job n (during ds st)))
   where
     past-turn :
-        (ds : List BlockDone) (st : Stand) (t : Turn) → Onto Placed t → C (more job n (turned (during ds st) t))
-        → after (recordsBy ds) (onward job budget t) ≡ outcomeSofar (more job n (turned (during ds st) t))
-    unfolding onward turned Onto
+        (ds : List BlockDone) (st : Stand) (t : Turn) → Onto Placed t → C (more job n (afterTurn (during ds st) t))
+        → after (recordsBy ds) (onward job budget t) ≡ outcomeSofar (more job n (afterTurn (during ds st) t))
+    unfolding onward afterTurn Onto
     past-turn ds st (refuses refusal place) p c =
         after-just (recordsBy ds) (refusedAt refusal place)
-        ∙ sym (over-now job n (turned (during ds st) (refuses refusal place)) (refusedAt refusal place) refl)
+        ∙ sym (over-now job n (afterTurn (during ds st) (refuses refusal place)) (refusedAt refusal place) refl)
     past-turn ds st (goes d st′) p c = after-done ds d (whole job st′ (oneLess budget)) ∙ rest (ds ++ d ∷ []) st′ p c
     past-turn ds st (ends d st′) p c =
         after-done ds d (just ended)
         ∙ after-just (recordsBy (ds ++ d ∷ [])) ended
-        ∙ sym (over-now job n (turned (during ds st) (ends d st′)) ended refl)
+        ∙ sym (over-now job n (afterTurn (during ds st) (ends d st′)) ended refl)
 
     pub past-block :
         (ds : List BlockDone) (st : Stand) → isSpent budget ≡ false → Placed st → C (more job (suc n) (during ds st))

@@ -30,11 +30,11 @@ use Rattle.blocks.specs.Reach.{Reachable}
 use Rattle.lines.specs.Blocks.{Block, blocksOf}
 use Rattle.programs.specs.Openings.{Table, table, placeOf}
 use Rattle.programs.specs.Openings as Openings
-use Rattle.interpreter.specs.declared.Budget.the-variants.{Whole, First}
-use Rattle.interpreter.specs.declared.Answer.the-variants.{Done, Refused}
-use Rattle.interpreter.specs.Walk.{How, ended, refusedAt, Outcome}
-use Rattle.interpreter.specs.Run.{firstOf, finishOf, nowhere, outcome, recordsOf, answerBy, answerOf}
-use Rattle.claims.specs.Steps.{BlockDone, refuses, turnAt, Sofar, turned, oneMore, more, recordsBy, howSofar, outcomeSofar, tableIn, subsOf, jobOf, standAt, refusedAtOnce, begunBy, begun, firstBlocks}
+use Rattle.runs.specs.declared.Budget.the-variants.{Whole, First}
+use Rattle.refusals.specs.declared.Answer.the-variants.{Done, Refused}
+use Rattle.runs.specs.Walk.{How, ended, refusedAt, Outcome}
+use Rattle.runs.specs.Run.{firstOf, finishOf, nowhere, outcome, recordsOf, answerBy, answerOf}
+use Rattle.claims.specs.Steps.{BlockDone, refuses, turnAt, Sofar, afterTurn, oneMore, more, recordsBy, howSofar, outcomeSofar, tableIn, subsOf, jobFor, standAt, refusedAtOnce, begunBy, begun, firstBlocks}
 use Rattle.claims.specs.Travel.{inTravel}
 use Rattle.claims.specs.Displaced.{displaced, allMoved, stayIn, LeavesFirst}
 use Rattle.claims.proofs.Turns.{open-turn, more-over}
@@ -166,9 +166,9 @@ module _ (by : Axes) (s : Setup) (bytes : List ℕ) (room : ℕ)
         (subst (λ (q : State). Reachable (bedOf second) q) (first-same by s) (first-reached by s w))
 
     -- the run under the second setup, block by block, from the first setup's beginning
-    second-run : (k : ℕ) → firstBlocks second bytes room k ≡ more (jobOf second bytes) k (begun s bytes room)
+    second-run : (k : ℕ) → firstBlocks second bytes room k ≡ more (jobFor second bytes) k (begun s bytes room)
     unfolding firstBlocks
-    second-run k = ap (more (jobOf second bytes) k) (begun-same by s bytes room v w)
+    second-run k = ap (more (jobFor second bytes) k) (begun-same by s bytes room v w)
 
     abbrev Outcomes : Type 0
     Outcomes =
@@ -176,7 +176,7 @@ module _ (by : Axes) (s : Setup) (bytes : List ℕ) (room : ℕ)
         (finishOf bytes (blocksOf bytes)) (subsOf (tableIn (blocksOf bytes))) (begun s bytes room) n
 
     runs-compared : Outcomes
-    unfolding firstBlocks jobOf machineOf bedOf originAt switchOn
+    unfolding firstBlocks jobFor machineOf bedOf originAt switchOn
     runs-compared = go (begun s bytes room .over) refl
       where
         go : (o : Option How) → begun s bytes room .over ≡ o → Outcomes
@@ -185,8 +185,8 @@ module _ (by : Axes) (s : Setup) (bytes : List ℕ) (room : ℕ)
             (finishOf bytes (blocksOf bytes)) (subsOf (tableIn (blocksOf bytes))) n (begun s bytes room) reached e is-ended
         go (some how) e =
             same
-            (more-over (jobOf second bytes) n (begun s bytes room) how e
-            ∙ sym (more-over (jobOf s bytes) n (begun s bytes room) how e))
+            (more-over (jobFor second bytes) n (begun s bytes room) how e
+            ∙ sym (more-over (jobFor s bytes) n (begun s bytes room) how e))
 
     -- where the second setup's run leaves the first one's
     record Parting : Type 0 where
@@ -196,7 +196,7 @@ module _ (by : Axes) (s : Setup) (bytes : List ℕ) (room : ℕ)
       block : BlockDone
       next : firstBlocks s bytes room (suc before) .executed ≡ firstBlocks s bytes room before .executed ++ block ∷ []
       refused :
-          turnAt (jobOf second bytes) (firstBlocks s bytes room before .stand) ≡ refuses LeavesTravel (placeOf (block .block))
+          turnAt (jobFor second bytes) (firstBlocks s bytes room before .stand) ≡ refuses LeavesTravel (placeOf (block .block))
       leaves : pathStaysIn staysThere (firstBlocks s bytes room before .stand .state .at) (block .made) ≡ false
       rest : List Record
       all :
@@ -208,7 +208,7 @@ module _ (by : Axes) (s : Setup) (bytes : List ℕ) (room : ℕ)
       leaving : Parting → Either
 
     either : Either
-    unfolding firstBlocks jobOf machineOf bedOf originAt switchOn
+    unfolding firstBlocks jobFor machineOf bedOf originAt switchOn
     either = go runs-compared
       where
         go : Outcomes → Either
@@ -257,9 +257,9 @@ module _ (by : Axes) (s : Setup) (bytes : List ℕ) (room : ℕ)
     second-stayed :
         (k : ℕ)
         → Stayed staysThere (startOf second) (firstBlocks second bytes room k .executed) (firstBlocks second bytes room k .stand .state)
-    unfolding firstBlocks jobOf
+    unfolding firstBlocks jobFor
     second-stayed k =
-        run-stayed (jobOf second bytes) (startOf second) k (begun second bytes room) (begun-stayed staysThere second bytes room)
+        run-stayed (jobFor second bytes) (startOf second) k (begun second bytes room) (begun-stayed staysThere second bytes room)
 
     -- ---- where both run alike
 
@@ -302,17 +302,17 @@ module _ (by : Axes) (s : Setup) (bytes : List ℕ) (room : ℕ)
       -- the second setup's run is refused at the block
       second-refused :
           firstBlocks second bytes room (suc (p .before))
-          ≡ turned (firstBlocks s bytes room (p .before)) (refuses LeavesTravel (placeOf (p .block .block)))
+          ≡ afterTurn (firstBlocks s bytes room (p .before)) (refuses LeavesTravel (placeOf (p .block .block)))
       second-refused =
           one-later second bytes room (p .before)
-          ∙ ap (oneMore (jobOf second bytes)) (p .alike)
-          ∙ open-turn (jobOf second bytes) (firstBlocks s bytes room (p .before)) (p .open′)
-          ∙ ap (turned (firstBlocks s bytes room (p .before))) (p .refused)
+          ∙ ap (oneMore (jobFor second bytes)) (p .alike)
+          ∙ open-turn (jobFor second bytes) (firstBlocks s bytes room (p .before)) (p .open′)
+          ∙ ap (afterTurn (firstBlocks s bytes room (p .before))) (p .refused)
 
       second-outcome :
           outcome second bytes room Whole
           ≡ record { how = refusedAt LeavesTravel (placeOf (p .block .block)); made = outcome s bytes room (First (p .before)) .made }
-      unfolding outcomeSofar howSofar turned
+      unfolding outcomeSofar howSofar afterTurn
       second-outcome =
           let place : Place = placeOf (p .block .block) in
           let there : Over (firstBlocks second bytes room (suc (p .before))) =

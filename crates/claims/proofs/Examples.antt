@@ -6,10 +6,10 @@ use lib.IntN.{pos}
 use Rattle.refusals.specs.declared.Refusal.the-variants.{LeavesTravel}
 use Rattle.setup.specs.Examples.{setupT}
 use Rattle.setup.specs.Limits.{validSetup}
-use Rattle.interpreter.specs.Examples.{roomT}
-use Rattle.interpreter.specs.declared.Answer.the-variants.{Done, Refused}
-use Rattle.interpreter.specs.declared.Budget.the-variants.{Whole}
-use Rattle.interpreter.specs.Run.{recordsOf, answerOf}
+use Rattle.runs.specs.Examples.{roomT}
+use Rattle.refusals.specs.declared.Answer.the-variants.{Done, Refused}
+use Rattle.runs.specs.declared.Budget.the-variants.{Whole}
+use Rattle.runs.specs.Run.{recordsOf, answerOf}
 use Rattle.claims.specs.Displaced.{displaced, allMoved, stayIn, LeavesFirst}
 use Rattle.claims.specs.Examples.{turn, touching, leaving, rapid, turnRecords}
 use Rattle.claims.proofs.Opened.{opened}

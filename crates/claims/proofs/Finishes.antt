@@ -11,8 +11,8 @@ use Rattle.blocks.specs.declared.Control.{Control}
 use Rattle.blocks.specs.declared.Control.the-variants.{On, Call, Back, Stop}
 use Rattle.lines.specs.Blocks.{Block}
 use Rattle.programs.specs.Openings.{known}
-use Rattle.interpreter.specs.Walk.{Job, ended, refusedAt, blocksFor}
-use Rattle.claims.specs.Steps.{BlockDone, Stand, Turn, refuses, goes, ends, past, entering, returning, led, turnAt, Sofar, turned, turnedUnless, oneMore, more}
+use Rattle.runs.specs.Walk.{Job, ended, refusedAt, blocksFor}
+use Rattle.claims.specs.Steps.{BlockDone, Stand, Turn, refuses, goes, ends, past, inCallee, returning, led, turnAt, Sofar, afterTurn, turnedUnless, oneMore, more}
 use Rattle.claims.proofs.Blockwise.{calls-below, one-down}
 use Rattle.claims.proofs.Turns.{Onto, turn-cases, doneWith}
 use Rattle.claims.proofs.Counted.{during, Over}
@@ -24,21 +24,21 @@ pub record Finishes (job : Job) (st : Stand) : Type 0 where
 
 more-turn :
     (job : Job) (n : ℕ) (ds : List BlockDone) (st : Stand) (t : Turn) → turnAt job st ≡ t
-    → more job n (turned (during ds st) t) ≡ more job (suc n) (during ds st)
+    → more job n (afterTurn (during ds st) t) ≡ more job (suc n) (during ds st)
 unfolding more oneMore turnedUnless
-more-turn job n ds st t e = ap (λ (u : Turn). more job n (turned (during ds st) u)) (sym e)
+more-turn job n ds st t e = ap (λ (u : Turn). more job n (afterTurn (during ds st) u)) (sym e)
 
 over-alike : (x y : Sofar) → x ≡ y → Over x → Over y
 over-alike x y e o = (o .0, ap (λ (z : Sofar). z .over) (sym e) ∙ o .1)
 
 turn-finishes : (job : Job) (st : Stand) (t : Turn) → turnAt job st ≡ t → Onto (Finishes job) t → Finishes job st
-unfolding Onto turned more
+unfolding Onto afterTurn more
 turn-finishes job st (refuses refusal place) e h =
     record {
       blocks = 1;
       over =
           λ ds.
-          over-alike (more job 0 (turned (during ds st) (refuses refusal place))) (more job 1 (during ds st))
+          over-alike (more job 0 (afterTurn (during ds st) (refuses refusal place))) (more job 1 (during ds st))
           (more-turn job 0 ds st (refuses refusal place) e) (refusedAt refusal place, refl);
     }
 turn-finishes job st (goes d st′) e h =
@@ -54,7 +54,7 @@ turn-finishes job st (ends d st′) e h =
       blocks = 1;
       over =
           λ ds.
-          over-alike (more job 0 (turned (during ds st) (ends d st′))) (more job 1 (during ds st))
+          over-alike (more job 0 (afterTurn (during ds st) (ends d st′))) (more job 1 (during ds st))
           (more-turn job 0 ds st (ends d st′) e) (ended, refl);
     }
 
@@ -84,8 +84,8 @@ call-finishes :
     (job : Job) (left : ℕ) (bs : List Block) (callers : List (List Block)) (s : State) (room : ℕ) (blocks : List Block)
     → ((l : ℕ) → left ≡ suc l → LevelFinishes job l)
     → ((s : State) (room : ℕ) → Finishes job (standing s room left bs callers)) → eqb left 0 ≡ false
-    → Finishes job (entering (standing s room left bs callers) blocks)
-unfolding entering
+    → Finishes job (inCallee (standing s room left bs callers) blocks)
+unfolding inCallee
 call-finishes job zero bs callers s room blocks below here e = absurd (false≢true (sym e))
 call-finishes job (suc l) bs callers s room blocks below here e =
     subst (λ (k : ℕ). Finishes job (standing s room k blocks (bs ∷ callers))) (one-down l)

@@ -1,23 +1,23 @@
 -- One name that opens every rule of this layer and of those below it, for a claim that holds by computation.
-use Rattle.interpreter.proofs.Opened.{opened as interpreter-opened}
-use Rattle.claims.specs.Steps.{past, entering, returning, led, turnBy, verdictAt, turnUnder, turnUnless, turnIn, turnAt, turned, turnedUnless, oneMore, more, recordsBy, howSofar, outcomeSofar, tableIn, subsOf, jobOf, standAt, refusedAtOnce, begunBy, begun, firstBlocks}
+use Rattle.runs.proofs.Opened.{opened as runs-opened}
+use Rattle.claims.specs.Steps.{past, inCallee, returning, led, turnBy, verdictIn, turnUnder, turnUnless, turnIn, turnAt, afterTurn, turnedUnless, oneMore, more, recordsBy, howSofar, outcomeSofar, tableIn, subsOf, jobFor, standAt, refusedAtOnce, begunBy, begun, firstBlocks}
 use Rattle.claims.specs.Travel.{inTravel}
 use Rattle.claims.specs.Displaced.{stayIn}
 
 unfoldable pub opened : Unit {0}
 unfolding
-    interpreter-opened
+    runs-opened
     past
-    entering
+    inCallee
     returning
     led
     turnBy
-    verdictAt
+    verdictIn
     turnUnder
     turnUnless
     turnIn
     turnAt
-    turned
+    afterTurn
     turnedUnless
     oneMore
     more
@@ -26,7 +26,7 @@ unfolding
     outcomeSofar
     tableIn
     subsOf
-    jobOf
+    jobFor
     standAt
     refusedAtOnce
     begunBy

@@ -9,10 +9,10 @@ use Rattle.refusals.specs.declared.Refusal.{Refusal}
 use Rattle.refusals.specs.declared.Place.{Place}
 use Rattle.setup.specs.declared.Setup.{Setup}
 use Rattle.records.specs.declared.Record.{Record}
-use Rattle.interpreter.specs.declared.Budget.{Budget}
-use Rattle.interpreter.specs.Walk.{Job, How, refusedAt, Outcome, just}
-use Rattle.interpreter.specs.Run.{outcome}
-use Rattle.claims.specs.Steps.{BlockDone, Turn, refuses, goes, ends, turnAt, Sofar, turned, oneMore, more, recordsBy, howSofar, outcomeSofar, jobOf, begun, firstBlocks}
+use Rattle.runs.specs.declared.Budget.{Budget}
+use Rattle.runs.specs.Walk.{Job, How, refusedAt, Outcome, just}
+use Rattle.runs.specs.Run.{outcome}
+use Rattle.claims.specs.Steps.{BlockDone, Turn, refuses, goes, ends, turnAt, Sofar, afterTurn, oneMore, more, recordsBy, howSofar, outcomeSofar, jobFor, begun, firstBlocks}
 use Rattle.claims.specs.Answers.{RefusedBlock, RefusedWhere, atOnce, atBlock}
 use Rattle.claims.proofs.Turns.{open-turn, one-over, more-over}
 use Rattle.claims.proofs.Runs.{first-n, some-blocks, begun-with}
@@ -32,9 +32,9 @@ data Origin (job : Job) (x : Sofar) (n : ℕ) (r : Refusal) (place : Place) : Ty
   later : Refusing job x n r place → Origin job x n r place
 
 turn-refuses :
-    (x : Sofar) (t : Turn) (r : Refusal) (place : Place) → turned x t .over ≡ some (refusedAt r place)
-    → turned x t ≡ refusedSofar x r place
-unfolding turned
+    (x : Sofar) (t : Turn) (r : Refusal) (place : Place) → afterTurn x t .over ≡ some (refusedAt r place)
+    → afterTurn x t ≡ refusedSofar x r place
+unfolding afterTurn
 turn-refuses x (refuses q p) r place e =
     ap (λ (o : Option How). record { executed = x .executed; stand = x .stand; over = o }) e
 turn-refuses x (goes d st) r place e = let z : _≡_ {A = ℕ} 0 1 = cc in absurd (omega arith)
@@ -84,12 +84,12 @@ module _ (s : Setup) (bytes : List ℕ) (room : ℕ) (r : Refusal) (place : Plac
   at-once e budget =
       let n = some-blocks s bytes room budget in
       n .1
-      ∙ ap outcomeSofar (more-over (jobOf s bytes) (n .0) (begun s bytes room) (refusedAt r place) e)
+      ∙ ap outcomeSofar (more-over (jobFor s bytes) (n .0) (begun s bytes room) (refusedAt r place) e)
       ∙ ap₂ (λ (o : Option How) (ds : List BlockDone). record { how = howSofar o; made = recordsBy ds }) e begun-empty
 
   at-block :
       (n : ℕ) (budget : Budget) → outcome s bytes room budget ≡ outcomeSofar (firstBlocks s bytes room n)
-      → Refusing (jobOf s bytes) (begun s bytes room) n r place
+      → Refusing (jobFor s bytes) (begun s bytes room) n r place
       → RefusedBlock s bytes room r place (outcome s bytes room budget .made)
   unfolding outcomeSofar howSofar firstBlocks
   at-block n budget e l =
@@ -118,11 +118,11 @@ module _ (s : Setup) (bytes : List ℕ) (room : ℕ) (r : Refusal) (place : Plac
       let x : Sofar = firstBlocks s bytes room (n .0) in
       let over : x .over ≡ some (refusedAt r place) =
       refused-over (x .over) r place (ap (λ (o : Outcome). o .how) (sym (n .1)) ∙ e) in
-      go (n .0) (n .1) (origin (jobOf s bytes) (n .0) (begun s bytes room) r place over)
+      go (n .0) (n .1) (origin (jobFor s bytes) (n .0) (begun s bytes room) r place over)
     where
       go :
           (n : ℕ) → outcome s bytes room budget ≡ outcomeSofar (firstBlocks s bytes room n)
-          → Origin (jobOf s bytes) (begun s bytes room) n r place
+          → Origin (jobFor s bytes) (begun s bytes room) n r place
           → RefusedWhere s bytes room r place (outcome s bytes room budget .made)
       go n k (already o) = atOnce (at-once o) (ap (λ (q : Outcome). q .made) (at-once o budget))
       go n k (later l) = atBlock (at-block n budget k l)

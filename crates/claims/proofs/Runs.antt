@@ -17,11 +17,11 @@ use Rattle.blocks.specs.Machine.{machineOf}
 use Rattle.lines.specs.Blocks.{Block, blocksOf, closes}
 use Rattle.programs.specs.Openings.{Table, table, programsFrom, blocksAt}
 use Rattle.programs.specs.Openings as Openings
-use Rattle.interpreter.specs.declared.Budget.{Budget}
-use Rattle.interpreter.specs.declared.Budget.the-variants.{Whole, First}
-use Rattle.interpreter.specs.Walk.{Job, refusedAt, just, after}
-use Rattle.interpreter.specs.Run.{firstOf, finishOf, nowhere, runTable, runBlocks, outcome}
-use Rattle.claims.specs.Steps.{BlockDone, Sofar, more, recordsBy, howSofar, outcomeSofar, tableIn, subsOf, jobOf, standAt, refusedAtOnce, begunBy, begun, firstBlocks}
+use Rattle.runs.specs.declared.Budget.{Budget}
+use Rattle.runs.specs.declared.Budget.the-variants.{Whole, First}
+use Rattle.runs.specs.Walk.{Job, refusedAt, just, after}
+use Rattle.runs.specs.Run.{firstOf, finishOf, nowhere, runTable, runBlocks, outcome}
+use Rattle.claims.specs.Steps.{BlockDone, Sofar, more, recordsBy, howSofar, outcomeSofar, tableIn, subsOf, jobFor, standAt, refusedAtOnce, begunBy, begun, firstBlocks}
 use Rattle.claims.proofs.Blockwise.{Placed, whole, unwound, going}
 use Rattle.claims.proofs.Turns.{more-over}
 use Rattle.claims.proofs.Counted.{Over, counted, counted-whole}
@@ -93,7 +93,7 @@ table-finishes s bytes bs room (table main subs) =
 
 -- the first n executed blocks
 pub first-n : (s : Setup) (bytes : List ℕ) (room n : ℕ) → outcome s bytes room (First n) ≡ outcomeSofar (firstBlocks s bytes room n)
-unfolding outcome firstBlocks begun jobOf
+unfolding outcome firstBlocks begun jobFor
 first-n s bytes room n = go (ltb 65_535 (length bytes)) (validSetup s)
   where
     go :
@@ -102,12 +102,12 @@ first-n s bytes room n = go (ltb 65_535 (length bytes)) (validSetup s)
         else if not valid then just (refusedAt BadSetup nowhere)
         else runBlocks s bytes room (First n) (blocksOf bytes))
         ≡ outcomeSofar
-        (more (jobOf s bytes) n
+        (more (jobFor s bytes) n
         (if long then refusedAtOnce s room DataTooLong nowhere
         else if not valid then refusedAtOnce s room BadSetup nowhere
         else begunBy (tableIn (blocksOf bytes)) s (blocksOf bytes) room))
-    go true valid = at-once s room (jobOf s bytes) n DataTooLong nowhere
-    go false false = at-once s room (jobOf s bytes) n BadSetup nowhere
+    go true valid = at-once s room (jobFor s bytes) n DataTooLong nowhere
+    go false false = at-once s room (jobFor s bytes) n BadSetup nowhere
     go false true =
         by-table s bytes room (First n) (blocksOf bytes) ∙ table-first s bytes (blocksOf bytes) room n (tableIn (blocksOf bytes))
 
@@ -115,13 +115,13 @@ first-n s bytes room n = go (ltb 65_535 (length bytes)) (validSetup s)
 pub sufficient :
     (s : Setup) (bytes : List ℕ) (room n : ℕ) → Over (firstBlocks s bytes room n)
     → outcome s bytes room Whole ≡ outcomeSofar (firstBlocks s bytes room n)
-unfolding outcome firstBlocks begun jobOf
+unfolding outcome firstBlocks begun jobFor
 sufficient s bytes room n = go (ltb 65_535 (length bytes)) (validSetup s)
   where
     go :
         (long valid : Bool)
         → Over
-        (more (jobOf s bytes) n
+        (more (jobFor s bytes) n
         (if long then refusedAtOnce s room DataTooLong nowhere
         else if not valid then refusedAtOnce s room BadSetup nowhere
         else begunBy (tableIn (blocksOf bytes)) s (blocksOf bytes) room))
@@ -129,25 +129,25 @@ sufficient s bytes room n = go (ltb 65_535 (length bytes)) (validSetup s)
         else if not valid then just (refusedAt BadSetup nowhere)
         else runBlocks s bytes room Whole (blocksOf bytes))
         ≡ outcomeSofar
-        (more (jobOf s bytes) n
+        (more (jobFor s bytes) n
         (if long then refusedAtOnce s room DataTooLong nowhere
         else if not valid then refusedAtOnce s room BadSetup nowhere
         else begunBy (tableIn (blocksOf bytes)) s (blocksOf bytes) room))
-    go true valid o = at-once s room (jobOf s bytes) n DataTooLong nowhere
-    go false false o = at-once s room (jobOf s bytes) n BadSetup nowhere
+    go true valid o = at-once s room (jobFor s bytes) n DataTooLong nowhere
+    go false false o = at-once s room (jobFor s bytes) n BadSetup nowhere
     go false true o =
         by-table s bytes room Whole (blocksOf bytes) ∙ table-whole s bytes (blocksOf bytes) room n (tableIn (blocksOf bytes)) o
 
 -- and there is such an n
 pub some-n : (s : Setup) (bytes : List ℕ) (room : ℕ) → (n : ℕ) × Over (firstBlocks s bytes room n)
-unfolding firstBlocks begun jobOf more refusedAtOnce
+unfolding firstBlocks begun jobFor more refusedAtOnce
 some-n s bytes room = go (ltb 65_535 (length bytes)) (validSetup s)
   where
     go :
         (long valid : Bool)
         → (n : ℕ)
         × Over
-        (more (jobOf s bytes) n
+        (more (jobFor s bytes) n
         (if long then refusedAtOnce s room DataTooLong nowhere
         else if not valid then refusedAtOnce s room BadSetup nowhere
         else begunBy (tableIn (blocksOf bytes)) s (blocksOf bytes) room))

@@ -7,10 +7,10 @@ use mathlib.Core.List.{List, [], _∷_, _++_}
 use native.Mathlib.Nat.{zero-add, suc-add}
 use Rattle.setup.specs.declared.Setup.{Setup}
 use Rattle.records.specs.declared.Record.{Record}
-use Rattle.interpreter.specs.declared.Budget.the-variants.{Whole, First}
-use Rattle.interpreter.specs.Walk.{How, ended, unfinished, refusedAt, Outcome}
-use Rattle.interpreter.specs.Run.{outcome}
-use Rattle.claims.specs.Steps.{BlockDone, Turn, refuses, goes, ends, turnAt, turned, oneMore, recordsBy, howSofar, outcomeSofar, jobOf, begun, firstBlocks}
+use Rattle.runs.specs.declared.Budget.the-variants.{Whole, First}
+use Rattle.runs.specs.Walk.{How, ended, unfinished, refusedAt, Outcome}
+use Rattle.runs.specs.Run.{outcome}
+use Rattle.claims.specs.Steps.{BlockDone, Turn, refuses, goes, ends, turnAt, afterTurn, oneMore, recordsBy, howSofar, outcomeSofar, jobFor, begun, firstBlocks}
 use Rattle.claims.specs.Answers.{OneMore, stays, refusing, going, ending}
 use Rattle.claims.proofs.Turns.{open-turn, one-over, more-last}
 use Rattle.claims.proofs.Counted.{records-last, Over}
@@ -19,9 +19,9 @@ use Rattle.claims.proofs.Answers.{over-finished}
 
 module _ (s : Setup) (bytes : List ℕ) (room : ℕ) where
   -- the run after one block more
-  pub one-later : (n : ℕ) → firstBlocks s bytes room (suc n) ≡ oneMore (jobOf s bytes) (firstBlocks s bytes room n)
+  pub one-later : (n : ℕ) → firstBlocks s bytes room (suc n) ≡ oneMore (jobFor s bytes) (firstBlocks s bytes room n)
   unfolding firstBlocks
-  one-later n = more-last (jobOf s bytes) n (begun s bytes room)
+  one-later n = more-last (jobFor s bytes) n (begun s bytes room)
 
   how-first : (n : ℕ) → outcome s bytes room (First n) .how ≡ howSofar (firstBlocks s bytes room n .over)
   unfolding outcomeSofar
@@ -44,26 +44,26 @@ module _ (s : Setup) (bytes : List ℕ) (room : ℕ) where
       (n : ℕ) → Over (firstBlocks s bytes room n) → outcome s bytes room (First (suc n)) ≡ outcome s bytes room (First n)
   stays-there n o =
       first-n s bytes room (suc n)
-      ∙ ap outcomeSofar (one-later n ∙ one-over (jobOf s bytes) (firstBlocks s bytes room n) (o .0) (o .1))
+      ∙ ap outcomeSofar (one-later n ∙ one-over (jobFor s bytes) (firstBlocks s bytes room n) (o .0) (o .1))
       ∙ sym (first-n s bytes room n)
 
   -- the outcome after a turn
   turned-to :
       (n : ℕ) (t : Turn) → firstBlocks s bytes room n .over ≡ none
-      → turnAt (jobOf s bytes) (firstBlocks s bytes room n .stand) ≡ t
-      → outcome s bytes room (First (suc n)) ≡ outcomeSofar (turned (firstBlocks s bytes room n) t)
+      → turnAt (jobFor s bytes) (firstBlocks s bytes room n .stand) ≡ t
+      → outcome s bytes room (First (suc n)) ≡ outcomeSofar (afterTurn (firstBlocks s bytes room n) t)
   turned-to n t e k =
       first-n s bytes room (suc n)
       ∙ ap outcomeSofar
-      (one-later n ∙ open-turn (jobOf s bytes) (firstBlocks s bytes room n) e ∙ ap (turned (firstBlocks s bytes room n)) k)
+      (one-later n ∙ open-turn (jobFor s bytes) (firstBlocks s bytes room n) e ∙ ap (afterTurn (firstBlocks s bytes room n)) k)
 
   adds : (n : ℕ) (d : BlockDone) → recordsBy (firstBlocks s bytes room n .executed ++ d ∷ []) ≡ outcome s bytes room (First n) .made ++ d .made
   adds n d = records-last (firstBlocks s bytes room n .executed) d ∙ ap (_++ d .made) (sym (made-first n))
 
   by-turn :
       (n : ℕ) (t : Turn) → firstBlocks s bytes room n .over ≡ none
-      → turnAt (jobOf s bytes) (firstBlocks s bytes room n .stand) ≡ t → OneMore s bytes room n
-  unfolding turned outcomeSofar howSofar
+      → turnAt (jobFor s bytes) (firstBlocks s bytes room n .stand) ≡ t → OneMore s bytes room n
+  unfolding afterTurn outcomeSofar howSofar
   by-turn n (refuses r place) e k =
       refusing r place k (how-first n ∙ ap howSofar e)
       (turned-to n (refuses r place) e k
@@ -80,7 +80,7 @@ module _ (s : Setup) (bytes : List ℕ) (room : ℕ) where
   one-more n = go (firstBlocks s bytes room n .over) refl
     where
       go : (o : Option How) → firstBlocks s bytes room n .over ≡ o → OneMore s bytes room n
-      go none e = by-turn n (turnAt (jobOf s bytes) (firstBlocks s bytes room n .stand)) e refl
+      go none e = by-turn n (turnAt (jobFor s bytes) (firstBlocks s bytes room n .stand)) e refl
       go (some how) e =
           stays (λ k. over-finished s bytes room n (how, e) (sym (how-first n) ∙ k)) (stays-there n (how, e))
 

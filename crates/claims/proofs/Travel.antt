@@ -19,10 +19,10 @@ use Rattle.blocks.specs.declared.Control.{Control}
 use Rattle.blocks.specs.Exec.{accepted, callsIn}
 use Rattle.lines.specs.Blocks.{Block}
 use Rattle.programs.specs.Openings as Openings
-use Rattle.interpreter.specs.declared.Budget.{Budget}
-use Rattle.interpreter.specs.Walk.{Job, Outcome, slashLength, verdictOn}
-use Rattle.interpreter.specs.Run.{firstOf, outcome, recordsOf}
-use Rattle.claims.specs.Steps.{BlockDone, Stand, verdictAt, Sofar, more, recordsBy, outcomeSofar, jobOf, begun, firstBlocks}
+use Rattle.runs.specs.declared.Budget.{Budget}
+use Rattle.runs.specs.Walk.{Job, Outcome, slashLength, verdictOn}
+use Rattle.runs.specs.Run.{firstOf, outcome, recordsOf}
+use Rattle.claims.specs.Steps.{BlockDone, Stand, verdictIn, Sofar, more, recordsBy, outcomeSofar, jobFor, begun, firstBlocks}
 use Rattle.claims.specs.Travel.{machineTravel, inTravel}
 use Rattle.claims.proofs.Verdicts.{accepted-path}
 use Rattle.claims.proofs.Turns.{doneWith, run-holds}
@@ -57,9 +57,9 @@ one-stayed stays start ds st b s made path at h =
 block-stayed :
     (job : Job) (start : Point) (ds : List BlockDone) (st : Stand) (b : Block) (s : State) (control : Control)
     (made : List Record)
-    → verdictAt job st b ≡ accepted s control made → Stayed (job .machine .stays) start ds (st .state)
+    → verdictIn job st b ≡ accepted s control made → Stayed (job .machine .stays) start ds (st .state)
     → Stayed (job .machine .stays) start (ds ++ doneWith b st made ∷ []) s
-unfolding verdictAt verdictOn
+unfolding verdictIn verdictOn
 block-stayed job start ds st b s control made e h =
     let p =
     accepted-path (job .machine) (callsIn (job .programs) (st .left)) (st .room) (st .state) (b .start)
@@ -86,11 +86,11 @@ begun-stayed stays s bytes room =
 pub stays-in-frame :
     (s : Setup) (bytes : List ℕ) (room : ℕ) (budget : Budget)
     → pathStaysIn (machineOf (bedOf s) .stays) (startOf s) (outcome s bytes room budget .made) ≡ true
-unfolding outcomeSofar firstBlocks jobOf
+unfolding outcomeSofar firstBlocks jobFor
 stays-in-frame s bytes room budget =
     let n = some-blocks s bytes room budget in
     ap (λ (o : Outcome). pathStaysIn (machineOf (bedOf s) .stays) (startOf s) (o .made)) (n .1)
-    ∙ run-stayed (jobOf s bytes) (startOf s) (n .0) (begun s bytes room)
+    ∙ run-stayed (jobFor s bytes) (startOf s) (n .0) (begun s bytes room)
     (begun-stayed (machineOf (bedOf s) .stays) s bytes room) .path
 
 -- ---- in machine units

@@ -18,7 +18,7 @@ use Rattle.blocks.specs.declared.Control.{Control}
 use Rattle.blocks.specs.declared.Control.the-variants.{On, Call, Back, Stop}
 use Rattle.lines.specs.Blocks.{Block, closes, opens}
 use Rattle.programs.specs.Openings.{placeOf}
-use Rattle.interpreter.specs.Walk.{Job, How, isSkipped}
+use Rattle.runs.specs.Walk.{Job, How, isSkipped}
 use Rattle.claims.specs.Steps.{
   BlockDone,
   Stand,
@@ -27,17 +27,17 @@ use Rattle.claims.specs.Steps.{
   goes,
   ends,
   past,
-  entering,
+  inCallee,
   returning,
   led,
   turnBy,
-  verdictAt,
+  verdictIn,
   turnUnder,
   turnUnless,
   turnIn,
   turnAt,
   Sofar,
-  turned,
+  afterTurn,
   turnedUnless,
   oneMore,
   more,
@@ -53,11 +53,11 @@ module _ (P : Turn → Type 0) (job : Job) (st : Stand)
     (at-skip : (b : Block) (bs : List Block) → st .ahead ≡ b ∷ bs → P (goes (doneWith b st []) (past st bs (st .state) [])))
     (at-block :
     (b : Block) (bs : List Block) (s : State) (control : Control) (made : List Record)
-    → st .ahead ≡ b ∷ bs → verdictAt job st b ≡ accepted s control made
+    → st .ahead ≡ b ∷ bs → verdictIn job st b ≡ accepted s control made
     → P (led control job (past st bs s made) (doneWith b st made)))
   where
     by-verdict :
-        (b : Block) (bs : List Block) (v : Verdict) → st .ahead ≡ b ∷ bs → verdictAt job st b ≡ v → P (turnBy v job st b bs)
+        (b : Block) (bs : List Block) (v : Verdict) → st .ahead ≡ b ∷ bs → verdictIn job st b ≡ v → P (turnBy v job st b bs)
     unfolding turnBy
     by-verdict b bs (refused blame) e k = at-refusal (blame .refusal) (record { block = b .number; byte = blame .byte })
     by-verdict b bs (accepted s control made) e k = at-block b bs s control made e k
@@ -65,7 +65,7 @@ module _ (P : Turn → Type 0) (job : Job) (st : Stand)
     by-skip : (skips : Bool) (b : Block) (bs : List Block) → st .ahead ≡ b ∷ bs → P (turnUnder skips job st b bs)
     unfolding turnUnder
     by-skip true b bs e = at-skip b bs e
-    by-skip false b bs e = by-verdict b bs (verdictAt job st b) e refl
+    by-skip false b bs e = by-verdict b bs (verdictIn job st b) e refl
 
     by-closing : (closed : Bool) (b : Block) (bs : List Block) → st .ahead ≡ b ∷ bs → P (turnUnless closed job st b bs)
     unfolding turnUnless
@@ -100,7 +100,7 @@ placed-led :
     (job : Job) (st : Stand) (control : Control) (bs : List Block) (s : State) (made : List Record) (d : BlockDone)
     → ((n : ℕ) → control ≡ Call n → eqb (st .left) 0 ≡ false)
     → Placed st → Onto Placed (led control job (past st bs s made) d)
-unfolding led past Onto entering
+unfolding led past Onto inCallee
 placed-led job st On bs s made d h p = record { four = p .four }
 placed-led job st (Call n) bs s made d h p = record { four = omega (arith, p .four, eqb-false (st .left) 0 (h n refl)) }
 placed-led job st Back bs s made d h p = placed-back (st .callers) (past st bs s made) d (p .four)
@@ -116,7 +116,7 @@ placed-kept job st p =
 -- ---- the run so far
 
 -- a run that is not over goes by the turn of its next block
-pub open-turn : (job : Job) (x : Sofar) → x .over ≡ none → oneMore job x ≡ turned x (turnAt job (x .stand))
+pub open-turn : (job : Job) (x : Sofar) → x .over ≡ none → oneMore job x ≡ afterTurn x (turnAt job (x .stand))
 unfolding oneMore turnedUnless
 open-turn job x e = ap (λ (o : Option How). turnedUnless o job x) e
 
@@ -149,15 +149,15 @@ module _ (Q : List BlockDone → State → Type 0) where
 
   back-holds :
       (x : Sofar) (callers : List (List Block)) (st : Stand) (d : BlockDone) → Q (x .executed ++ d ∷ []) (st .state)
-      → Holds (turned x (returning callers st d))
-  unfolding returning turned
+      → Holds (afterTurn x (returning callers st d))
+  unfolding returning afterTurn
   back-holds x [] st d h = h
   back-holds x (rest ∷ callers) st d h = h
 
   led-holds :
       (job : Job) (x : Sofar) (control : Control) (st : Stand) (d : BlockDone) → Q (x .executed ++ d ∷ []) (st .state)
-      → Holds (turned x (led control job st d))
-  unfolding led turned entering
+      → Holds (afterTurn x (led control job st d))
+  unfolding led afterTurn inCallee
   led-holds job x On st d h = h
   led-holds job x (Call n) st d h = h
   led-holds job x Back st d h = back-holds x (st .callers) st d h
@@ -167,12 +167,12 @@ module _ (Q : List BlockDone → State → Type 0) where
       (skip : (ds : List BlockDone) (st : Stand) (b : Block) → Q ds (st .state) → Q (ds ++ doneWith b st [] ∷ []) (st .state))
       (block :
       (ds : List BlockDone) (st : Stand) (b : Block) (s : State) (control : Control) (made : List Record)
-      → verdictAt job st b ≡ accepted s control made → Q ds (st .state) → Q (ds ++ doneWith b st made ∷ []) s)
+      → verdictIn job st b ≡ accepted s control made → Q ds (st .state) → Q (ds ++ doneWith b st made ∷ []) s)
     where
-      turn-holds : (x : Sofar) → Holds x → Holds (turned x (turnAt job (x .stand)))
-      unfolding turned past
+      turn-holds : (x : Sofar) → Holds x → Holds (afterTurn x (turnAt job (x .stand)))
+      unfolding afterTurn past
       turn-holds x h =
-          turn-cases (λ t. Holds (turned x t)) job (x .stand) (λ refusal place. h) (λ b bs e. skip (x .executed) (x .stand) b h)
+          turn-cases (λ t. Holds (afterTurn x t)) job (x .stand) (λ refusal place. h) (λ b bs e. skip (x .executed) (x .stand) b h)
           (λ b bs s control made e k.
           led-holds job x control (past (x .stand) bs s made) (doneWith b (x .stand) made)
           (block (x .executed) (x .stand) b s control made k h))

@@ -33,6 +33,7 @@ use Rattle.blocks.specs.Machine.{Machine}
 use Rattle.blocks.specs.declared.Said.{Said}
 use Rattle.blocks.specs.declared.Control.{Control}
 use Rattle.blocks.specs.declared.Control.the-variants.{On, Call, Back, Stop}
+use Rattle.blocks.proofs.Accepting.{start-none}
 use Rattle.blocks.specs.Exec.{Blame, Calls, Verdict, accepted, saidBy, movesIn, madeBy, settled, controlOf, inMain, callTo, unknownCall, lacksParameter, cannotDrill, atWord, tooDeep, atStart, blames, unless, judged, execWords, exec}
 
 module _ {ℓ} {A : Type ℓ} where
@@ -46,11 +47,6 @@ module _ {ℓ} {A : Type ℓ} where
   unfolding firstOf
   none-after none os e = e
   none-after (some a) os e = let z : _≡_ {A = ℕ} 0 1 = cc in absurd (omega arith)
-
-pub not-at-start : (start : ℕ) (refusal : Refusal) (test : Bool) → atStart start refusal test ≡ none → test ≡ false
-unfolding atStart
-not-at-start start refusal true e = let z : _≡_ {A = ℕ} 0 1 = cc in absurd (omega arith)
-not-at-start start refusal false e = refl
 
 pub not-at-word : (refusal : Refusal) (o : Option Word) → atWord refusal o ≡ none → o ≡ none
 unfolding atWord
@@ -163,10 +159,10 @@ passed machine calls s start ws b last k =
       record {
         stand = not-at-word CannotExecute (firstThatMayNot (inMain calls) [] ws) (all₈ .first);
         value = not-at-word BadParameter (firstBadValue (machine .speeds) (b .modes) (b .code) ws) (all₈ .third);
-        deep = not-at-start start NestOver (tooDeep calls (callTo (controlOf b))) (all₈ .sixth);
+        deep = start-none start NestOver (tooDeep calls (callTo (controlOf b))) (all₈ .sixth);
         sound =
             not-false (movesIn machine s b .sound)
-            (not-at-start start BadParameter (not (movesIn machine s b .sound)) (all₈ .eighth));
+            (start-none start BadParameter (not (movesIn machine s b .sound)) (all₈ .eighth));
         others = all₈ .others;
       },
       all₈ .rest,
@@ -187,11 +183,11 @@ fitting fits stays room at start made k =
     let c : Option Blame = atStart start NoRoom (ltb room (roomOf made)) in
     let k₁ = none-after a (b ∷ c ∷ []) k in
     record {
-      centres = not-false (all fits made) (not-at-start start CentreTooFar (not (all fits made)) (none-here a (b ∷ c ∷ []) k));
+      centres = not-false (all fits made) (start-none start CentreTooFar (not (all fits made)) (none-here a (b ∷ c ∷ []) k));
       path =
           not-false (pathStaysIn stays at made)
-          (not-at-start start LeavesTravel (not (pathStaysIn stays at made)) (none-here b (c ∷ []) k₁));
-      space = not-at-start start NoRoom (ltb room (roomOf made)) (none-here c [] (none-after b (c ∷ []) k₁));
+          (start-none start LeavesTravel (not (pathStaysIn stays at made)) (none-here b (c ∷ []) k₁));
+      space = start-none start NoRoom (ltb room (roomOf made)) (none-here c [] (none-after b (c ∷ []) k₁));
     }
 
 -- an accepted block: its words, what they passed, and what the verdict holds

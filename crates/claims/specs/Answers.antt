@@ -8,13 +8,13 @@ use Rattle.refusals.specs.declared.Place.{Place}
 use Rattle.refusals.specs.Numbers.{numberOf}
 use Rattle.setup.specs.declared.Setup.{Setup}
 use Rattle.records.specs.declared.Record.{Record}
-use Rattle.interpreter.specs.declared.Budget.{Budget}
-use Rattle.interpreter.specs.declared.Budget.the-variants.{First}
-use Rattle.interpreter.specs.declared.Answer.{Answer}
-use Rattle.interpreter.specs.declared.Answer.the-variants.{Done, Unfinished, Refused}
-use Rattle.interpreter.specs.Walk.{ended, unfinished, refusedAt, just}
-use Rattle.interpreter.specs.Run.{outcome}
-use Rattle.claims.specs.Steps.{BlockDone, Stand, refuses, goes, ends, turnAt, jobOf, firstBlocks}
+use Rattle.runs.specs.declared.Budget.{Budget}
+use Rattle.runs.specs.declared.Budget.the-variants.{First}
+use Rattle.refusals.specs.declared.Answer.{Answer}
+use Rattle.refusals.specs.declared.Answer.the-variants.{Done, Unfinished, Refused}
+use Rattle.runs.specs.Walk.{ended, unfinished, refusedAt, just}
+use Rattle.runs.specs.Run.{outcome}
+use Rattle.claims.specs.Steps.{BlockDone, Stand, refuses, goes, ends, turnAt, jobFor, firstBlocks}
 
 -- "Each program, setup and list buffer gets a finished list or one of sixteen numbered refusals with its place"; "not
 -- finished" only where the host asked for the first n blocks. The answer counts the records that stand in the list.
@@ -46,18 +46,18 @@ module _ (s : Setup) (bytes : List ℕ) (room : ℕ) where
         (outcome s bytes room (First n) .how ≡ unfinished → ⊥)
         → outcome s bytes room (First (suc n)) ≡ outcome s bytes room (First n) → OneMore n
     refusing :
-        (r : Refusal) (place : Place) → turnAt (jobOf s bytes) (firstBlocks s bytes room n .stand) ≡ refuses r place
+        (r : Refusal) (place : Place) → turnAt (jobFor s bytes) (firstBlocks s bytes room n .stand) ≡ refuses r place
         → outcome s bytes room (First n) .how ≡ unfinished
         → outcome s bytes room (First (suc n)) ≡ record { how = refusedAt r place; made = outcome s bytes room (First n) .made }
         → OneMore n
     going :
-        (d : BlockDone) (next : Stand) → turnAt (jobOf s bytes) (firstBlocks s bytes room n .stand) ≡ goes d next
+        (d : BlockDone) (next : Stand) → turnAt (jobFor s bytes) (firstBlocks s bytes room n .stand) ≡ goes d next
         → outcome s bytes room (First n) .how ≡ unfinished
         → outcome s bytes room (First (suc n))
         ≡ record { how = unfinished; made = outcome s bytes room (First n) .made ++ d .made }
         → OneMore n
     ending :
-        (d : BlockDone) (last : Stand) → turnAt (jobOf s bytes) (firstBlocks s bytes room n .stand) ≡ ends d last
+        (d : BlockDone) (last : Stand) → turnAt (jobFor s bytes) (firstBlocks s bytes room n .stand) ≡ ends d last
         → outcome s bytes room (First n) .how ≡ unfinished
         → outcome s bytes room (First (suc n))
         ≡ record { how = ended; made = outcome s bytes room (First n) .made ++ d .made }

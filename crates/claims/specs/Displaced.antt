@@ -13,9 +13,9 @@ use Rattle.setup.specs.Frame.{pointOf}
 use Rattle.records.specs.declared.Record.{Record}
 use Rattle.records.specs.Path.{pathStaysIn, recordMoved}
 use Rattle.programs.specs.Openings.{placeOf}
-use Rattle.interpreter.specs.declared.Budget.the-variants.{Whole, First}
-use Rattle.interpreter.specs.declared.Answer.the-variants.{Refused}
-use Rattle.interpreter.specs.Run.{recordsOf, answerOf}
+use Rattle.runs.specs.declared.Budget.the-variants.{Whole, First}
+use Rattle.refusals.specs.declared.Answer.the-variants.{Refused}
+use Rattle.runs.specs.Run.{recordsOf, answerOf}
 use Rattle.claims.specs.Steps.{BlockDone, firstBlocks}
 use Rattle.claims.specs.Travel.{inTravel}
 

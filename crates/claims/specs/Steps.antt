@@ -1,5 +1,5 @@
 -- A run seen block by block: where it stands after the first n executed blocks, which blocks those were and what each added.
--- The rules of the run (specs/Walk.antt of `interpreter`) go by programs and calls; proofs/Counted.antt shows that both give
+-- The rules of the run (specs/Walk.antt of `runs`) go by programs and calls; proofs/Counted.antt shows that both give
 -- the same for every n.
 use Prim.Native.Nat.{ℕ, zero, suc, _-_}
 use mathlib.Core.Bool.{Bool, true, false, not, _||_}
@@ -26,9 +26,9 @@ use Rattle.lines.specs.Blocks.{Block, blocksOf, closes, opens}
 use Rattle.programs.specs.Openings.{Table, table, placeOf, known, programsFrom, blocksAt}
 use Rattle.programs.specs.Openings as Openings
 use Rattle.programs.specs.declared.Program.{Program}
-use Rattle.interpreter.specs.declared.Budget.the-variants.{Whole}
-use Rattle.interpreter.specs.Walk.{Job, How, ended, unfinished, refusedAt, Outcome, isSkipped, verdictOn, blocksFor}
-use Rattle.interpreter.specs.Run.{firstOf, finishOf, nowhere}
+use Rattle.runs.specs.declared.Budget.the-variants.{Whole}
+use Rattle.runs.specs.Walk.{Job, How, ended, unfinished, refusedAt, Outcome, isSkipped, verdictOn, blocksFor}
+use Rattle.runs.specs.Run.{firstOf, finishOf, nowhere}
 
 -- a block that was executed: where the tool stood before it, and its records
 pub record BlockDone : Type 0 where
@@ -58,8 +58,8 @@ past st rest s made =
     record { state = s; room = st .room - roomOf made; left = st .left; ahead = rest; callers = st .callers }
 
 -- "M98 P: calls", one level down
-unfoldable pub entering : Stand → List Block → Stand
-entering st blocks =
+unfoldable pub inCallee : Stand → List Block → Stand
+inCallee st blocks =
     record {
       state = st .state;
       room = st .room;
@@ -76,7 +76,7 @@ returning (rest ∷ callers) st d =
 
 unfoldable pub led : Control → Job → Stand → BlockDone → Turn
 led On job st d = goes d st
-led (Call n) job st d = goes d (entering st (blocksFor (job .blocks) (known (job .programs) n)))
+led (Call n) job st d = goes d (inCallee st (blocksFor (job .blocks) (known (job .programs) n)))
 led Back job st d = returning (st .callers) st d
 led Stop job st d = ends d st
 
@@ -85,13 +85,13 @@ turnBy (refused blame) job st b rest = refuses (blame .refusal) (record { block 
 turnBy (accepted s control made) job st b rest =
     led control job (past st rest s made) (record { block = b; from = st .state .at; made = made })
 
-unfoldable pub verdictAt : Job → Stand → Block → Verdict
-verdictAt job st b = verdictOn job (st .left) b (record { state = st .state; room = st .room; budget = Whole })
+unfoldable pub verdictIn : Job → Stand → Block → Verdict
+verdictIn job st b = verdictOn job (st .left) b (record { state = st .state; room = st .room; budget = Whole })
 
 -- a skipped block counts as executed and adds nothing
 unfoldable pub turnUnder : Bool → Job → Stand → Block → List Block → Turn
 turnUnder true job st b rest = goes (record { block = b; from = st .state .at; made = [] }) (past st rest (st .state) [])
-turnUnder false job st b rest = turnBy (verdictAt job st b) job st b rest
+turnUnder false job st b rest = turnBy (verdictIn job st b) job st b rest
 
 unfoldable pub turnUnless : Bool → Job → Stand → Block → List Block → Turn
 turnUnless true job st b rest = refuses NoEnd (placeOf b)
@@ -111,14 +111,14 @@ pub record Sofar : Type 0 where
   pub over : Option How
 
 -- a refused block is not executed, adds nothing and leaves the stand, settings and room among it, as it was
-unfoldable pub turned : Sofar → Turn → Sofar
-turned x (refuses refusal place) =
+unfoldable pub afterTurn : Sofar → Turn → Sofar
+afterTurn x (refuses refusal place) =
     record { executed = x .executed; stand = x .stand; over = some (refusedAt refusal place) }
-turned x (goes d st) = record { executed = x .executed ++ d ∷ []; stand = st; over = none }
-turned x (ends d st) = record { executed = x .executed ++ d ∷ []; stand = st; over = some ended }
+afterTurn x (goes d st) = record { executed = x .executed ++ d ∷ []; stand = st; over = none }
+afterTurn x (ends d st) = record { executed = x .executed ++ d ∷ []; stand = st; over = some ended }
 
 unfoldable pub turnedUnless : Option How → Job → Sofar → Sofar
-turnedUnless none job x = turned x (turnAt job (x .stand))
+turnedUnless none job x = afterTurn x (turnAt job (x .stand))
 turnedUnless (some how) job x = x
 
 -- one executed block more; "past the end or a refusal answer and list stay as they were"
@@ -152,8 +152,8 @@ unfoldable pub subsOf : Table → List Program
 subsOf (table main subs) = subs
 subsOf (Openings.refusedAt refusal place) = []
 
-unfoldable pub jobOf : Setup → List ℕ → Job
-jobOf s bytes =
+unfoldable pub jobFor : Setup → List ℕ → Job
+jobFor s bytes =
     record {
       machine = machineOf (bedOf s);
       skips = switchOn s;
@@ -184,4 +184,4 @@ begun s bytes room =
 
 -- the first n executed blocks of a data set under a setup
 unfoldable pub firstBlocks : Setup → List ℕ → ℕ → ℕ → Sofar
-firstBlocks s bytes room n = more (jobOf s bytes) n (begun s bytes room)
+firstBlocks s bytes room n = more (jobFor s bytes) n (begun s bytes room)

@@ -1,26 +1,20 @@
 // Cycles: the levels of a hole and its passes. All passes of a block are tested before a byte of them is written.
-mod counting;
-mod writing;
 
 use codes::Cycle;
 use codes::Distance;
 use codes::Return;
-pub use counting::passes_length;
 use lengths::Len;
 use points::Point;
 use points::Travel;
 use settings::State;
 use words::Given;
 use words::Values;
-pub use writing::put_passes;
 ghost use mathlib.Core.Path.{_≡_};
-ghost use Prim.Native.Nat.{_≤_};
 ghost use Rattle.lengths.specs.View.{Within};
-ghost use Rattle.records.specs.Layout.{roomOf};
 ghost use Rattle.records.specs.Path.{endOf};
-ghost use Rattle.cycles.specs.Cycles.{holeOf, levelsHold, returnLevel, leaving, upUnder, passTo, passCount, passes};
+ghost use Rattle.cycles.specs.Cycles.{holeOf, levelsHold, returnLevel, passTo, passes};
 ghost use Rattle.cycles.specs.Ways.{staysIn, passesWay};
-ghost use Rattle.cycles.specs.Bounds.{Holes, Counts, Passing, PassRoom};
+ghost use Rattle.cycles.specs.Bounds.{Holes, Counts, Passing};
 
 // What a cycle does at each pass. The levels are heights in the frame of the common offset; z and dwell are missing
 // where no Z and no P stands.
@@ -112,7 +106,7 @@ fn pass_stays(t: Travel, h: Hole, level: Len, p: Point) -> bool
 }
 
 // Where a pass leaves the tool.
-fn pass_end(h: Hole, p: Point) -> Point
+pub fn pass_end(h: Hole, p: Point) -> Point
     ensures { λ e. ⌜ ((level : Len) (from : Point) → e ≡ endOf from (passTo h level p)) ⌝ }
 {
     let z = h.z;
@@ -143,53 +137,4 @@ pub fn passes_way(t: Travel, h: Hole, d: Distance, origin: Point, from: Point, v
         left -= 1;
     }
     Way::Ends(at)
-}
-
-// The room of the rapid that G98 adds to G85 and G89.
-fn up_room(back: Return) -> usize
-    ensures { λ n. ⌜ ((h : Hole) (p : Point) → n ≡ roomOf (upUnder back h p)) × (n ≤ 14) ⌝ }
-{
-    match back {
-        Return::ToInitial => 14,
-        Return::ToR => 0,
-    }
-}
-
-// The room of the way back up.
-fn leaving_room(h: Hole) -> usize
-    ensures { λ n. ⌜ ((p : Point) → n ≡ roomOf (leaving (h .cycle) h p)) × (n ≤ 32) ⌝ }
-{
-    let cycle = h.cycle;
-    let back = h.back;
-    match cycle {
-        Cycle::G81 => 14,
-        Cycle::G82 => 14,
-        Cycle::G85 => 18 + up_room(back),
-        Cycle::G89 => 18 + up_room(back),
-    }
-}
-
-// The room of one pass, which is the same for all.
-fn pass_room(h: Hole) -> usize
-    ensures { λ n. ⌜ PassRoom h n ⌝ }
-{
-    let z = h.z;
-    let dwell = h.dwell;
-    if z.stands {
-        if dwell.stands {
-            52 + leaving_room(h)
-        } else {
-            46 + leaving_room(h)
-        }
-    } else {
-        14
-    }
-}
-
-// The room of so many passes, wherever they lead.
-pub fn passes_room(h: Hole, count: u64) -> usize
-    requires { ⌜ count ≤ 9_999 ⌝ }
-    ensures { λ n. ⌜ ((d : Distance) (origin from : Point) (v : Values) → passCount (v .k) ≡ count → n ≡ roomOf (passes h d origin from v)) × (n ≤ 839_916) ⌝ }
-{
-    count as usize * pass_room(h)
 }

@@ -1,7 +1,4 @@
 // One block, from its words to its verdict and its records.
-mod effects;
-mod order;
-
 use blocks::Executed;
 use blocks::Said;
 use letters::Judged;
@@ -13,17 +10,58 @@ use refusals::Refusal;
 use settings::State;
 use setup::Bed;
 ghost use mathlib.Core.List.{List};
-ghost use Prim.Native.Nat.{_+_, _-_, _≤_};
+ghost use Prim.Native.Nat.{_-_, _≤_, _+_};
 ghost use lib.ListN.{length, drop};
-ghost use Rattle.lines.specs.Blocks.{textFrom, lengthFrom};
 ghost use Rattle.words.specs.declared.Word.{Word};
 ghost use Rattle.programs.specs.Found.{Ready, subsOf};
-ghost use Rattle.setup.specs.Fair.{Fair};
 ghost use Rattle.blocks.specs.Machine.{machineOf};
-ghost use Rattle.blocks.specs.Reach.{Reachable};
-ghost use Rattle.blocks.specs.Exec.{callsIn, saidBy, exec};
+ghost use Rattle.blocks.specs.Reach.{Steady, Reachable};
+ghost use Rattle.blocks.specs.Exec.{callsIn, working, saidBy, exec};
 ghost use Rattle.blocks.specs.Doing.{Does};
-ghost use Rattle.execution.specs.Steps.{Heard, Says, judgedFrom};
+ghost use Rattle.steps.specs.Steps.{judgedFrom, Heard, Says};
+ghost use Rattle.lines.specs.Blocks.{textFrom, lengthFrom};
+ghost use Rattle.setup.specs.Fair.{Fair};
+
+// What a block says is tested in the order of refusals: 3, 5, 6, 4 for a cycle, and then its path.
+fn obey(
+    list: &mut [u8],
+    at: usize,
+    bed: Bed,
+    programs: Programs,
+    left: usize,
+    start: usize,
+    after: usize,
+    s: State,
+    b: Said,
+) -> Executed
+    requires { ⌜ at ≤ length (now list) ⌝ }
+    requires { ⌜ Steady bed s b ⌝ }
+    requires { ⌜ Ready programs ⌝ }
+    ensures { λ r. ⌜ ((ws : List Word) → Does (bed .offset) (judgedFrom 3 (machineOf bed) (callsIn (subsOf programs) left) (length (now (list .entry)) - at) s start ws b) (now (list .entry)) at after (now (list .exit)) r) ⌝ }
+{
+    let code = b.code;
+    let modes = b.modes;
+    let v = b.values;
+    if steps::lacks_parameter(code, v) {
+        return Executed::Refused(Refusal::ParameterUndefined, start);
+    }
+    let control = steps::control_of(b);
+    if steps::is_unknown_call(programs, control) {
+        return Executed::Refused(Refusal::NumberNotFound, start);
+    }
+    if steps::is_too_deep(left, control) {
+        return Executed::Refused(Refusal::NestOver, start);
+    }
+    let w = steps::working(s, b);
+    if steps::cannot_drill(b, w.turning) {
+        return Executed::Refused(Refusal::CannotExecute, start);
+    }
+    let origins = bed.origins;
+    let k = modes.origin;
+    let origin = origins[k];
+    let plan = moves::plan_of(code, b.named, w, origin, v);
+    making::lead(list, at, bed, start, after, s, b, control, w, origin, plan)
+}
 
 // The block's words have been read, and all may stand: their values, and then what the block says.
 fn hear(
@@ -51,7 +89,7 @@ fn hear(
     let highest = bed.highest;
     let speeds = Speeds { lowest, highest };
     let words = read.words;
-    match letters::judge(speeds, modes, code, words, read.count) {
+    match judging::judge(speeds, modes, code, words, read.count) {
         Judged::Unused(byte) => Executed::Refused(Refusal::AddressUndefined, byte),
         Judged::Bad(byte) => Executed::Refused(Refusal::BadParameter, byte),
         Judged::Fine(values) => {
@@ -62,7 +100,7 @@ fn hear(
                 named: groups[1],
                 values,
             };
-            order::obey(list, at, bed, programs, left, start, after, state, said)
+            obey(list, at, bed, programs, left, start, after, state, said)
         }
     }
 }
@@ -88,7 +126,7 @@ pub fn exec(
     ensures { λ r. ⌜ Does (bed .offset) (exec (machineOf bed) (callsIn (subsOf programs) left) (length (now (list .entry)) - at) state start from (textFrom (drop from (now (s .entry))))) (now (list .entry)) at (from + lengthFrom (drop from (now (s .entry)))) (now (list .exit)) r ⌝ }
 {
     let modes = state.modes;
-    let read = reading::read_words(s, from, left == 4, modes);
+    let read = gathering::read_words(s, from, left == 4, modes);
     let status = read.status;
     match status {
         Status::Unreadable(byte) => Executed::Refused(Refusal::Unreadable, byte),

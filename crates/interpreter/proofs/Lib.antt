@@ -1,11 +1,2 @@
-pub mod Opened
-pub mod Examples
-pub mod Places
-pub mod Walking
-pub mod Endings
-pub mod Acting
-pub mod Keeping
-pub mod Rounds
-pub mod Executing
 pub mod Starting
 pub mod OneOutcome

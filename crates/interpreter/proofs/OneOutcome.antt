@@ -6,10 +6,10 @@ use mathlib.Core.List.{List}
 use Rattle.setup.specs.declared.Setup.{Setup}
 use Rattle.records.specs.declared.Listed.{Listed}
 use Rattle.records.specs.Reading.{readAt}
-use Rattle.interpreter.specs.Steps.{Owes}
-use Rattle.interpreter.specs.declared.Budget.{Budget}
-use Rattle.interpreter.specs.declared.Budget.the-variants.{Whole, First}
-use Rattle.interpreter.specs.declared.Answer.{Answer}
+use Rattle.interpreter.specs.Owing.{Owes}
+use Rattle.runs.specs.declared.Budget.{Budget}
+use Rattle.runs.specs.declared.Budget.the-variants.{Whole, First}
+use Rattle.refusals.specs.declared.Answer.{Answer}
 
 one :
     {s : Setup} {l : List ℕ} {budget : Budget} {was is is′ : List ℕ} {r r′ : Answer}

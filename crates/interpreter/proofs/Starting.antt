@@ -35,16 +35,17 @@ use Rattle.programs.specs.Answers as Answers
 use Rattle.programs.specs.Places.{Placed, TablePlaced}
 use Rattle.programs.proofs.Places.{found-placed, main-placed, subs-placed, known-placed}
 use Rattle.blocks.specs.Reach.{Reachable}
-use Rattle.interpreter.specs.Walk.{How, ended, returned, unfinished, Outcome, just}
-use Rattle.interpreter.specs.Walk as Walk
-use Rattle.interpreter.specs.Run.{firstOf, nowhere, runTable, runBlocks, outcome, recordsOf, answerBy, answerOf}
-use Rattle.interpreter.specs.Steps.{jobOf, goingOf, walkFrom, endingBy, answerFor, Ran, Sound, Fits, Opened, Gives, Owes}
-use Rattle.interpreter.specs.declared.Budget.{Budget}
-use Rattle.interpreter.specs.declared.Answer.{Answer}
-use Rattle.interpreter.specs.declared.Answer.the-variants.{Refused}
-use Rattle.interpreter.specs.declared.Progress.{Progress}
-use Rattle.interpreter.specs.declared.Ending.{Ending}
-use Rattle.interpreter.proofs.Endings.{moved-length}
+use Rattle.runs.specs.Walk.{How, ended, returned, unfinished, Outcome, just}
+use Rattle.runs.specs.Walk as Walk
+use Rattle.runs.specs.Run.{firstOf, nowhere, runTable, runBlocks, outcome, recordsOf, answerBy, answerOf}
+use Rattle.progress.specs.Steps.{jobOf, goingOf, walkFrom, endingBy, Ran, Sound, Fits}
+use Rattle.interpreter.specs.Owing.{answerFor, Opened, Gives, Owes}
+use Rattle.runs.specs.declared.Budget.{Budget}
+use Rattle.refusals.specs.declared.Answer.{Answer}
+use Rattle.refusals.specs.declared.Answer.the-variants.{Refused}
+use Rattle.progress.specs.declared.Progress.{Progress}
+use Rattle.progress.specs.declared.Ending.{Ending}
+use Rattle.progress.proofs.Endings.{moved-length}
 
 module _ (s : Setup) (valid : validSetup s ≡ true) where
   first-reachable : Reachable (bedOf s) (firstOf s)

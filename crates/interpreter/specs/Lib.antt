@@ -1,4 +1,1 @@
-pub mod Walk
-pub mod Run
-pub mod Steps
-pub mod Examples
+pub mod Owing

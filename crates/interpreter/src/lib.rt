@@ -1,16 +1,17 @@
 // Running a data set under a setup.
-mod walk;
-
-use programs::Program;
 use programs::Programs;
 use programs::Verdict;
+use progress::Ending;
+use progress::Progress;
+use progress::Task;
 use records::Listed;
+use refusals::Answer;
 use refusals::Place;
 use refusals::Refusal;
+use runs::Budget;
 use settings::State;
-use setup::Bed;
 use setup::Setup;
-use walk::run_program;
+use walking::run_program;
 ghost use mathlib.Core.Path.{_≡_};
 ghost use mathlib.Core.Bool.{true};
 ghost use lib.ListN.{length};
@@ -20,55 +21,9 @@ ghost use Rattle.setup.specs.Frame.{offset};
 ghost use Rattle.records.specs.Reading.{readAt};
 ghost use Rattle.programs.specs.Openings.{table};
 ghost use Rattle.programs.specs.Found.{subsOf};
-ghost use Rattle.interpreter.specs.declared.Budget.the-variants.{Whole, First};
-ghost use Rattle.interpreter.specs.Run.{firstOf, runTable, outcome};
-ghost use Rattle.interpreter.specs.Steps.{Opened, Gives, Owes, answerFor};
-
-// How much is run: the whole, or the first n executed blocks.
-pub enum Budget {
-    Whole,
-    First(u64),
-}
-
-// The answer, with the count of the records that stand in the list.
-pub enum Answer {
-    Done(usize),
-    Unfinished(usize),
-    Refused(Refusal, Place, usize),
-}
-
-// What stays as it is while a data set runs.
-pub struct Task {
-    pub bed: Bed,
-    pub programs: Programs,
-    pub skips: bool,
-}
-
-// What changes from block to block: the settings, the place in the list after the records, their count, and the blocks that
-// may still be executed.
-pub struct Progress {
-    pub state: State,
-    pub next: usize,
-    pub count: usize,
-    pub budget: Budget,
-}
-
-// How the walk through a program ends: at the program's end, by a return with what goes on, by the budget's end, or by a
-// refusal with its place. Each but the return tells the count of the records.
-pub enum Ending {
-    Ended(usize),
-    Returned(Progress),
-    Unfinished(usize),
-    Refused(Refusal, Place, usize),
-}
-
-// What a block leads to: the next block, at its byte; a subprogram, with the byte of the block to come back to; or the
-// walk's ending.
-pub enum Act {
-    Goes(Progress, usize),
-    Enters(Program, Progress, usize),
-    Halts(Ending),
-}
+ghost use Rattle.runs.specs.declared.Budget.the-variants.{Whole, First};
+ghost use Rattle.runs.specs.Run.{firstOf, runTable, outcome};
+ghost use Rattle.interpreter.specs.Owing.{Opened, Gives, Owes, answerFor};
 
 // The settings that a run starts with.
 fn first_state(setup: Setup) -> State
@@ -132,7 +87,7 @@ fn run_within(setup: Setup, bytes: &[u8], list: &mut [u8], budget: Budget) -> An
     if !lines::is_percent(bytes, 0) {
         return Answer::Refused(Refusal::FirstBlock, Place { block: 1, byte: 0 }, 0);
     }
-    let found = programs::find_programs(bytes);
+    let found = scanning::find_programs(bytes);
     let verdict = found.verdict;
     match verdict {
         Verdict::Refused(refusal, place) => Answer::Refused(refusal, place, 0),
@@ -158,5 +113,5 @@ pub fn run_blocks(setup: Setup, bytes: &[u8], list: &mut [u8], n: u64) -> Answer
 pub fn read_record(list: &[u8], at: usize) -> Listed
     ensures { λ r. ⌜ r ≡ readAt (now (list .entry)) at ⌝ }
 {
-    records::read(list, at)
+    loading::read(list, at)
 }

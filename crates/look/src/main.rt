@@ -72,7 +72,7 @@ fn show_bad_opening(refusal: Refusal, place: Place) {
 fn show_openings(s: &[u8])
     requires { ⌜ 0 < length (now s) ⌝ }
 {
-    let scanned = programs::find_programs(s);
+    let scanned = scanning::find_programs(s);
     let verdict = scanned.verdict;
     match verdict {
         Verdict::Refused(refusal, place) => show_bad_opening(refusal, place),
@@ -146,7 +146,7 @@ fn first_modes() -> Modes
 fn show_block(s: &[u8], at: usize, modes: Modes) -> Modes
     requires { ⌜ at < length (now s) ⌝ }
 {
-    let read = reading::read_words(s, after_slash(s, at), true, modes);
+    let read = gathering::read_words(s, after_slash(s, at), true, modes);
     let status = read.status;
     match status {
         Status::Unreadable(place) => {
@@ -185,7 +185,7 @@ fn judged(range: Speeds, read: Reading) -> Judged
     let words = read.words;
     let dwells = groups[7];
     let code = letters::block_code(misc, dwells, motion);
-    letters::judge(range, modes, code, words, read.count)
+    judging::judge(range, modes, code, words, read.count)
 }
 
 fn speeds() -> Speeds

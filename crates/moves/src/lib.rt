@@ -1,6 +1,4 @@
 // The motion of a block as a plan: it is tested as a whole before a byte of it is written.
-mod testing;
-mod writing;
 
 use codes::Cycle;
 use codes::Motion;
@@ -10,13 +8,7 @@ use points::Point;
 use records::Arc;
 use records::Record;
 use settings::State;
-pub use testing::plan_count;
-pub use testing::plan_fits;
-pub use testing::plan_holds;
-pub use testing::plan_room;
-pub use testing::plan_way;
 use words::Values;
-pub use writing::put_plan;
 ghost use mathlib.Core.Path.{_≡_};
 ghost use mathlib.Core.Bool.{Bool};
 ghost use Rattle.codes.specs.declared.Motion.the-variants.{G00, G01, G02, G03, Drilling};

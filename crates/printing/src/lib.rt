@@ -1,7 +1,6 @@
 // Prints what a run gives, for all programs: each record on a line, its mark, then its numbers in layout order, with one
 // space between; and the answer on a line.
 use codes::Plane;
-use interpreter::Answer;
 use lengths::Len;
 use libc::STDOUT_FILENO;
 use points::Point;
@@ -9,6 +8,7 @@ use records::Arc;
 use records::Fault;
 use records::Listed;
 use records::Record;
+use refusals::Answer;
 
 // A run's listing: the records that its answer counts in the list, then the answer.
 pub fn show_run(list: &[u8], answer: Answer) {
@@ -16,7 +16,7 @@ pub fn show_run(list: &[u8], answer: Answer) {
     show_answer(answer);
 }
 
-fn count_of(answer: Answer) -> usize {
+pub fn count_of(answer: Answer) -> usize {
     match answer {
         Answer::Done(count) => count,
         Answer::Unfinished(count) => count,
@@ -29,7 +29,7 @@ fn show_records(list: &[u8], count: usize) {
     let mut at: usize = 0;
     let mut left = count;
     while 0 < left {
-        let found = records::read(list, at);
+        let found = loading::read(list, at);
         let Listed::Next(r, next) = found else {
             return;
         };
@@ -68,7 +68,7 @@ pub fn show_count(n: u64) {
 pub fn show_list(list: &[u8]) {
     let mut at: usize = 0;
     loop {
-        let found = records::read(list, at);
+        let found = loading::read(list, at);
         match found {
             Listed::Next(r, next) => {
                 show_record(r);

@@ -4,11 +4,10 @@ use refusals::Refusal;
 ghost use mathlib.Core.Path.{_≡_};
 ghost use mathlib.Core.Bool.{true};
 ghost use Prim.Native.Nat.{_+_, _≤_, _<_};
-ghost use lib.ListN.{length, drop, getD};
-ghost use Rattle.lines.specs.Blocks.{textFrom, lengthFrom, blockFrom, blocksFrom};
-ghost use Rattle.programs.specs.Openings.{numberAfterO, isTaken, entryOf, scan, programsFrom, known};
-ghost use Rattle.programs.specs.Found.{IsDigits, subsOf, Ready, Entered, Empty};
-ghost use Rattle.programs.specs.Answers.{Gives, foundAs};
+ghost use lib.ListN.{length, drop};
+ghost use Rattle.lines.specs.Blocks.{textFrom};
+ghost use Rattle.programs.specs.Openings.{numberAfterO, isTaken, entryOf};
+ghost use Rattle.programs.specs.Found.{IsDigits, subsOf, Ready, Empty};
 
 // A program of the data: its number, and the block and byte that follow its opening.
 pub struct Program {
@@ -85,7 +84,7 @@ fn read_digits(s: &[u8], at: usize) -> Digits
 }
 
 // The number of the opening whose `O` stands just before a place.
-fn read_opening(s: &[u8], at: usize) -> Opening
+pub fn read_opening(s: &[u8], at: usize) -> Opening
     requires { ⌜ at ≤ length (now s) ⌝ }
     ensures { λ r. ⌜ r ≡ numberAfterO (textFrom (drop at (now (s .entry)))) ⌝ }
 {
@@ -131,7 +130,7 @@ fn is_taken(t: Programs, n: u64) -> bool
     false
 }
 
-fn entry_of(t: Programs, o: Opening) -> Entry
+pub fn entry_of(t: Programs, o: Opening) -> Entry
     requires { ⌜ Ready t ⌝ }
     ensures { λ r. ⌜ r ≡ entryOf (t .main) (subsOf t) o ⌝ }
 {
@@ -147,70 +146,8 @@ fn entry_of(t: Programs, o: Opening) -> Entry
     Entry::Enters(n)
 }
 
-fn with_program(t: Programs, p: Program) -> Programs
-    requires { ⌜ (Ready t) × (t .count < 10) ⌝ }
-    ensures { λ r. ⌜ Entered t p r ⌝ }
-{
-    let at = t.count;
-    let mut next = t;
-    next.subs[at] = p;
-    next.count = at + 1;
-    next
-}
-
-// The openings from a block on, whose number and place are given. Each byte of a block without an opening is passed once.
-fn scan_openings(s: &[u8], from: usize, number: usize, found: Programs) -> Scanned
-    requires { ⌜ (from ≤ length (now s)) × (number ≤ from + 1) ⌝ }
-    requires { ⌜ Ready found ⌝ }
-    ensures { λ r. ⌜ Gives (scan (found .main) (blocksFrom (now (s .entry)) number from) (subsOf found)) r ⌝ }
-{
-    let mut programs = found;
-    let mut at = from;
-    let mut block = number;
-    'blocks: while at < s.len() {
-        if lines::is_percent(s, at) {
-            break 'blocks;
-        }
-        if s[at] == b'O' {
-            match entry_of(programs, read_opening(s, at + 1)) {
-                Entry::Refuses(refusal) => {
-                    return Scanned {
-                        verdict: Verdict::Refused(refusal, Place { block, byte: at }),
-                        programs,
-                    };
-                }
-                Entry::Enters(n) => {
-                    block += 1;
-                    at = lines::next_block(s, at);
-                    programs = with_program(
-                        programs,
-                        Program {
-                            number: n,
-                            block,
-                            byte: at,
-                        },
-                    );
-                    continue 'blocks;
-                }
-            }
-        }
-        while at < s.len() {
-            let b = s[at];
-            at += 1;
-            if b == b'\n' {
-                block += 1;
-                continue 'blocks;
-            }
-        }
-    }
-    Scanned {
-        verdict: Verdict::Fine,
-        programs,
-    }
-}
-
 // A table with no subprogram yet.
-fn only_main(main: Program) -> Programs
+pub fn only_main(main: Program) -> Programs
     ensures { λ r. ⌜ Empty main r ⌝ }
 {
     Programs {
@@ -218,58 +155,4 @@ fn only_main(main: Program) -> Programs
         count: 0,
         subs: [main; 10],
     }
-}
-
-// The programs of data whose first block is `%` alone: the main program, under an opening in the second block or without
-// one, and the subprograms.
-pub fn find_programs(s: &[u8]) -> Scanned
-    requires { ⌜ 0 < length (now s) ⌝ }
-    ensures { λ r. ⌜ Gives (programsFrom (blockFrom 1 0 (now (s .entry))) (blocksFrom (now (s .entry)) 2 (0 + lengthFrom (now (s .entry))))) r ⌝ }
-{
-    let at = lines::next_block(s, 0);
-    if !lines::begins_with(s, at, b'O') {
-        let main = Program {
-            number: 0,
-            block: 2,
-            byte: at,
-        };
-        return scan_openings(s, at, 2, only_main(main));
-    }
-    match read_opening(s, at + 1) {
-        Opening::Bad => Scanned {
-            verdict: Verdict::Refused(Refusal::BadParameter, Place { block: 2, byte: at }),
-            programs: only_main(Program {
-                number: 0,
-                block: 2,
-                byte: at,
-            }),
-        },
-        Opening::Number(number) => {
-            let next = lines::next_block(s, at);
-            let main = Program {
-                number,
-                block: 3,
-                byte: next,
-            };
-            scan_openings(s, next, 3, only_main(main))
-        }
-    }
-}
-
-// The subprogram of a number. The main program is none.
-pub fn find(t: Programs, n: u64) -> Found
-    requires { ⌜ Ready t ⌝ }
-    ensures { λ r. ⌜ r ≡ foundAs (known (subsOf t) n) ⌝ }
-{
-    let subs = t.subs;
-    let count = t.count;
-    let mut i: usize = 0;
-    while i < count {
-        let p = subs[i];
-        if p.number == n {
-            return Found::At(p);
-        }
-        i += 1;
-    }
-    Found::Missing
 }

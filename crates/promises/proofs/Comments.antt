@@ -26,10 +26,10 @@ use Rattle.blocks.specs.declared.Control.{Control}
 use Rattle.blocks.specs.declared.Control.the-variants.{On, Call, Back, Stop}
 use Rattle.blocks.specs.Machine.{machineOf}
 use Rattle.blocks.specs.Exec.{Verdict, refused, accepted, exec, execWords, callsIn}
-use Rattle.interpreter.specs.Walk.{Job, Going, How, ended, returned, unfinished, Outcome, just, after, goingOn, thenRest, follow, obey, isSpent, isSkipped, slashLength, verdictOn, runBlock, reached, walk, blocksFor, callees}
-use Rattle.interpreter.specs.Walk as Walk
-use Rattle.interpreter.specs.Run.{firstOf, finishOf, runTable, runBlocks, outcome, recordsOf, answerOf}
-use Rattle.interpreter.specs.declared.Budget.{Budget}
+use Rattle.runs.specs.Walk.{Job, Going, How, ended, returned, unfinished, Outcome, just, after, goingOn, thenRest, follow, obey, isSpent, isSkipped, slashLength, verdictOn, runBlock, reached, walk, blocksFor, callees}
+use Rattle.runs.specs.Walk as Walk
+use Rattle.runs.specs.Run.{firstOf, finishOf, runTable, runBlocks, outcome, recordsOf, answerOf}
+use Rattle.runs.specs.declared.Budget.{Budget}
 use Rattle.promises.specs.Comments.{MayBecome, Replaced, SameRun}
 
 -- ---- one block

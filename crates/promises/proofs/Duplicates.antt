@@ -24,10 +24,10 @@ use Rattle.programs.specs.Openings.{openingOf, placeOf, programAfter, Table, re
 use Rattle.programs.proofs.Entries.{taken-main}
 use Rattle.setup.specs.declared.Setup.{Setup}
 use Rattle.setup.specs.Limits.{validSetup}
-use Rattle.interpreter.specs.Walk.{Outcome, just}
-use Rattle.interpreter.specs.Walk as Walk
-use Rattle.interpreter.specs.Run.{nowhere, runTable, runBlocks, outcome, recordsOf, answerBy, answerOf}
-use Rattle.interpreter.specs.declared.Budget.{Budget}
+use Rattle.runs.specs.Walk.{Outcome, just}
+use Rattle.runs.specs.Walk as Walk
+use Rattle.runs.specs.Run.{nowhere, runTable, runBlocks, outcome, recordsOf, answerBy, answerOf}
+use Rattle.runs.specs.declared.Budget.{Budget}
 use Rattle.promises.specs.Duplicates.{openingsIn, openingsOf, percentBegins, mainOpens, mostOpenings, Twice, Early, tooLong, badSetup, firstBlock, opening, earlier, NoList, RefusedEarly, allDifferent, InOrder}
 use Rattle.promises.proofs.Openings.{scanned, mainBy, tableBy, programs-openings, taken-more, taken-still, taken-now, entry-duplicate, entry-enters, entry-refusal, entry-own, number-some}
 

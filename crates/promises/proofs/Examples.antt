@@ -18,11 +18,11 @@ use Rattle.records.specs.Layout.{listBytes}
 use Rattle.records.specs.Reading.{trail, readAll}
 use Rattle.setup.specs.declared.Setup.{Setup}
 use Rattle.setup.specs.Examples.{setupT}
-use Rattle.interpreter.specs.Examples.{roomT, sample, sampleRecords}
-use Rattle.interpreter.specs.Run.{answerOf, recordsOf}
-use Rattle.interpreter.specs.declared.Answer.the-variants.{Done, Refused}
-use Rattle.interpreter.specs.declared.Budget.{Budget}
-use Rattle.interpreter.specs.declared.Budget.the-variants.{Whole, First}
+use Rattle.runs.specs.Examples.{roomT, sample, sampleRecords}
+use Rattle.runs.specs.Run.{answerOf, recordsOf}
+use Rattle.refusals.specs.declared.Answer.the-variants.{Done, Refused}
+use Rattle.runs.specs.declared.Budget.{Budget}
+use Rattle.runs.specs.declared.Budget.the-variants.{Whole, First}
 use Rattle.promises.specs.Duplicates.{Twice, NoList, openingsOf}
 use Rattle.promises.specs.Comments.{MayBecome, SameRun}
 use Rattle.promises.specs.ReadBack.{ReadsBack}

@@ -28,10 +28,10 @@ use Rattle.blocks.specs.Exec.{callsIn}
 use Rattle.blocks.specs.Reach.{Reachable}
 use Rattle.blocks.specs.Keeping.{Keeps}
 use Rattle.blocks.proofs.Accepting.{accepted-kept}
-use Rattle.interpreter.specs.Walk.{Job, Going, just, goingOn, slashLength, verdictOn}
-use Rattle.interpreter.specs.Walk as Walk
-use Rattle.interpreter.specs.Run.{nowhere, firstOf, finishOf, runTable, runBlocks, outcome}
-use Rattle.interpreter.specs.declared.Budget.{Budget}
+use Rattle.runs.specs.Walk.{Job, Going, just, goingOn, slashLength, verdictOn}
+use Rattle.runs.specs.Walk as Walk
+use Rattle.runs.specs.Run.{nowhere, firstOf, finishOf, runTable, runBlocks, outcome}
+use Rattle.runs.specs.declared.Budget.{Budget}
 use Rattle.promises.proofs.Walks.{Leads, EachBlock, good-run}
 
 -- ---- lists of records

@@ -20,10 +20,10 @@ use Rattle.records.specs.Writing.{ListShort}
 use Rattle.records.proofs.Laid.{list-length}
 use Rattle.records.proofs.Back.{written-back, whole-list}
 use Rattle.cycles.proofs.Written.{moved-room}
-use Rattle.interpreter.specs.Walk.{How, ended, returned, unfinished, just}
-use Rattle.interpreter.specs.Walk as Walk
-use Rattle.interpreter.specs.Run.{nowhere, outcome, recordsOf, answerBy, answerOf}
-use Rattle.interpreter.specs.declared.Budget.{Budget}
+use Rattle.runs.specs.Walk.{How, ended, returned, unfinished, just}
+use Rattle.runs.specs.Walk as Walk
+use Rattle.runs.specs.Run.{nowhere, outcome, recordsOf, answerBy, answerOf}
+use Rattle.runs.specs.declared.Budget.{Budget}
 use Rattle.promises.specs.ReadBack.{countIn, ReadsBack}
 use Rattle.promises.proofs.Listing.{fine-outcome}
 

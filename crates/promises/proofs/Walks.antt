@@ -11,7 +11,7 @@ use Rattle.settings.specs.declared.State.{State}
 use Rattle.blocks.specs.declared.Control.{Control}
 use Rattle.blocks.specs.declared.Control.the-variants.{On, Call, Back, Stop}
 use Rattle.blocks.specs.Exec.{Verdict, refused, accepted}
-use Rattle.interpreter.specs.Walk.{Job, Going, How, ended, returned, unfinished, refusedAt, Outcome, just, after, goingOn, thenRest, follow, obey, isSpent, isSkipped, verdictOn, runBlock, reached, walk, blocksFor, callees}
+use Rattle.runs.specs.Walk.{Job, Going, How, ended, returned, unfinished, refusedAt, Outcome, just, after, goingOn, thenRest, follow, obey, isSpent, isSkipped, verdictOn, runBlock, reached, walk, blocksFor, callees}
 
 abbrev comesBack : How → Bool
 comesBack ended = false

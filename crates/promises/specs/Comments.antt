@@ -9,8 +9,8 @@ use lib.ListN.{length, getD}
 use Rattle.terms.specs.Terms.{byte}
 use Rattle.gaps.specs.Comments.{insideAt}
 use Rattle.setup.specs.declared.Setup.{Setup}
-use Rattle.interpreter.specs.Run.{answerOf, recordsOf}
-use Rattle.interpreter.specs.declared.Budget.{Budget}
+use Rattle.runs.specs.Run.{answerOf, recordsOf}
+use Rattle.runs.specs.declared.Budget.{Budget}
 
 -- A byte inside a comment, and another that may take its place. The test says whether a comment is open where the bytes begin.
 pub record MayBecome (open′ : Bool) (x : List ℕ) (i c : ℕ) : Type 0 where

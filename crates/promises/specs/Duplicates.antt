@@ -15,9 +15,9 @@ use Rattle.lines.specs.Blocks.{Block, blocksOf, closes, opens}
 use Rattle.programs.specs.Openings.{openingOf, placeOf, most}
 use Rattle.programs.specs.declared.Opening.the-variants.{Number}
 use Rattle.setup.specs.declared.Setup.{Setup}
-use Rattle.interpreter.specs.Run.{nowhere, answerOf, recordsOf}
-use Rattle.interpreter.specs.declared.Answer.the-variants.{Refused}
-use Rattle.interpreter.specs.declared.Budget.{Budget}
+use Rattle.runs.specs.Run.{nowhere, answerOf, recordsOf}
+use Rattle.refusals.specs.declared.Answer.the-variants.{Refused}
+use Rattle.runs.specs.declared.Budget.{Budget}
 
 -- A block in front of openings: "A later `%` alone ends the data; nothing after it is read.", and an opening is one more.
 unfoldable pub withBlock : Bool → Bool → Block → List Block → List Block

@@ -9,8 +9,8 @@ use Rattle.records.specs.declared.Record.{Record}
 use Rattle.records.specs.declared.Listed.the-variants.{End}
 use Rattle.records.specs.Layout.{listBytes}
 use Rattle.records.specs.Reading.{trail, after, readAll}
-use Rattle.interpreter.specs.declared.Answer.{Answer}
-use Rattle.interpreter.specs.declared.Answer.the-variants.{Done, Unfinished, Refused}
+use Rattle.refusals.specs.declared.Answer.{Answer}
+use Rattle.refusals.specs.declared.Answer.the-variants.{Done, Unfinished, Refused}
 
 -- the count of records that an answer names
 unfoldable pub countIn : Answer → ℕ

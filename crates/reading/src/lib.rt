@@ -3,20 +3,16 @@ use codes::Code;
 use codes::Misc;
 use gaps::Comment;
 use settings::Modes;
-use words::Number;
 use words::Numbered;
-use words::Sign;
 use words::Word;
 ghost use mathlib.Core.Path.{_≡_};
-ghost use mathlib.Core.Bool.{_||_};
 ghost use Prim.Native.Nat.{_+_, _≤_, _<_};
 ghost use lib.ListN.{length, drop, getD};
 ghost use Rattle.lines.specs.Blocks.{textFrom};
 ghost use Rattle.words.specs.Words.{itemAt};
-ghost use Rattle.letters.specs.Letters.{isG, isMisc, codeIn, miscIn, standsAlone, wrongProgram};
+ghost use Rattle.letters.specs.Letters.{codeIn, miscIn, standsAlone, wrongProgram};
 ghost use Rattle.reading.specs.Items.{placed, wordsAt, statusAfter};
-ghost use Rattle.reading.specs.Seen.{indexOf, Tells, TellsG, badMisc, nothingSeen, seenWith};
-ghost use Rattle.reading.specs.Whole.{IsRead};
+ghost use Rattle.reading.specs.Seen.{indexOf, Tells, TellsG, badMisc};
 
 // What begins at a place of a block: a blank or a comment, or a word, each with the place after it; or nothing readable.
 pub enum Item {
@@ -52,7 +48,7 @@ pub struct Reading {
     pub end: usize,
 }
 
-fn item_at(s: &[u8], i: usize) -> Item
+pub fn item_at(s: &[u8], i: usize) -> Item
     requires { ⌜ i < length (now s) ⌝ }
     ensures { λ r. ⌜ r ≡ placed i (itemAt i (getD (now (s .entry)) i 0) (textFrom (drop (i + 1) (now (s .entry))))) ⌝ }
 {
@@ -76,7 +72,7 @@ fn item_at(s: &[u8], i: usize) -> Item
     if b'Z' < b {
         return Item::Unreadable;
     }
-    let Numbered::Is(number, taken) = words::read_number(s, next, s.len()) else {
+    let Numbered::Is(number, taken) = numbers::read_number(s, next, s.len()) else {
         return Item::Unreadable;
     };
     let word = Word {
@@ -88,7 +84,7 @@ fn item_at(s: &[u8], i: usize) -> Item
 }
 
 // What the rest of a block makes of a word that may not stand: an unreadable byte or number on its right goes first.
-fn status_after(s: &[u8], from: usize, wrong: usize) -> Status
+pub fn status_after(s: &[u8], from: usize, wrong: usize) -> Status
     requires { ⌜ from ≤ length (now s) ⌝ }
     ensures { λ r. ⌜ r ≡ statusAfter wrong (wordsAt (now (s .entry)) from) ⌝ }
 {
@@ -112,7 +108,7 @@ fn status_after(s: &[u8], from: usize, wrong: usize) -> Status
 }
 
 // The place of a letter among the known ones, in the order of the alphabet; 13 for any other byte.
-fn letter_index(b: u8) -> usize
+pub fn letter_index(b: u8) -> usize
     ensures { λ r. ⌜ r ≡ indexOf b ⌝ }
 {
     match b {
@@ -134,7 +130,7 @@ fn letter_index(b: u8) -> usize
 }
 
 // A code with a sign or a point is no code.
-fn code_in(w: Word) -> Code
+pub fn code_in(w: Word) -> Code
     ensures { λ r. ⌜ r ≡ codeIn w ⌝ }
 {
     let n = w.number;
@@ -145,7 +141,7 @@ fn code_in(w: Word) -> Code
     }
 }
 
-fn misc_in(w: Word) -> Misc
+pub fn misc_in(w: Word) -> Misc
     ensures { λ r. ⌜ r ≡ miscIn w ⌝ }
 {
     let n = w.number;
@@ -205,7 +201,7 @@ fn is_bad_code(seen: Seen, c: Code) -> bool
 }
 
 // Whether a word may not stand after what was read.
-fn may_not_stand(main: bool, seen: Seen, w: Word) -> bool
+pub fn may_not_stand(main: bool, seen: Seen, w: Word) -> bool
     ensures { λ r. ⌜ Tells main seen w r ⌝ }
 {
     let k = letter_index(w.letter);
@@ -223,134 +219,4 @@ fn may_not_stand(main: bool, seen: Seen, w: Word) -> bool
         return is_bad_misc(main, letters[1], misc_in(w));
     }
     false
-}
-
-// One word more, which may stand.
-fn with_word(seen: Seen, w: Word) -> Seen
-    requires { ⌜ indexOf (w .letter) < 13 ⌝ }
-    ensures { λ r. ⌜ r ≡ seenWith seen w ⌝ }
-{
-    let k = letter_index(w.letter);
-    let mut letters = seen.letters;
-    letters[k] = true;
-    let mut groups = seen.groups;
-    let misc = seen.misc;
-    let modes = seen.modes;
-    if w.letter == b'G' {
-        let c = code_in(w);
-        let g = codes::group_of(c) as usize;
-        groups[g] = true;
-        let switched = settings::switched(modes, c);
-        return Seen {
-            letters,
-            groups,
-            misc,
-            modes: switched,
-        };
-    }
-    if w.letter == b'M' {
-        let named = misc_in(w);
-        return Seen {
-            letters,
-            groups,
-            misc: named,
-            modes,
-        };
-    }
-    Seen {
-        letters,
-        groups,
-        misc,
-        modes,
-    }
-}
-
-fn nothing_seen(modes: Modes) -> Seen
-    ensures { λ r. ⌜ r ≡ nothingSeen modes ⌝ }
-{
-    Seen {
-        letters: [false; 13],
-        groups: [false; 8],
-        misc: Misc::Other,
-        modes,
-    }
-}
-
-// A G or M word is kept as a code and not as a word.
-fn is_coded(w: Word) -> bool
-    ensures { λ r. ⌜ r ≡ (isG w || isMisc w) ⌝ }
-{
-    (w.letter == b'G') | (w.letter == b'M')
-}
-
-// What fills a place that holds no word: no word has the letter 0.
-fn no_word() -> Word
-    ensures { λ r. ⌜ r .letter ≡ 0 ⌝ }
-{
-    let number = Number {
-        sign: Sign::Plain,
-        point: false,
-        digits: 0,
-        decimals: 0,
-    };
-    Word {
-        letter: 0,
-        number,
-        at: 0,
-    }
-}
-
-// The words of the block's text from a place on, under the modes that held before.
-pub fn read_words(s: &[u8], from: usize, main: bool, modes: Modes) -> Reading
-    requires { ⌜ from ≤ length (now s) ⌝ }
-    ensures { λ r. ⌜ IsRead main modes (now (s .entry)) from r ⌝ }
-{
-    let mut words = [no_word(); 13];
-    let mut count: usize = 0;
-    let mut seen = nothing_seen(modes);
-    let mut i = from;
-    loop {
-        if lines::text_ends(s, i) {
-            return Reading {
-                status: Status::Fine,
-                seen,
-                count,
-                words,
-                end: i,
-            };
-        }
-        match item_at(s, i) {
-            Item::Unreadable => {
-                return Reading {
-                    status: Status::Unreadable(i),
-                    seen,
-                    count,
-                    words,
-                    end: i,
-                };
-            }
-            Item::Gap(next) => {
-                i = next;
-            }
-            Item::Says(w, next) => {
-                if may_not_stand(main, seen, w) {
-                    let status = status_after(s, next, w.at);
-                    return Reading {
-                        status,
-                        seen,
-                        count,
-                        words,
-                        end: i,
-                    };
-                }
-                i = next;
-                seen = with_word(seen, w);
-                if is_coded(w) {
-                    continue;
-                }
-                words[count] = w;
-                count += 1;
-            }
-        }
-    }
 }

@@ -14,10 +14,10 @@ use Rattle.codes.specs.declared.Plane.{Plane}
 use Rattle.codes.specs.declared.Plane.the-variants.{G17, G18, G19}
 use Rattle.records.specs.declared.Kind.{Kind}
 use Rattle.records.specs.declared.Kind.the-variants.{RP as rp, LN as ln, AR as ar, AL as al, DW as dw, SP as sp, SO as so, PA as pa, EN as en}
-use Rattle.records.specs.declared.reading.KindFound.{KindFound}
-use Rattle.records.specs.declared.reading.KindFound.the-variants.{Mark, NoMark}
-use Rattle.records.specs.declared.reading.PlaneFound.{PlaneFound}
-use Rattle.records.specs.declared.reading.PlaneFound.the-variants.{Byte, NoByte}
+use Rattle.records.specs.declared.KindFound.{KindFound}
+use Rattle.records.specs.declared.KindFound.the-variants.{Mark, NoMark}
+use Rattle.records.specs.declared.PlaneFound.{PlaneFound}
+use Rattle.records.specs.declared.PlaneFound.the-variants.{Byte, NoByte}
 use Rattle.records.specs.Layout.{
   markOf,
   hasPlane,

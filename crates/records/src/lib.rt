@@ -1,16 +1,17 @@
 // The record list that the motor card and the viewer read.
 mod displacing;
 mod kinds;
-mod reading;
-mod writing;
 
 use codes::Plane;
 pub use displacing::displaced;
+pub use kinds::has_plane;
+pub use kinds::head_length;
+pub use kinds::kind_length;
+pub use kinds::kind_of;
+pub use kinds::mark_of;
 pub use kinds::room;
 use lengths::Len;
 use points::Point;
-pub use reading::read;
-pub use writing::put;
 
 // What AR and AL hold: the plane, the end, the centre by the plane's first and second axis, and the feed.
 pub struct Arc {
@@ -59,4 +60,16 @@ pub enum Listed {
     Next(Record, usize),
     End,
     Faulty(Fault, usize),
+}
+
+// A kind by its mark, or none.
+pub enum KindFound {
+    Mark(Kind),
+    NoMark,
+}
+
+// A plane by its byte, or none.
+pub enum PlaneFound {
+    Byte(Plane),
+    NoByte,
 }

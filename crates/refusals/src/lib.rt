@@ -1,4 +1,4 @@
-// The sixteen refusals of document 01's table, in its order, and the place that a refusal names.
+// The sixteen refusals of document 01's table, in its order, the place that a refusal names, and what a run answers.
 ghost use mathlib.Core.Path.{_≡_};
 ghost use Rattle.refusals.specs.Numbers.{numberOf};
 
@@ -25,6 +25,13 @@ pub enum Refusal {
 pub struct Place {
     pub block: usize,
     pub byte: usize,
+}
+
+// What a run answers, with the count of the records that stand in the list.
+pub enum Answer {
+    Done(usize),
+    Unfinished(usize),
+    Refused(Refusal, Place, usize),
 }
 
 // The number of a refusal in document 01's table.

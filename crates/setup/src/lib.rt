@@ -7,8 +7,13 @@ ghost use mathlib.Core.Bool.{true};
 ghost use mathlib.Core.List.{map};
 ghost use Rattle.terms.specs.Terms.{all, between, within};
 ghost use Rattle.lengths.specs.Units.{len};
-ghost use Rattle.setup.specs.Limits.{axisFits, travelFits, axesWithin, offsetsFit, feedFits, speedsFit, switchFits, validSetup};
+ghost use Rattle.setup.specs.Limits.{axisFits, travelFits, offsetLimit, axesWithin, offsetsFit, feedFits, rangeFits, speedFits, speedsFit, switchFits, validSetup};
 ghost use Rattle.setup.specs.Frame.{pointOf, startOf, travelOf, bedOf, switchOn};
+
+// How far from 0 an end of the travel may be, and how far the common offset and an origin.
+pub const TRAVEL_LIMIT: u64 = 100_000_000;
+
+pub const OFFSET_LIMIT: u64 = 1_000_000_000;
 
 // One number for each axis.
 pub struct Axes {
@@ -40,7 +45,7 @@ pub struct Bed {
 }
 
 // The numbers of three axes as lengths, so that what follows compares no raw number.
-fn point_of(a: Axes) -> Point
+pub fn point_of(a: Axes) -> Point
     ensures { λ r. ⌜ r ≡ pointOf a ⌝ }
 {
     Point {
@@ -50,13 +55,13 @@ fn point_of(a: Axes) -> Point
     }
 }
 
-fn is_within(n: u64, v: Len) -> bool
+pub fn is_within(n: u64, v: Len) -> bool
     ensures { λ r. ⌜ r ≡ within n (v .v) ⌝ }
 {
     v.apart(Len::zero()) <= n
 }
 
-fn is_between(low: Len, high: Len, v: Len) -> bool
+pub fn is_between(low: Len, high: Len, v: Len) -> bool
     ensures { λ r. ⌜ r ≡ between (low .v) (high .v) (v .v) ⌝ }
 {
     low.at_most(v) & v.at_most(high)
@@ -66,8 +71,8 @@ fn axis_fits(low: Len, high: Len, start: Len) -> bool
     ensures { λ r. ⌜ r ≡ axisFits (low .v) (high .v) (start .v) ⌝ }
 {
     low.at_most(high)
-        & is_within(100_000_000, low)
-        & is_within(100_000_000, high)
+        & is_within(TRAVEL_LIMIT, low)
+        & is_within(TRAVEL_LIMIT, high)
         & is_between(low, high, start)
 }
 
@@ -82,7 +87,7 @@ fn travel_fits(s: Setup) -> bool
         & axis_fits(low.z, high.z, start.z)
 }
 
-fn axes_within(n: u64, a: Axes) -> bool
+pub fn axes_within(n: u64, a: Axes) -> bool
     ensures { λ r. ⌜ r ≡ axesWithin n a ⌝ }
 {
     let p = point_of(a);
@@ -90,12 +95,12 @@ fn axes_within(n: u64, a: Axes) -> bool
 }
 
 fn origins_fit(origins: [Axes; 6]) -> bool
-    ensures { λ r. ⌜ r ≡ all (axesWithin 1_000_000_000) origins ⌝ }
+    ensures { λ r. ⌜ r ≡ all (axesWithin offsetLimit) origins ⌝ }
 {
     let mut i = 0;
     while i < 6 {
         let origin = origins[i];
-        if !axes_within(1_000_000_000, origin) {
+        if !axes_within(OFFSET_LIMIT, origin) {
             return false;
         }
         i += 1;
@@ -107,7 +112,7 @@ fn offsets_fit(s: Setup) -> bool
     ensures { λ r. ⌜ r ≡ offsetsFit s ⌝ }
 {
     let origins = s.origins;
-    axes_within(1_000_000_000, s.exofs) & origins_fit(origins)
+    axes_within(OFFSET_LIMIT, s.exofs) & origins_fit(origins)
 }
 
 // The five numbers that belong to no axis, as lengths.
@@ -141,26 +146,35 @@ fn switch_of(s: Setup) -> Len
     Len::of(s.skip)
 }
 
-fn feed_fits(s: Setup) -> bool
+pub fn feed_fits(s: Setup) -> bool
     ensures { λ r. ⌜ r ≡ feedFits s ⌝ }
 {
     is_between(Len::of_count(1), Len::of_count(1_000_000_000), feed_of(s))
 }
 
-fn speeds_fit(s: Setup) -> bool
-    ensures { λ r. ⌜ r ≡ speedsFit s ⌝ }
+pub fn range_fits(s: Setup) -> bool
+    ensures { λ r. ⌜ r ≡ rangeFits s ⌝ }
 {
     let one = Len::of_count(1);
     let most = Len::of_count(99_999);
     let lowest = lowest_of(s);
     let highest = highest_of(s);
-    is_between(one, most, lowest)
-        & is_between(one, most, highest)
-        & lowest.at_most(highest)
-        & is_between(lowest, highest, speed_of(s))
+    is_between(one, most, lowest) & is_between(one, most, highest) & lowest.at_most(highest)
 }
 
-fn switch_fits(s: Setup) -> bool
+pub fn speed_fits(s: Setup) -> bool
+    ensures { λ r. ⌜ r ≡ speedFits s ⌝ }
+{
+    is_between(lowest_of(s), highest_of(s), speed_of(s))
+}
+
+fn speeds_fit(s: Setup) -> bool
+    ensures { λ r. ⌜ r ≡ speedsFit s ⌝ }
+{
+    range_fits(s) & speed_fits(s)
+}
+
+pub fn switch_fits(s: Setup) -> bool
     ensures { λ r. ⌜ r ≡ switchFits s ⌝ }
 {
     is_between(Len::zero(), Len::of_count(1), switch_of(s))

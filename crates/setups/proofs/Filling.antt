@@ -16,18 +16,18 @@ use Rattle.lengths.specs.declared.Len.{Len}
 use Rattle.lines.proofs.Lines.{at-place}
 use Rattle.setup.specs.declared.Setup.{Setup}
 use Rattle.words.specs.Numbers.{run, signOf, signLength}
-use Rattle.setups.specs.Texts.{next, inWord, wordAt, sameBytes, isLettered}
-use Rattle.setups.specs.Figures.{digitsIn, worthBy, worthOf}
+use Rattle.texts.specs.Texts.{next, inWord, wordAt, sameBytes, isLettered}
+use Rattle.texts.specs.Figures.{digitsIn, worthBy, worthOf}
 use Rattle.setups.specs.Setups.{names, plan, isNamed, faultOf, nameAt, placed, numberAt, numberBy, entryAt, Numbers, these, faulty, prepend, entryThen, ended, numbersFrom, setupOf, refused, answered, setupIn}
-use Rattle.setups.specs.declared.Wrong.{Wrong}
-use Rattle.setups.specs.declared.Wrong.the-variants.{Nothing, OtherName, TooFew, TooMuch}
-use Rattle.setups.specs.declared.Worth.{Worth}
-use Rattle.setups.specs.declared.Worth.the-variants.{Fit, Unfit}
+use Rattle.texts.specs.declared.Wrong.{Wrong}
+use Rattle.texts.specs.declared.Wrong.the-variants.{Nothing, OtherName, TooFew, TooMuch}
+use Rattle.texts.specs.declared.Worth.{Worth}
+use Rattle.texts.specs.declared.Worth.the-variants.{Fit, Unfit}
 use Rattle.setups.specs.declared.Passed.{Passed}
 use Rattle.setups.specs.declared.Passed.the-variants.{To, Not}
 use Rattle.setups.specs.declared.Entry.the-variants.{Is, Bad}
 use Rattle.setups.specs.declared.Reading.{Reading}
-use Rattle.setups.proofs.Places.{empty, standing, nothing-there, same-lengths}
+use Rattle.texts.proofs.Places.{empty, standing, nothing-there, same-lengths}
 
 -- ---- the first word
 

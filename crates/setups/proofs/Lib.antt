@@ -1,4 +1,1 @@
-pub mod Places
-pub mod Worths
 pub mod Filling
-pub mod Opened

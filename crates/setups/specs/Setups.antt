@@ -12,12 +12,12 @@ use Rattle.lengths.specs.declared.Len.{Len}
 use Rattle.lengths.specs.Units.{len}
 use Rattle.setup.specs.declared.Axes.{Axes}
 use Rattle.setup.specs.declared.Setup.{Setup}
-use Rattle.setups.specs.Texts.{next, wordAt, sameBytes, isLettered}
-use Rattle.setups.specs.Figures.{worthOf}
-use Rattle.setups.specs.declared.Wrong.{Wrong}
-use Rattle.setups.specs.declared.Wrong.the-variants.{Nothing, OtherName, TooFew, TooMuch}
-use Rattle.setups.specs.declared.Worth.{Worth}
-use Rattle.setups.specs.declared.Worth.the-variants.{Fit, Unfit}
+use Rattle.texts.specs.Texts.{next, wordAt, sameBytes, isLettered}
+use Rattle.texts.specs.Figures.{worthOf}
+use Rattle.texts.specs.declared.Wrong.{Wrong}
+use Rattle.texts.specs.declared.Wrong.the-variants.{Nothing, OtherName, TooFew, TooMuch}
+use Rattle.texts.specs.declared.Worth.{Worth}
+use Rattle.texts.specs.declared.Worth.the-variants.{Fit, Unfit}
 use Rattle.setups.specs.declared.Passed.{Passed}
 use Rattle.setups.specs.declared.Passed.the-variants.{To, Not}
 use Rattle.setups.specs.declared.Entry.{Entry}

@@ -1,4 +1,4 @@
--- `execution::exec` meets its contract. Assumes nothing.
+-- `steps::exec` meets its contract. Assumes nothing.
 use mathlib.Core.Path.{sym, _∙_, ap}
 use native.Mathlib.Omega.{arith}
 use Prim.Native.Nat.{_-_}
@@ -9,7 +9,7 @@ use Rattle.programs.specs.Found.{subsOf}
 use Rattle.reading.specs.Items.{wordsAt}
 use Rattle.blocks.specs.Machine.{machineOf}
 use Rattle.blocks.specs.Exec.{callsIn, exec}
-use Rattle.execution.proofs.Verdicts.{does-refused, does-as, unreadable-stops, standing-stops, Stands, stands}
+use Rattle.steps.proofs.Verdicts.{does-refused, does-as, unreadable-stops, standing-stops, Stands, stands}
 use borrow.Author.Needs.{needs}
 use Rattle.execution.proofs.exec.Statement.{statement}
 use Rattle.execution.proofs.exec.Tie as tie

@@ -1,13 +1,13 @@
--- `execution::hear` meets its contract. Assumes nothing.
+-- `steps::hear` meets its contract. Assumes nothing.
 use mathlib.Core.Path.{sym, _∙_, ap}
 use native.Mathlib.Omega.{arith}
 use Rattle.refusals.specs.declared.Refusal.the-variants.{AddressUndefined, BadParameter}
 use Rattle.programs.specs.Found.{subsOf}
 use Rattle.blocks.specs.Machine.{machineOf}
 use Rattle.blocks.specs.Exec.{callsIn, saidBy}
-use Rattle.execution.specs.Steps.{judgedFrom}
-use Rattle.execution.proofs.Verdicts.{does-refused, does-as, values-past, unused-stops, bad-stops}
-use Rattle.execution.proofs.Hearing.{judged-is, said-is, steady}
+use Rattle.steps.specs.Steps.{judgedFrom}
+use Rattle.steps.proofs.Verdicts.{does-refused, does-as, values-past, unused-stops, bad-stops}
+use Rattle.steps.proofs.Hearing.{judged-is, said-is, steady}
 use borrow.Author.Needs.{needs}
 use Rattle.execution.proofs.hear.Statement.{statement}
 use Rattle.execution.proofs.hear.Tie as tie

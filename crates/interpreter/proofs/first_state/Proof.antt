@@ -1,7 +1,7 @@
 -- `interpreter::first_state` meets its contract. Assumes nothing.
 use mathlib.Core.Path.{_∙_}
 use borrow.Author.Needs.{needs}
-use Rattle.interpreter.specs.Run.{firstOf}
+use Rattle.runs.specs.Run.{firstOf}
 use Rattle.interpreter.proofs.first_state.Statement.{statement}
 use Rattle.interpreter.proofs.first_state.Tie as tie
 

@@ -1,6 +1,6 @@
 -- `interpreter::run` meets its contract. Assumes nothing.
 use borrow.Author.Needs.{needs}
-use Rattle.interpreter.specs.declared.Budget.the-variants.{Whole}
+use Rattle.runs.specs.declared.Budget.the-variants.{Whole}
 use Rattle.interpreter.proofs.Starting.{owed}
 use Rattle.interpreter.proofs.run.Statement.{statement}
 use Rattle.interpreter.proofs.run.Tie as tie

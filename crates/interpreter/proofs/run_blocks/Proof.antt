@@ -1,6 +1,6 @@
 -- `interpreter::run_blocks` meets its contract. Assumes nothing.
 use borrow.Author.Needs.{needs}
-use Rattle.interpreter.specs.declared.Budget.the-variants.{First}
+use Rattle.runs.specs.declared.Budget.the-variants.{First}
 use Rattle.interpreter.proofs.Starting.{owed}
 use Rattle.interpreter.proofs.run_blocks.Statement.{statement}
 use Rattle.interpreter.proofs.run_blocks.Tie as tie

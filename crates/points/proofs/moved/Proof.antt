@@ -15,7 +15,7 @@ plus-requires-3 c κs = search needs
 
 returns : tie.Need-returns
 unfolding moved
-returns c = record { is = cc; x = c .before .before .plus .ensures; y = c .before .plus2 .ensures; z = c .plus3 .ensures }
+returns c = record { is = rw (c .before .before .plus .ensures .is, c .before .plus2 .ensures .is, c .plus3 .ensures .is); x = c .before .before .plus .ensures; y = c .before .plus2 .ensures; z = c .plus3 .ensures }
 
 pub moved-spec : {M : Type 1} → statement M
 moved-spec = tie.close (tie.spec plus-requires plus-requires-2 plus-requires-3 returns)

@@ -15,7 +15,7 @@ minus-requires-3 c κs = search needs
 
 returns : tie.Need-returns
 unfolding movedBack
-returns c = record { is = cc; x = c .before .before .minus .ensures; y = c .before .minus2 .ensures; z = c .minus3 .ensures }
+returns c = record { is = rw (c .before .before .minus .ensures .is, c .before .minus2 .ensures .is, c .minus3 .ensures .is); x = c .before .before .minus .ensures; y = c .before .minus2 .ensures; z = c .minus3 .ensures }
 
 pub moved-back-spec : {M : Type 1} → statement M
 moved-back-spec = tie.close (tie.spec minus-requires minus-requires-2 minus-requires-3 returns)

@@ -1,62 +1,18 @@
--- `setup::speeds_fit` meets its contract: its four tests are the definition's, in order. Assumes nothing.
+-- `setup::speeds_fit` meets its contract: its two tests are the definition's. Assumes nothing.
 use Rattle.setup.specs.Limits.{speedsFit}
 use borrow.Author.Needs.{needs}
 use Rattle.setup.proofs.speeds_fit.Statement.{statement}
 use Rattle.setup.proofs.speeds_fit.Tie as tie
 
-of-count-requires : tie.Need-of-count-requires
-of-count-requires c κs = search needs
+range-fits-requires : tie.Need-range-fits-requires
+range-fits-requires c κs = search needs
 
-of-count-requires-2 : tie.Need-of-count-requires-2
-of-count-requires-2 c κs = search needs
-
-lowest-of-requires : tie.Need-lowest-of-requires
-lowest-of-requires c κs = search needs
-
-highest-of-requires : tie.Need-highest-of-requires
-highest-of-requires c κs = search needs
-
-is-between-requires : tie.Need-is-between-requires
-is-between-requires c κs = search needs
-
-is-between-requires-2 : tie.Need-is-between-requires-2
-is-between-requires-2 c κs = search needs
-
-at-most-requires : tie.Need-at-most-requires
-at-most-requires c κs = search needs
-
-speed-of-requires : tie.Need-speed-of-requires
-speed-of-requires c κs = search needs
-
-is-between-requires-3 : tie.Need-is-between-requires-3
-is-between-requires-3 c κs = search needs
+speed-fits-requires : tie.Need-speed-fits-requires
+speed-fits-requires c κs = search needs
 
 returns : tie.Need-returns
 unfolding speedsFit
-returns c =
-    rw (
-      c .before .before .before .before .is-between .ensures,
-      c .before .before .before .is-between2 .ensures,
-      c .before .before .at-most .ensures,
-      c .is-between3 .ensures,
-      c .before .before .before .before .before .before .before .before .of-count .ensures .is,
-      c .before .before .before .before .before .before .before .of-count2 .ensures .is,
-      c .before .before .before .before .before .before .lowest-of .ensures,
-      c .before .before .before .before .before .highest-of .ensures,
-      c .before .speed-of .ensures,
-    )
+returns c = rw (c .before .range-fits .ensures, c .speed-fits .ensures)
 
 pub speeds-fit-spec : {M : Type 1} → statement M
-speeds-fit-spec =
-    tie.close
-    (tie.spec
-    of-count-requires
-    of-count-requires-2
-    lowest-of-requires
-    highest-of-requires
-    is-between-requires
-    is-between-requires-2
-    at-most-requires
-    speed-of-requires
-    is-between-requires-3
-    returns)
+speeds-fit-spec = tie.close (tie.spec range-fits-requires speed-fits-requires returns)

@@ -1,7 +1,7 @@
 -- `setups::number_at` meets its contract: the next word, and what it is worth. Assumes nothing.
 use borrow.Author.Needs.{needs}
 use mathlib.Core.Path.{_≡_, refl, sym, ap, _∙_}
-use Rattle.setups.proofs.Places.{standing}
+use Rattle.texts.proofs.Places.{standing}
 use Rattle.setups.proofs.Filling.{number-missing, number-fits, number-unfit}
 use Rattle.setups.proofs.number_at.Statement.{statement}
 use Rattle.setups.proofs.number_at.Tie as tie

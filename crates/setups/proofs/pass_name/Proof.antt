@@ -2,7 +2,7 @@
 use borrow.Author.Needs.{needs}
 use mathlib.Core.Path.{_≡_, refl, sym, ap, _∙_}
 use native.Mathlib.Omega.{arith}
-use Rattle.setups.proofs.Places.{standing}
+use Rattle.texts.proofs.Places.{standing}
 use Rattle.setups.proofs.Filling.{name-missing, name-passed, name-other}
 use Rattle.setups.proofs.pass_name.Statement.{statement}
 use Rattle.setups.proofs.pass_name.Tie as tie

@@ -1,0 +1,110 @@
+-- Reading a list record by record, as the loops do it. Assumes nothing.
+use Prim.Native.Nat.{ℕ, zero, suc, _+_, _-_, _≤_}
+use mathlib.Core.Path.{_≡_, refl, ap, _∙_}
+use mathlib.Core.Bool.{Bool}
+use mathlib.Core.List.{List, [], _∷_}
+use native.Mathlib.Omega.{arith}
+use lib.ListN.{length}
+use Rattle.records.specs.declared.Record.{Record}
+use Rattle.records.specs.declared.Fault.{Fault}
+use Rattle.records.specs.declared.Listed.{Listed}
+use Rattle.records.specs.declared.Listed.the-variants.{Next, End, Faulty}
+use Rattle.records.specs.Reading.{readAt, readAll, onward, after, trail, Trail}
+use Rattle.records.proofs.Again.{read-on}
+use Rattle.points.specs.declared.Point.{Point}
+use Rattle.records.specs.Path.{pathOf, pathEnd}
+use Rattle.strokes.specs.declared.View.{View}
+use Rattle.strokes.specs.Text.{Fills}
+use Rattle.drawing.specs.Shapes.{drawn, path}
+use Rattle.drawing.specs.Walks.{recordsFrom, endFrom}
+use Rattle.strokes.proofs.Filled.{fills-then, fills-none}
+
+module _ (l : List ℕ) where
+  -- as many steps as there are bytes left are enough, and more change nothing
+  enough : (m n at : ℕ) → length l ≤ at + m → length l ≤ at + n → readAll m l at ≡ readAll n l at
+  unfolding readAll onward
+  enough zero zero at h k = refl
+  enough zero (suc n) at h k = by (readAt l at) refl
+    where
+      by : (x : Listed) → readAt l at ≡ x → trail [] x ≡ onward x (readAll n l)
+      by (Next r next) e = let f = read-on l at r next e in absurd (omega arith)
+      by End e = refl
+      by (Faulty fault place) e = refl
+  enough (suc m) zero at h k = by (readAt l at) refl
+    where
+      by : (x : Listed) → readAt l at ≡ x → onward x (readAll m l) ≡ trail [] x
+      by (Next r next) e = let f = read-on l at r next e in absurd (omega arith)
+      by End e = refl
+      by (Faulty fault place) e = refl
+  enough (suc m) (suc n) at h k = by (readAt l at) refl (λ next f g. enough m n next f g)
+    where
+      by :
+          (x : Listed) → readAt l at ≡ x
+          → ((next : ℕ) → length l ≤ next + m → length l ≤ next + n → readAll m l next ≡ readAll n l next)
+          → onward x (readAll m l) ≡ onward x (readAll n l)
+      by (Next r next) e rest = let f = read-on l at r next e in ap (after (r ∷ [])) (rest next (omega arith) (omega arith))
+      by End e rest = refl
+      by (Faulty fault place) e rest = refl
+
+  -- one step from a place where a record stands
+  one : (m at : ℕ) (r : Record) (next : ℕ) → readAt l at ≡ Next r next → readAll (suc m) l at ≡ after (r ∷ []) (readAll m l next)
+  unfolding readAll onward
+  one m at r next e = rw e
+
+  step : (at : ℕ) (r : Record) (next : ℕ) → readAt l at ≡ Next r next → readAll (length l - at) l at ≡ after (r ∷ []) (readAll (length l - next) l next)
+  step at r next e =
+      let f = read-on l at r next e in
+      let m = length l - at - 1 in
+      let g : length l - at ≡ suc (length l - at - 1) = omega arith in
+      ap (λ (n : ℕ). readAll n l at) g ∙ one m at r next e ∙ ap (after (r ∷ [])) (enough m (length l - next) next (omega arith) (omega arith))
+
+  stopped : (at k : ℕ) (x : Listed) → readAt l at ≡ x → ((go : ℕ → Trail) → onward x go ≡ trail [] x) → readAll k l at ≡ trail [] x
+  unfolding readAll
+  stopped at zero x e f = rw e
+  stopped at (suc k) x e f = rw e (f (readAll k l))
+
+  pub records-next : (at : ℕ) {r : Record} {next : ℕ} → readAt l at ≡ Next r next → recordsFrom l at ≡ r ∷ recordsFrom l next
+  unfolding recordsFrom
+  records-next at {r} {next} e = ap (λ (t : Trail). t .records) (step at r next e)
+
+  pub end-next : (at : ℕ) {r : Record} {next : ℕ} → readAt l at ≡ Next r next → endFrom l at ≡ endFrom l next
+  unfolding endFrom
+  end-next at {r} {next} e = ap (λ (t : Trail). t .last) (step at r next e)
+
+  pub records-end : (at : ℕ) → readAt l at ≡ End → recordsFrom l at ≡ []
+  unfolding recordsFrom onward
+  records-end at e = ap (λ (t : Trail). t .records) (stopped at (length l - at) End e (λ go. refl))
+
+  pub records-faulty : (at : ℕ) {fault : Fault} {place : ℕ} → readAt l at ≡ Faulty fault place → recordsFrom l at ≡ []
+  unfolding recordsFrom onward
+  records-faulty at {fault} {place} e = ap (λ (t : Trail). t .records) (stopped at (length l - at) (Faulty fault place) e (λ go. refl))
+
+  pub end-end : (at : ℕ) → readAt l at ≡ End → endFrom l at ≡ End
+  unfolding endFrom onward
+  end-end at e = ap (λ (t : Trail). t .last) (stopped at (length l - at) End e (λ go. refl))
+
+  pub end-faulty : (at : ℕ) {fault : Fault} {place : ℕ} → readAt l at ≡ Faulty fault place → endFrom l at ≡ Faulty fault place
+  unfolding endFrom onward
+  end-faulty at {fault} {place} e = ap (λ (t : Trail). t .last) (stopped at (length l - at) (Faulty fault place) e (λ go. refl))
+
+module _ (l : List ℕ) (view : View) (rapids : Bool) (from : Point) where
+  -- a record drawn, and then the rest of the path
+  pub path-on :
+      {out mid is : List ℕ} {next k last : ℕ} (place : ℕ) {r : Record} {after′ : ℕ} {from′ : Point}
+      → readAt l place ≡ Next r after′
+      → Fills out next (drawn view rapids from r) mid k
+      → from′ ≡ pathEnd from (pathOf r)
+      → Fills mid k (path view rapids from′ (recordsFrom l after′)) is last
+      → Fills out next (path view rapids from (recordsFrom l place)) is last
+  unfolding path
+  path-on place e p g q = rw (records-next l place e, ← g) (fills-then p q)
+
+  pub path-end : (out : List ℕ) (next place : ℕ) → readAt l place ≡ End → Fills out next (path view rapids from (recordsFrom l place)) out next
+  unfolding path
+  path-end out next place e = rw (records-end l place e) (fills-none out next)
+
+  pub path-faulty :
+      (out : List ℕ) (next place : ℕ) {fault : Fault} {spot : ℕ} → readAt l place ≡ Faulty fault spot
+      → Fills out next (path view rapids from (recordsFrom l place)) out next
+  unfolding path
+  path-faulty out next place e = rw (records-faulty l place e) (fills-none out next)

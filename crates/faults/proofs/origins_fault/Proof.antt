@@ -1,0 +1,78 @@
+-- `faults::origins_fault` meets its contract: the origins from the place on decide. Assumes nothing.
+use lib.IntN.{pos}
+use Rattle.faults.proofs.Laws.{origins-end, origin-stops, origin-passes}
+use Prim.Native.Nat.{_-_, _≤_}
+use mathlib.Core.Path.{_≡_, refl, sym, _∙_}
+use native.Mathlib.Omega.{arith}
+use lib.ListN.{drop}
+use borrow.Author.Needs.{needs}
+use Rattle.faults.specs.Faults.{firstBroken, originLimits}
+use Rattle.faults.proofs.origins_fault.Statement.{statement}
+use Rattle.faults.proofs.origins_fault.Tie as tie
+
+abbrev Inv-loop : tie.InvT-loop
+Inv-loop origins i₀ i = (i ≤ 6) × (firstBroken (originLimits 0 origins) ≡ firstBroken (originLimits i (drop i origins)))
+
+abbrev μ-loop : tie.MeasureT-loop
+μ-loop origins i₀ i = 6 - i
+
+loop-holds : tie.Need-loop-holds Inv-loop μ-loop
+loop-holds c = (omega arith, refl)
+
+mul-origin : tie.Need-mul-origin Inv-loop μ-loop
+mul-origin c = omega arith
+
+array-copy-out-origin : tie.Need-array-copy-out-origin Inv-loop μ-loop
+array-copy-out-origin c = omega arith
+
+point-of-requires : tie.Need-point-of-requires Inv-loop μ-loop
+point-of-requires c κs = search needs
+
+place-fault-requires : tie.Need-place-fault-requires Inv-loop μ-loop
+place-fault-requires c κs = search needs
+
+enum-told : tie.Need-enum-told Inv-loop μ-loop
+enum-told c = search needs
+
+returns : tie.Need-returns Inv-loop μ-loop
+returns c =
+    let d = c .before .before .before .before .before in
+    origin-stops (d .before .args .t1) (d .loop .i) _ (c .before .place-fault .result) (c .before .before .point-of .result) (omega arith) (c .before .before .point-of .ensures) (c .before .place-fault .ensures) (c .match .keys2)
+    ∙ sym (d .loop .inv .1)
+
+add-i : tie.Need-add-i Inv-loop μ-loop
+add-i c = omega arith
+
+loop-less : tie.Need-loop-less Inv-loop μ-loop
+loop-less c = omega arith
+
+loop-again : tie.Need-loop-again Inv-loop μ-loop
+loop-again c =
+    let d = c .before .before .before .before .before .before in (
+      omega arith,
+      d .loop .inv .1
+          ∙ origin-passes (d .before .args .t1) (d .loop .i) _ (c .before .before .place-fault .result) (c .before .before .before .point-of .result) (omega arith) (c .before .before .before .point-of .ensures) (c .before .before .place-fault .ensures) (c .enum-told .given .1),
+    )
+
+returns-2 : tie.Need-returns-2 Inv-loop μ-loop
+returns-2 c =
+    let d = c .before in
+    sym (d .loop .inv .1 ∙ origins-end (d .before .args .t1) (d .loop .i) (record { x = pos 0; y = pos 0; z = pos 0 }) (omega arith))
+
+pub origins-fault-spec : {M : Type 1} → statement M
+origins-fault-spec =
+    tie.close
+    (tie.spec
+    Inv-loop
+    μ-loop
+    loop-holds
+    mul-origin
+    array-copy-out-origin
+    point-of-requires
+    place-fault-requires
+    enum-told
+    returns
+    add-i
+    loop-less
+    loop-again
+    returns-2)

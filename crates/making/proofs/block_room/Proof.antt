@@ -1,0 +1,50 @@
+-- `steps::order::block_room` meets its contract. Assumes nothing.
+use native.Mathlib.Omega.{arith}
+use mathlib.Core.List.{_++_}
+use Rattle.cycles.proofs.Rooms.{room-append}
+use Rattle.moves.specs.Plans.{planRecords}
+use borrow.Author.Needs.{needs}
+use Rattle.making.proofs.block_room.Statement.{statement}
+use Rattle.making.proofs.block_room.Tie as tie
+
+plan-room-requires : tie.Need-plan-room-requires
+plan-room-requires c κs = search needs
+
+plan-room-requires-2 : tie.Need-plan-room-requires-2
+plan-room-requires-2 c κs = search needs
+
+add-result : tie.Need-add-result
+add-result c = search needs
+
+plan-room-requires-3 : tie.Need-plan-room-requires-3
+plan-room-requires-3 c κs = search needs
+
+add-result-2 : tie.Need-add-result-2
+add-result-2 c = search needs
+
+returns : tie.Need-returns
+returns c =
+    let a = c .before .before .before .args in
+    λ d origin from.
+    let f = planRecords (a .first) d origin from (a .v) in
+    let m = planRecords (a .motion) d origin from (a .v) in
+    let l = planRecords (a .last) d origin from (a .v) in
+    omega (
+      arith,
+      room-append (f ++ m) l,
+      room-append f m,
+      c .before .before .plan-room .ensures .is d origin from,
+      c .before .plan-room2 .ensures .is d origin from,
+      c .plan-room3 .ensures .is d origin from,
+    )
+
+pub block-room-spec : {M : Type 1} → statement M
+block-room-spec =
+    tie.close
+    (tie.spec
+    plan-room-requires
+    plan-room-requires-2
+    add-result
+    plan-room-requires-3
+    add-result-2
+    returns)

@@ -1,0 +1,17 @@
+-- `words::none_after` meets its contract, sign by sign. Assumes nothing.
+use borrow.Author.Needs.{needs}
+use Rattle.words.specs.Numbers.{signLength}
+use Rattle.numbers.proofs.none_after.Statement.{statement}
+use Rattle.numbers.proofs.none_after.Tie as tie
+
+pub none-after-spec : {M : Type 1} → statement M
+unfolding signLength
+none-after-spec =
+    tie.close
+    (tie.spec
+    (λ c. search needs)
+    (λ c. search needs)
+    (λ c. search needs)
+    (λ c. rw (c .enum-told .given .1))
+    (λ c. rw (c .enum-told2 .given .1))
+    (λ c. rw (c .enum-told3 .given .1)))

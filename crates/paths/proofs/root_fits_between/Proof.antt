@@ -1,0 +1,22 @@
+-- `arcs::root_fits_between` meets its contract. Assumes nothing.
+use borrow.Author.Needs.{needs}
+use Rattle.arcs.specs.Arcs.{notAbove}
+use Rattle.paths.proofs.root_fits_between.Statement.{statement}
+use Rattle.paths.proofs.root_fits_between.Tie as tie
+
+at-most-requires : tie.Need-at-most-requires
+at-most-requires c κs = search needs
+
+minus-requires : tie.Need-minus-requires
+minus-requires c κs = search needs
+
+square-requires : tie.Need-square-requires
+square-requires c κs = search needs
+
+returns : tie.Need-returns
+unfolding notAbove
+returns c = rw (c .before .before .at-most .ensures, c .square .ensures, c .before .minus .ensures .is)
+
+pub root-fits-between-spec : {M : Type 1} → statement M
+root-fits-between-spec =
+    tie.close (tie.spec at-most-requires minus-requires square-requires returns)

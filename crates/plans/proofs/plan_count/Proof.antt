@@ -1,0 +1,45 @@
+-- `moves::testing::plan_count` meets its contract. Assumes nothing.
+use mathlib.Core.Path.{refl}
+use native.Mathlib.Omega.{arith}
+use lib.ListN.{length}
+use Rattle.moves.proofs.Putting.{rest-amount, single-amount, passes-amount}
+use borrow.Author.Needs.{needs}
+use Rattle.plans.proofs.plan_count.Statement.{statement}
+use Rattle.plans.proofs.plan_count.Tie as tie
+
+enum-told : tie.Need-enum-told
+enum-told c = search needs
+
+enum-told-2 : tie.Need-enum-told-2
+enum-told-2 c = search needs
+
+enum-known-p : tie.Need-enum-known-p
+enum-known-p c = search needs
+
+pass-count-requires : tie.Need-pass-count-requires
+pass-count-requires c κs = rw (c .before .p .given .1) at (c .before .before .before .pre)
+
+passes-length-requires : tie.Need-passes-length-requires
+passes-length-requires c κs = search needs
+
+returns : tie.Need-returns
+returns c = rest-amount length (c .enum-told .given .1) refl
+
+returns-2 : tie.Need-returns-2
+returns-2 c = single-amount length (c .enum-told2 .given .1) refl (omega arith)
+
+returns-3 : tie.Need-returns-3
+returns-3 c = passes-amount length (c .before .before .before .p .given .1) (c .before .pass-count .ensures .is) (c .passes-length .ensures .0) (omega (arith, c .passes-length .ensures .1))
+
+pub plan-count-spec : {M : Type 1} → statement M
+plan-count-spec =
+    tie.close
+    (tie.spec
+    enum-told
+    enum-told-2
+    enum-known-p
+    pass-count-requires
+    passes-length-requires
+    returns
+    returns-2
+    returns-3)

@@ -1,0 +1,43 @@
+-- `moves::testing::plan_fits` meets its contract. Assumes nothing.
+use mathlib.Core.Path.{sym}
+use Rattle.moves.proofs.Ways.{rest-fits, single-fits, passes-fits}
+use borrow.Author.Needs.{needs}
+use Rattle.plans.proofs.plan_fits.Statement.{statement}
+use Rattle.plans.proofs.plan_fits.Tie as tie
+
+enum-told : tie.Need-enum-told
+enum-told c = search needs
+
+enum-known-p : tie.Need-enum-known-p
+enum-known-p c = search needs
+
+displaced-requires : tie.Need-displaced-requires
+displaced-requires c κs = (c .before .before .before .pre .0, rw (c .before .p .given .1) at (c .before .before .before .pre .1))
+
+centre-fits-requires : tie.Need-centre-fits-requires
+centre-fits-requires c κs = search needs
+
+enum-told-2 : tie.Need-enum-told-2
+enum-told-2 c = search needs
+
+returns : tie.Need-returns
+returns c = λ d origin from v. sym (rest-fits (c .before .before .args .offset) d origin from v (c .enum-told .given .1))
+
+returns-2 : tie.Need-returns-2
+returns-2 c = λ d origin from v. single-fits (c .before .before .before .before .before .args .offset) d origin from v (c .before .before .before .p .given .1) (c .before .displaced .ensures) (c .centre-fits .ensures)
+
+returns-3 : tie.Need-returns-3
+returns-3 c = λ d origin from v. sym (passes-fits (c .before .before .args .offset) d origin from v (c .enum-told2 .given .1))
+
+pub plan-fits-spec : {M : Type 1} → statement M
+plan-fits-spec =
+    tie.close
+    (tie.spec
+    enum-told
+    enum-known-p
+    displaced-requires
+    centre-fits-requires
+    enum-told-2
+    returns
+    returns-2
+    returns-3)

@@ -1,0 +1,47 @@
+-- `moves::testing::plan_way` meets its contract. Assumes nothing.
+use Rattle.cycles.specs.Ways.{wayOf, passesWay}
+use Rattle.records.specs.Path.{endOf, pathStaysIn}
+use Rattle.moves.specs.Plans.{planRecords}
+use borrow.Author.Needs.{needs}
+use Rattle.plans.proofs.plan_way.Statement.{statement}
+use Rattle.plans.proofs.plan_way.Tie as tie
+
+enum-told : tie.Need-enum-told
+enum-told c = search needs
+
+enum-known-p : tie.Need-enum-known-p
+enum-known-p c = search needs
+
+record-way-requires : tie.Need-record-way-requires
+record-way-requires c κs = rw (c .before .p .given .1) at (c .before .before .before .pre)
+
+enum-known-p-2 : tie.Need-enum-known-p-2
+enum-known-p-2 c = search needs
+
+passes-way-requires : tie.Need-passes-way-requires
+passes-way-requires c κs = rw (c .before .p2 .given .1) at (c .before .before .before .pre)
+
+returns : tie.Need-returns
+unfolding planRecords wayOf endOf pathStaysIn
+returns c = rw (c .enum-told .given .1)
+
+returns-2 : tie.Need-returns-2
+unfolding planRecords
+returns-2 c = rw (c .before .before .p .given .1) (c .record-way .ensures)
+
+returns-3 : tie.Need-returns-3
+unfolding planRecords passesWay
+returns-3 c = rw (c .before .before .p2 .given .1) (c .passes-way .ensures)
+
+pub plan-way-spec : {M : Type 1} → statement M
+plan-way-spec =
+    tie.close
+    (tie.spec
+    enum-told
+    enum-known-p
+    record-way-requires
+    enum-known-p-2
+    passes-way-requires
+    returns
+    returns-2
+    returns-3)

@@ -1,0 +1,21 @@
+-- `moves::testing::record_way` meets its contract. Assumes nothing.
+use mathlib.Core.Path.{sym, _∙_}
+use Rattle.moves.proofs.Ways.{ends-one, leaves-one}
+use borrow.Author.Needs.{needs}
+use Rattle.plans.proofs.record_way.Statement.{statement}
+use Rattle.plans.proofs.record_way.Tie as tie
+
+path-stays-requires : tie.Need-path-stays-requires
+path-stays-requires c κs = search needs
+
+record-end-requires : tie.Need-record-end-requires
+record-end-requires c κs = search needs
+
+returns : tie.Need-returns
+returns c = ends-one (c .before .before .before .args .t) (c .before .before .before .args .from) (c .before .before .before .args .r) (sym (c .before .before .path-stays .ensures) ∙ c .before .if1 .taken) (c .record-end .ensures)
+
+returns-2 : tie.Need-returns-2
+returns-2 c = leaves-one (c .before .before .args .t) (c .before .before .args .from) (c .before .before .args .r) (sym (c .before .path-stays .ensures) ∙ c .if1 .left)
+
+pub record-way-spec : {M : Type 1} → statement M
+record-way-spec = tie.close (tie.spec path-stays-requires record-end-requires returns returns-2)

@@ -1,0 +1,46 @@
+-- `cycles::pass_room` meets its contract, with Z and without, with the dwell and without. Assumes nothing.
+use native.Mathlib.Omega.{arith}
+use borrow.Author.Needs.{needs}
+use Rattle.cycles.proofs.Rooms.{room-with-z, room-without-z, room-dwell, room-no-dwell}
+use Rattle.rooms.proofs.pass_room.Statement.{statement}
+use Rattle.rooms.proofs.pass_room.Tie as tie
+
+leaving-room-requires : tie.Need-leaving-room-requires
+leaving-room-requires c κs = search needs
+
+add-result : tie.Need-add-result
+add-result c = search needs
+
+leaving-room-requires-2 : tie.Need-leaving-room-requires-2
+leaving-room-requires-2 c κs = search needs
+
+add-result-2 : tie.Need-add-result-2
+add-result-2 c = search needs
+
+returns : tie.Need-returns
+returns c =
+    let h = c .before .before .before .before .before .args .h in
+    record {
+      is = λ level p.
+          omega (arith, room-with-z h level p (c .before .before .if1 .taken), room-dwell (h .dwell) (c .before .if2 .taken), c .leaving-room .ensures .0 p);
+      most = omega arith;
+    }
+
+returns-2 : tie.Need-returns-2
+returns-2 c =
+    let h = c .before .before .before .before .before .args .h in
+    record {
+      is = λ level p.
+          omega (arith, room-with-z h level p (c .before .before .if1 .taken), room-no-dwell (h .dwell) (c .before .if2 .left), c .leaving-room2 .ensures .0 p);
+      most = omega arith;
+    }
+
+returns-3 : tie.Need-returns-3
+returns-3 c =
+    let h = c .before .before .before .args .h in
+    record { is = λ level p. omega (arith, room-without-z h level p (c .if1 .left)); most = omega arith }
+
+pub pass-room-spec : {M : Type 1} → statement M
+pass-room-spec =
+    tie.close
+    (tie.spec leaving-room-requires add-result leaving-room-requires-2 add-result-2 returns returns-2 returns-3)

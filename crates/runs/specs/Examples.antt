@@ -1,0 +1,80 @@
+-- Document 01, "Numbers to try": the sample of seven blocks with its list, and small runs of which the answer is known,
+-- under setup T.
+use Prim.Native.Nat.{ℕ}
+use Prim.Native.String.{String}
+use mathlib.Core.List.{List, [], _∷_}
+use lib.IntN.{ℤ, pos, negsuc}
+use Rattle.terms.specs.Terms.{bytes}
+use Rattle.lengths.specs.Units.{len}
+use Rattle.refusals.specs.declared.Refusal.{Refusal}
+use Rattle.refusals.specs.declared.Refusal.the-variants.{
+  BadParameter,
+  NumberNotFound,
+  NestOver,
+  DuplicateNumber,
+  LeavesTravel,
+  FirstBlock,
+  NoEnd,
+}
+use Rattle.points.specs.declared.Point.{Point}
+use Rattle.setup.specs.Examples.{setupT}
+use Rattle.records.specs.declared.Record.{Record}
+use Rattle.records.specs.declared.Record.the-variants.{RP, LN, SP, SO, EN}
+use Rattle.runs.specs.Run.{answerOf}
+use Rattle.refusals.specs.declared.Answer.{Answer}
+use Rattle.refusals.specs.declared.Answer.the-variants.{Done, Unfinished, Refused}
+use Rattle.runs.specs.declared.Budget.{Budget}
+use Rattle.runs.specs.declared.Budget.the-variants.{Whole, First}
+
+-- setup T's "list room 4,096 bytes"
+abbrev pub roomT : ℕ
+roomT = 4_096
+
+abbrev pub sample : List ℕ
+sample = bytes "%\nO1\nG90 G00 X5.0 Y5.0\nM03 S6000\nG81 Z-2.0 R1.0\nG80 M05\nM30\n"
+
+-- the sample's points are all at X 1500000 Y 1500000
+abbrev hole : ℤ → Point
+hole z = record { x = len (pos 1_500_000); y = len (pos 1_500_000); z = len z }
+
+abbrev pub sampleRecords : List Record
+sampleRecords =
+    RP (hole (pos 0)) ∷ SP (len (pos 6_000)) ∷ RP (hole (pos 0)) ∷ RP (hole (negsuc 3_899_999))
+    ∷ LN (hole (negsuc 4_199_999)) (len (pos 30_000_000)) ∷ RP (hole (pos 0)) ∷ SO ∷ EN ∷ []
+
+pub record Row : Type 0 where
+  pub text : String
+  pub budget : Budget
+  pub answer : Answer
+
+abbrev row : String → Budget → Answer → Row
+row text budget answer = record { text = text; budget = budget; answer = answer }
+
+abbrev refuses : Refusal → ℕ → ℕ → ℕ → Answer
+refuses refusal block byte count = Refused refusal (record { block = block; byte = byte }) count
+
+unfoldable pub answerOfRow : Row → Answer
+answerOfRow r = answerOf setupT (bytes (r .text)) roomT (r .budget)
+
+abbrev pub rows : List Row
+rows =
+    -- "T, tool at workpiece X0 Y0: `G03 I-5.0` is accepted, its path touching X 0; `G03 I-5.001` is 9."
+    row "%\nG00 X0 Y0\nG03 I-5.0\nM30\n" Whole (Done 3)
+    ∷ row "%\nG00 X0 Y0\nG03 I-5.001\nM30\n" Whole (refuses LeavesTravel 3 12 1)
+    -- "`G03 X5.01 Y5.0 J5.0` is accepted, `X5.011` is 1."
+    ∷ row "%\nG00 X0 Y0\nG03 X5.01 Y5.0 J5.0\nM30\n" Whole (Done 3)
+    ∷ row "%\nG00 X0 Y0\nG03 X5.011 Y5.0 J5.0\nM30\n" Whole (refuses BadParameter 3 12 1)
+    -- two subprograms that are one number, though nothing calls them
+    ∷ row "%\nM30\nO1\nM99\nO0001\nM99\n" (First 0) (refuses DuplicateNumber 5 13 0)
+    -- a call counts one block, its opening none, and comes back to the block after it
+    ∷ row "%\nM98P2\nM30\nO2\nM00\nM99\n" (First 2) (Unfinished 1)
+    ∷ row "%\nM98P2\nM30\nO2\nM00\nM99\n" (First 3) (Unfinished 1)
+    ∷ row "%\nM98P2\nM30\nO2\nM00\nM99\n" (First 4) (Done 2)
+    ∷ row "%\nO1\nM98 P1\nM30\n" Whole (refuses NumberNotFound 3 5 0)
+    -- four levels, and no fifth
+    ∷ row "%\nM98P1\nM30\nO1\nM98P2\nM99\nO2\nM98P3\nM99\nO3\nM98P4\nM99\nO4\nM00\nM99\n" Whole (Done 2)
+    ∷ row "%\nM98P1\nM30\nO1\nM98P2\nM99\nO2\nM98P3\nM99\nO3\nM98P4\nM99\nO4\nM98P1\nM99\n" Whole (refuses NestOver 14 54 0)
+    -- a missing end counts as a block
+    ∷ row "%\nM00\n" (First 1) (Unfinished 1)
+    ∷ row "%\nM00\n" (First 2) (refuses NoEnd 3 6 1)
+    ∷ row "" Whole (refuses FirstBlock 1 0 0) ∷ []

@@ -1,0 +1,7 @@
+// The run of a data set, as rules.
+
+// How much is run: the whole, or the first n executed blocks.
+pub enum Budget {
+    Whole,
+    First(u64),
+}

@@ -1,0 +1,133 @@
+// The programs of a data set, found by one scan over its blocks, and a program by its number.
+use programs::Entry;
+use programs::Found;
+use programs::Opening;
+use programs::Program;
+use programs::Programs;
+use programs::Scanned;
+use programs::Verdict;
+use refusals::Place;
+use refusals::Refusal;
+ghost use mathlib.Core.Path.{_≡_};
+ghost use Prim.Native.Nat.{_+_, _≤_, _<_};
+ghost use lib.ListN.{length};
+ghost use Rattle.lines.specs.Blocks.{lengthFrom, blockFrom, blocksFrom};
+ghost use Rattle.programs.specs.Openings.{scan, programsFrom, known};
+ghost use Rattle.programs.specs.Found.{subsOf, Ready, Entered};
+ghost use Rattle.programs.specs.Answers.{Gives, foundAs};
+
+fn with_program(t: Programs, p: Program) -> Programs
+    requires { ⌜ (Ready t) × (t .count < 10) ⌝ }
+    ensures { λ r. ⌜ Entered t p r ⌝ }
+{
+    let at = t.count;
+    let mut next = t;
+    next.subs[at] = p;
+    next.count = at + 1;
+    next
+}
+
+// The openings from a block on, whose number and place are given. Each byte of a block without an opening is passed once.
+fn scan_openings(s: &[u8], from: usize, number: usize, found: Programs) -> Scanned
+    requires { ⌜ (from ≤ length (now s)) × (number ≤ from + 1) ⌝ }
+    requires { ⌜ Ready found ⌝ }
+    ensures { λ r. ⌜ Gives (scan (found .main) (blocksFrom (now (s .entry)) number from) (subsOf found)) r ⌝ }
+{
+    let mut programs = found;
+    let mut at = from;
+    let mut block = number;
+    'blocks: while at < s.len() {
+        if lines::is_percent(s, at) {
+            break 'blocks;
+        }
+        if s[at] == b'O' {
+            match programs::entry_of(programs, programs::read_opening(s, at + 1)) {
+                Entry::Refuses(refusal) => {
+                    return Scanned {
+                        verdict: Verdict::Refused(refusal, Place { block, byte: at }),
+                        programs,
+                    };
+                }
+                Entry::Enters(n) => {
+                    block += 1;
+                    at = lines::next_block(s, at);
+                    programs = with_program(
+                        programs,
+                        Program {
+                            number: n,
+                            block,
+                            byte: at,
+                        },
+                    );
+                    continue 'blocks;
+                }
+            }
+        }
+        while at < s.len() {
+            let b = s[at];
+            at += 1;
+            if b == b'\n' {
+                block += 1;
+                continue 'blocks;
+            }
+        }
+    }
+    Scanned {
+        verdict: Verdict::Fine,
+        programs,
+    }
+}
+
+// The programs of data whose first block is `%` alone: the main program, under an opening in the second block or without
+// one, and the subprograms.
+pub fn find_programs(s: &[u8]) -> Scanned
+    requires { ⌜ 0 < length (now s) ⌝ }
+    ensures { λ r. ⌜ Gives (programsFrom (blockFrom 1 0 (now (s .entry))) (blocksFrom (now (s .entry)) 2 (0 + lengthFrom (now (s .entry))))) r ⌝ }
+{
+    let at = lines::next_block(s, 0);
+    if !lines::begins_with(s, at, b'O') {
+        let main = Program {
+            number: 0,
+            block: 2,
+            byte: at,
+        };
+        return scan_openings(s, at, 2, programs::only_main(main));
+    }
+    match programs::read_opening(s, at + 1) {
+        Opening::Bad => Scanned {
+            verdict: Verdict::Refused(Refusal::BadParameter, Place { block: 2, byte: at }),
+            programs: programs::only_main(Program {
+                number: 0,
+                block: 2,
+                byte: at,
+            }),
+        },
+        Opening::Number(number) => {
+            let next = lines::next_block(s, at);
+            let main = Program {
+                number,
+                block: 3,
+                byte: next,
+            };
+            scan_openings(s, next, 3, programs::only_main(main))
+        }
+    }
+}
+
+// The subprogram of a number. The main program is none.
+pub fn find(t: Programs, n: u64) -> Found
+    requires { ⌜ Ready t ⌝ }
+    ensures { λ r. ⌜ r ≡ foundAs (known (subsOf t) n) ⌝ }
+{
+    let subs = t.subs;
+    let count = t.count;
+    let mut i: usize = 0;
+    while i < count {
+        let p = subs[i];
+        if p.number == n {
+            return Found::At(p);
+        }
+        i += 1;
+    }
+    Found::Missing
+}

@@ -1,0 +1,144 @@
+-- The small tables of the order: which codes and motions a test is about. Assumes nothing.
+use Prim.Native.Nat.{ℕ}
+use mathlib.Core.Path.{_≡_, refl, sym, _∙_}
+use mathlib.Core.Bool.{Bool, true, false, _&&_, _||_, not}
+use mathlib.Core.Option.{Option, none, some}
+use mathlib.Core.List.{List, [], _∷_}
+use native.Mathlib.Omega.{arith}
+use denote.Enum.Declared.{tagOf}
+use types.Run.{OneOf, miss}
+use lib.Dec.{eqb}
+use Rattle.terms.specs.Terms.{if_then_else_, stands}
+use Rattle.lengths.specs.declared.Len.{Len}
+use Rattle.codes.specs.declared.Misc.{Misc}
+use Rattle.codes.specs.declared.Motion.{Motion}
+use Rattle.codes.specs.declared.Motion.the-variants.{Off, G00, G01, G02, G03, Drilling}
+use Rattle.codes.specs.declared.Plane.{Plane}
+use Rattle.codes.specs.declared.Plane.the-variants.{G17, G18, G19}
+use Rattle.codes.specs.Codes.{miscNumber, isM, endsProgram}
+use Rattle.codes.proofs.Motion.{the-type as motion-type}
+use Rattle.codes.proofs.Plane.{the-type as plane-type}
+use Rattle.words.specs.declared.Values.{Values}
+use Rattle.records.specs.declared.Record.{Record}
+use Rattle.records.specs.declared.Record.the-variants.{SP, SO, PA, EN}
+use Rattle.settings.specs.declared.State.{State}
+use Rattle.letters.specs.declared.BlockCode.{BlockCode}
+use Rattle.letters.specs.declared.BlockCode.the-variants.{Calling, Returning, Dwelling, Moving}
+use Rattle.letters.proofs.BlockCode.{the-type as code-type}
+use Rattle.programs.specs.declared.Program.{Program}
+use Rattle.programs.specs.declared.Found.{Found}
+use Rattle.programs.specs.declared.Found.the-variants.{At, Missing}
+use Rattle.programs.specs.Openings.{known}
+use Rattle.programs.specs.Answers.{foundAs}
+use Rattle.moves.specs.declared.Plan.{Plan}
+use Rattle.moves.specs.declared.Plan.the-variants.{Rest, Single}
+use Rattle.moves.specs.Plans.{planRecords}
+use Rattle.blocks.specs.declared.Said.{Said}
+use Rattle.blocks.specs.declared.Control.{Control}
+use Rattle.blocks.specs.declared.Control.the-variants.{On, Call, Back, Stop}
+use Rattle.blocks.proofs.Control.{the-type as control-type}
+use Rattle.blocks.specs.Exec.{working, spindleRecords, lastRecords, lacksCentre, drills, isG17, callsIn, callTo, unknownCall, tooDeep}
+use Rattle.steps.specs.Steps.{Brief}
+
+-- ---- motions and codes that have no arm of their own
+
+pub no-centre : (m : Motion) (v : Values) → OneOf (0 ∷ 1 ∷ 2 ∷ 5 ∷ []) (tagOf motion-type m) → lacksCentre m v ≡ false
+unfolding lacksCentre
+no-centre Off v h = refl
+no-centre G00 v h = refl
+no-centre G01 v h = refl
+no-centre G02 v h = absurd (miss (0 ∷ 1 ∷ 2 ∷ 5 ∷ []) 3 tt h)
+no-centre G03 v h = absurd (miss (0 ∷ 1 ∷ 2 ∷ 5 ∷ []) 4 tt h)
+no-centre (Drilling cycle) v h = refl
+
+pub no-cycle :
+    (m : Motion) (named : Bool) (v : Values) → OneOf (0 ∷ 1 ∷ 2 ∷ 3 ∷ 4 ∷ []) (tagOf motion-type m) → drills (Moving m) named v ≡ false
+unfolding drills
+no-cycle Off named v h = refl
+no-cycle G00 named v h = refl
+no-cycle G01 named v h = refl
+no-cycle G02 named v h = refl
+no-cycle G03 named v h = refl
+no-cycle (Drilling cycle) named v h = absurd (miss (0 ∷ 1 ∷ 2 ∷ 3 ∷ 4 ∷ []) 5 tt h)
+
+pub not-moving : (code : BlockCode) (named : Bool) (v : Values) → OneOf (0 ∷ 1 ∷ 2 ∷ []) (tagOf code-type code) → drills code named v ≡ false
+unfolding drills
+not-moving Calling named v h = refl
+not-moving Returning named v h = refl
+not-moving Dwelling named v h = refl
+not-moving (Moving m) named v h = absurd (miss (0 ∷ 1 ∷ 2 ∷ []) 3 tt h)
+
+pub not-g17 : (p : Plane) → OneOf (1 ∷ 2 ∷ []) (tagOf plane-type p) → isG17 p ≡ false
+unfolding isG17
+not-g17 G17 h = absurd (miss (1 ∷ 2 ∷ []) 0 tt h)
+not-g17 G18 h = refl
+not-g17 G19 h = refl
+
+-- ---- calls
+
+pub no-call : (control : Control) → OneOf (0 ∷ 2 ∷ 3 ∷ []) (tagOf control-type control) → callTo control ≡ none
+unfolding callTo
+no-call On h = refl
+no-call (Call n) h = absurd (miss (0 ∷ 2 ∷ 3 ∷ []) 1 tt h)
+no-call Back h = refl
+no-call Stop h = refl
+
+found-known : (o : Option Program) (p : Program) → foundAs o ≡ At p → stands o ≡ true
+unfolding foundAs stands
+found-known none p e = let no : _≡_ {A = ℕ} 0 1 = cc in absurd (omega arith)
+found-known (some q) p e = refl
+
+missing-unknown : (o : Option Program) → foundAs o ≡ Missing → stands o ≡ false
+unfolding foundAs stands
+missing-unknown none e = refl
+missing-unknown (some q) e = let no : _≡_ {A = ℕ} 0 1 = cc in absurd (omega arith)
+
+module _ {control : Control} {n : ℕ} (e : control ≡ Call n) (subs : List Program) {r : Found} (is : r ≡ foundAs (known subs n)) (left : ℕ) where
+  pub call-known : (p : Program) → r ≡ At p → false ≡ unknownCall (callsIn subs left) (callTo control)
+  unfolding unknownCall callsIn callTo
+  call-known p f = rw (e, found-known (known subs n) p (sym is ∙ f))
+
+  pub call-unknown : r ≡ Missing → true ≡ unknownCall (callsIn subs left) (callTo control)
+  unfolding unknownCall callsIn callTo
+  call-unknown f = rw (e, missing-unknown (known subs n) (sym is ∙ f))
+
+-- ---- plans of at most one record
+
+brief-rest : {rs : List Record} → rs ≡ [] → Brief rs Rest
+unfolding planRecords
+brief-rest e = record { records = λ d origin from v. sym e; counts = λ v. tt; puts = λ by d origin from v. tt }
+
+brief-one : {rs : List Record} (r : Record) → rs ≡ r ∷ [] → Brief rs (Single r)
+unfolding planRecords
+brief-one r e = record { records = λ d origin from v. sym e; counts = λ v. tt; puts = λ by d origin from v. tt }
+
+module _ (s : State) (b : Said) {n : ℕ} (is : n ≡ miscNumber (b .misc)) where
+  abbrev speaks : Bool
+  speaks = s .turning && b .values .s .stands || eqb n 3
+
+  pub spindle-one : {speed : Len} → speed ≡ working s b .speed → speaks ≡ true → Brief (spindleRecords s b) (Single (SP speed))
+  unfolding spindleRecords isM
+  spindle-one f e = brief-one (SP _) (rw (rw is at e, f))
+
+  pub spindle-none : speaks ≡ false → Brief (spindleRecords s b) Rest
+  unfolding spindleRecords isM
+  spindle-none e = brief-rest (rw (rw is at e))
+
+module _ (m : Misc) {n : ℕ} (is : n ≡ miscNumber m) where
+  pub last-off : eqb n 5 ≡ true → Brief (lastRecords m) (Single SO)
+  unfolding lastRecords isM
+  last-off e = brief-one SO (rw (rw is at e))
+
+  module _ (f : eqb n 5 ≡ false) where
+    pub last-pause : eqb n 0 ≡ true → Brief (lastRecords m) (Single PA)
+    unfolding lastRecords isM
+    last-pause e = brief-one PA (rw (rw is at f, rw is at e))
+
+    module _ (g : eqb n 0 ≡ false) where
+      pub last-end : (eqb n 2 || eqb n 30) ≡ true → Brief (lastRecords m) (Single EN)
+      unfolding lastRecords isM
+      last-end e = brief-one EN (rw (rw is at f, rw is at g, rw is at e))
+
+      pub last-none : (eqb n 2 || eqb n 30) ≡ false → Brief (lastRecords m) Rest
+      unfolding lastRecords isM
+      last-none e = brief-rest (rw (rw is at f, rw is at g, rw is at e))

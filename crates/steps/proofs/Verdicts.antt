@@ -1,0 +1,317 @@
+-- The order of refusals, step by step. Assumes nothing.
+use Prim.Native.Nat.{ℕ, _+_}
+use mathlib.Core.Path.{_≡_, refl, sym, _∙_, ap}
+use mathlib.Core.Bool.{Bool, true, false, not}
+use mathlib.Core.Option.{Option, none, some}
+use mathlib.Core.List.{List, [], _∷_, map}
+use native.Mathlib.Omega.{arith}
+use lib.Dec.{ltb}
+use lib.ListN.{length}
+use lib.Seq.{sets}
+use Rattle.terms.specs.Terms.{all, firstOf}
+use Rattle.refusals.specs.declared.Refusal.{Refusal}
+use Rattle.refusals.specs.declared.Refusal.the-variants.{
+  BadParameter,
+  AddressUndefined,
+  ParameterUndefined,
+  CannotExecute,
+  NumberNotFound,
+  NestOver,
+  LeavesTravel,
+  NoRoom,
+  Unreadable,
+  CentreTooFar,
+}
+use Rattle.words.specs.declared.Word.{Word}
+use Rattle.words.specs.declared.Values.{Values}
+use Rattle.words.specs.Words.{Words, these, badAt}
+use Rattle.points.specs.declared.Point.{Point}
+use Rattle.records.specs.Layout.{listBytes, roomOf}
+use Rattle.records.specs.Path.{pathStaysIn, recordMoved}
+use Rattle.records.specs.Writing.{Wrote}
+use Rattle.records.proofs.Laid.{list-length}
+use Rattle.records.proofs.Written.{wrote-none}
+use Rattle.settings.specs.declared.State.{State}
+use Rattle.letters.specs.Letters.{firstThatMayNot, firstUnused, firstBadValue, valuesOf}
+use Rattle.letters.specs.Judging.{unusedOr, badOr, judgedBy}
+use Rattle.letters.specs.declared.Judged.{Judged}
+use Rattle.letters.specs.declared.Judged.the-variants.{Fine, Unused, Bad}
+use Rattle.reading.specs.declared.Status.the-variants as status
+use Rattle.reading.specs.Whole.{standing, statusOf}
+use Rattle.cycles.specs.Writing.{movedBytes}
+use Rattle.cycles.proofs.Written.{moved-room}
+use Rattle.blocks.specs.declared.Said.{Said}
+use Rattle.blocks.specs.declared.Control.{Control}
+use Rattle.blocks.specs.declared.Executed.{Executed}
+use Rattle.blocks.specs.declared.Executed.the-variants.{Refused, Accepted}
+use Rattle.blocks.specs.Machine.{Machine}
+use Rattle.blocks.specs.Exec.{
+  Blame,
+  Calls,
+  Verdict,
+  refused,
+  accepted,
+  saidBy,
+  movesIn,
+  madeBy,
+  settled,
+  controlOf,
+  inMain,
+  callTo,
+  unknownCall,
+  tooDeep,
+  lacksParameter,
+  cannotDrill,
+  atWord,
+  atStart,
+  blames,
+  unless,
+  judged,
+  execWords,
+}
+use Rattle.blocks.specs.Doing.{madeOf, executed, Does}
+use Rattle.steps.specs.Steps.{judgedFrom}
+
+-- ---- what a verdict leaves
+
+module _ {offset : Point} {v : Verdict} {was : List ℕ} {at after : ℕ} where
+  pub does-refused :
+      (refusal : Refusal) (byte : ℕ) → v ≡ refused (record { refusal = refusal; byte = byte })
+      → Does offset v was at after was (Refused refusal byte)
+  unfolding executed madeOf listBytes
+  does-refused refusal byte e = record { answer = rw e; bytes = rw e (wrote-none was at .bytes) }
+
+  pub does-as : {u : Verdict} {is : List ℕ} {r : Executed} → v ≡ u → Does offset u was at after is r → Does offset v was at after is r
+  does-as e d = rw e d
+
+  module _ {s′ : State} {control : Control} {made : List _} (e : v ≡ accepted s′ control made) where
+    pub does-accepted :
+        {st : State} {ct : Control} {is : List ℕ} {next count : ℕ}
+        → st ≡ s′ → ct ≡ control → Wrote was at (movedBytes offset made) is next → count ≡ length made
+        → Does offset v was at after is (Accepted (record { state = st; control = ct; next = next; count = count; after = after }))
+    unfolding executed madeOf
+    does-accepted f g w n =
+        let place : _ ≡ at + roomOf made = w .place ∙ ap (at +_) (list-length (map (recordMoved offset) made) ∙ moved-room offset made) in
+        record { answer = rw (e, f, g, n, place); bytes = rw e (w .bytes) }
+
+-- ---- one test of the order
+
+past : (o : Option Blame) (os : List (Option Blame)) (v : Verdict) → o ≡ none → unless (firstOf (o ∷ os)) v ≡ unless (firstOf os) v
+unfolding firstOf
+past o os v e = rw e
+
+stop : (o : Option Blame) (os : List (Option Blame)) (v : Verdict) (blame : Blame) → o ≡ some blame → unless (firstOf (o ∷ os)) v ≡ refused blame
+unfolding firstOf unless
+stop o os v blame e = rw e
+
+clear : (start : ℕ) (refusal : Refusal) (t : Bool) → t ≡ false → atStart start refusal t ≡ none
+unfolding atStart
+clear start refusal t e = rw e
+
+raised : (start : ℕ) (refusal : Refusal) (t : Bool) → t ≡ true → atStart start refusal t ≡ some (record { refusal = refusal; byte = start })
+unfolding atStart
+raised start refusal t e = rw e
+
+module _ (machine : Machine) (calls : Calls) (room : ℕ) (s : State) (start : ℕ) (ws : List Word) (b : Said) where
+  abbrev from : ℕ → Verdict
+  from k = judgedFrom k machine calls room s start ws b
+
+  abbrev here : Refusal → Verdict
+  here refusal = refused (record { refusal = refusal; byte = start })
+
+  -- 3
+  module _ {t : Bool} (is : t ≡ lacksParameter (b .code) (b .values)) where
+    pub lacks-past : t ≡ false → from 3 ≡ from 4
+    unfolding judgedFrom blames
+    lacks-past e = past _ _ _ (clear start ParameterUndefined _ (sym is ∙ e))
+
+    pub lacks-stops : t ≡ true → from 3 ≡ here ParameterUndefined
+    unfolding judgedFrom blames
+    lacks-stops e = stop _ _ _ _ (raised start ParameterUndefined _ (sym is ∙ e))
+
+  -- 5
+  module _ {t : Bool} (is : t ≡ unknownCall calls (callTo (controlOf b))) where
+    pub unknown-past : t ≡ false → from 4 ≡ from 5
+    unfolding judgedFrom blames
+    unknown-past e = past _ _ _ (clear start NumberNotFound _ (sym is ∙ e))
+
+    pub unknown-stops : t ≡ true → from 4 ≡ here NumberNotFound
+    unfolding judgedFrom blames
+    unknown-stops e = stop _ _ _ _ (raised start NumberNotFound _ (sym is ∙ e))
+
+  -- 6
+  module _ {t : Bool} (is : t ≡ tooDeep calls (callTo (controlOf b))) where
+    pub deep-past : t ≡ false → from 5 ≡ from 6
+    unfolding judgedFrom blames
+    deep-past e = past _ _ _ (clear start NestOver _ (sym is ∙ e))
+
+    pub deep-stops : t ≡ true → from 5 ≡ here NestOver
+    unfolding judgedFrom blames
+    deep-stops e = stop _ _ _ _ (raised start NestOver _ (sym is ∙ e))
+
+  -- 4 for a cycle
+  module _ {t : Bool} (is : t ≡ cannotDrill s b) where
+    pub drill-past : t ≡ false → from 6 ≡ from 7
+    unfolding judgedFrom blames
+    drill-past e = past _ _ _ (clear start CannotExecute _ (sym is ∙ e))
+
+    pub drill-stops : t ≡ true → from 6 ≡ here CannotExecute
+    unfolding judgedFrom blames
+    drill-stops e = stop _ _ _ _ (raised start CannotExecute _ (sym is ∙ e))
+
+  -- 1 by geometry
+  pub sound-past : movesIn machine s b .sound ≡ true → from 7 ≡ from 8
+  unfolding judgedFrom blames
+  sound-past e = past _ _ _ (clear start BadParameter _ (ap not e))
+
+  pub sound-stops : movesIn machine s b .sound ≡ false → from 7 ≡ here BadParameter
+  unfolding judgedFrom blames
+  sound-stops e = stop _ _ _ _ (raised start BadParameter _ (ap not e))
+
+  -- 16
+  pub fits-past : all (machine .fits) (madeBy machine s b) ≡ true → from 8 ≡ from 9
+  unfolding judgedFrom blames
+  fits-past e = past _ _ _ (clear start CentreTooFar _ (ap not e))
+
+  -- 9
+  pub stays-past : pathStaysIn (machine .stays) (s .at) (madeBy machine s b) ≡ true → from 9 ≡ from 10
+  unfolding judgedFrom blames
+  stays-past e = past _ _ _ (clear start LeavesTravel _ (ap not e))
+
+  pub stays-stops : pathStaysIn (machine .stays) (s .at) (madeBy machine s b) ≡ false → from 9 ≡ here LeavesTravel
+  unfolding judgedFrom blames
+  stays-stops e = stop _ _ _ _ (raised start LeavesTravel _ (ap not e))
+
+  -- 10, and past it
+  pub room-stops : ltb room (roomOf (madeBy machine s b)) ≡ true → from 10 ≡ here NoRoom
+  unfolding judgedFrom blames
+  room-stops e = stop _ _ _ _ (raised start NoRoom _ e)
+
+  pub room-past :
+      ltb room (roomOf (madeBy machine s b)) ≡ false
+      → from 10 ≡ accepted (settled machine s b) (controlOf b) (madeBy machine s b)
+  unfolding judgedFrom blames unless firstOf atStart
+  room-past e = rw e
+
+-- ---- 2 and 1 by the value, as they are judged together
+
+word-past : (refusal : Refusal) (o : Option Word) → o ≡ none → atWord refusal o ≡ none
+unfolding atWord
+word-past refusal o e = rw e
+
+module _ (o p : Option Word) (v : Values) where
+  pub record Passed (values : Values) : Type 0 where
+    pub used : o ≡ none
+    pub good : p ≡ none
+    pub are : values ≡ v
+
+fine-both : (o p : Option Word) (v values : Values) → unusedOr o (badOr p v) ≡ Fine values → Passed o p v values
+unfolding unusedOr badOr
+fine-both none none v values e = record { used = refl; good = refl; are = cc }
+fine-both none (some w) v values e = let no : _≡_ {A = ℕ} 0 1 = cc in absurd (omega arith)
+fine-both (some w) p v values e = let no : _≡_ {A = ℕ} 0 1 = cc in absurd (omega arith)
+
+unused-stop :
+    (o p : Option Word) (v : Values) (byte : ℕ) → unusedOr o (badOr p v) ≡ Unused byte
+    → atWord AddressUndefined o ≡ some (record { refusal = AddressUndefined; byte = byte })
+unfolding unusedOr badOr atWord
+unused-stop none none v byte e = let no : _≡_ {A = ℕ} 0 1 = cc in absurd (omega arith)
+unused-stop none (some w) v byte e = let no : _≡_ {A = ℕ} 0 1 = cc in absurd (omega arith)
+unused-stop (some w) p v byte e = let same : w .at ≡ byte = cc in rw same
+
+pub record Stopped (o p : Option Word) (byte : ℕ) : Type 0 where
+  pub used : o ≡ none
+  pub named : atWord BadParameter p ≡ some (record { refusal = BadParameter; byte = byte })
+
+bad-stop : (o p : Option Word) (v : Values) (byte : ℕ) → unusedOr o (badOr p v) ≡ Bad byte → Stopped o p byte
+unfolding unusedOr badOr atWord
+bad-stop none none v byte e = let no : _≡_ {A = ℕ} 0 1 = cc in absurd (omega arith)
+bad-stop none (some w) v byte e = let same : w .at ≡ byte = cc in record { used = refl; named = rw same }
+bad-stop (some w) p v byte e = let no : _≡_ {A = ℕ} 0 1 = cc in absurd (omega arith)
+
+module _ (machine : Machine) (calls : Calls) (room : ℕ) (s : State) (start : ℕ) (ws : List Word) where
+  abbrev b : Said
+  b = saidBy machine (s .modes) ws
+
+  abbrev unused : Option Word
+  unused = firstUnused (b .code) (b .modes .plane) ws
+
+  abbrev bad : Option Word
+  bad = firstBadValue (machine .speeds) (b .modes) (b .code) ws
+
+  abbrev judgement : Judged
+  judgement = judgedBy (machine .speeds) (b .modes) (b .code) ws
+
+  pub values-past :
+      {values : Values} → Fine values ≡ judgement
+      → (judgedFrom 1 machine calls room s start ws b ≡ judgedFrom 3 machine calls room s start ws b)
+      × (Passed unused bad (valuesOf (machine .speeds) (b .modes) (b .code) ws) values)
+  unfolding judgedFrom blames judgedBy
+  values-past {values} e =
+      let f = fine-both unused bad (valuesOf (machine .speeds) (b .modes) (b .code) ws) values (sym e) in
+      (past _ _ _ (word-past AddressUndefined unused (f .used)) ∙ past _ _ _ (word-past BadParameter bad (f .good)), f)
+
+  pub unused-stops : {byte : ℕ} → Unused byte ≡ judgement → judgedFrom 1 machine calls room s start ws b ≡ refused (record { refusal = AddressUndefined; byte = byte })
+  unfolding judgedFrom blames judgedBy
+  unused-stops {byte} e =
+      stop _ _ _ _ (unused-stop unused bad (valuesOf (machine .speeds) (b .modes) (b .code) ws) byte (sym e))
+
+  pub bad-stops : {byte : ℕ} → Bad byte ≡ judgement → judgedFrom 1 machine calls room s start ws b ≡ refused (record { refusal = BadParameter; byte = byte })
+  unfolding judgedFrom blames judgedBy
+  bad-stops {byte} e =
+      let f = bad-stop unused bad (valuesOf (machine .speeds) (b .modes) (b .code) ws) byte (sym e) in
+      past _ _ _ (word-past AddressUndefined unused (f .used)) ∙ stop _ _ _ _ (f .named)
+
+-- ---- 15 and 4
+
+standing-fine : (o : Option Word) → status.Fine ≡ standing o → o ≡ none
+unfolding standing
+standing-fine none e = refl
+standing-fine (some w) e = let no : _≡_ {A = ℕ} 0 1 = cc in absurd (omega arith)
+
+standing-word :
+    (o : Option Word) (byte : ℕ) → status.MayNot byte ≡ standing o
+    → atWord CannotExecute o ≡ some (record { refusal = CannotExecute; byte = byte })
+unfolding standing atWord
+standing-word none byte e = let no : _≡_ {A = ℕ} 0 1 = cc in absurd (omega arith)
+standing-word (some w) byte e = let same : w .at ≡ byte = cc in rw same
+
+standing-read : (o : Option Word) (byte : ℕ) → status.Unreadable byte ≡ standing o → _≡_ {A = ℕ} 0 1
+unfolding standing
+standing-read none byte e = cc
+standing-read (some w) byte e = cc
+
+module _ (machine : Machine) (calls : Calls) (room : ℕ) (s : State) (start : ℕ) where
+  abbrev verdict : Words → Verdict
+  verdict words = execWords machine calls room s start words
+
+  pub unreadable-stops :
+      (words : Words) (byte : ℕ) → status.Unreadable byte ≡ statusOf (inMain calls) words
+      → verdict words ≡ refused (record { refusal = Unreadable; byte = byte })
+  unfolding statusOf execWords
+  unreadable-stops (badAt at) byte e = let same : byte ≡ at = cc in rw same
+  unreadable-stops (these ws) byte e =
+      let no = standing-read (firstThatMayNot (inMain calls) [] ws) byte e in absurd (omega arith)
+
+  pub standing-stops :
+      (words : Words) (byte : ℕ) → status.MayNot byte ≡ statusOf (inMain calls) words
+      → verdict words ≡ refused (record { refusal = CannotExecute; byte = byte })
+  unfolding statusOf execWords judged blames
+  standing-stops (badAt at) byte e = let no : _≡_ {A = ℕ} 0 1 = cc in absurd (omega arith)
+  standing-stops (these ws) byte e = stop _ _ _ _ (standing-word (firstThatMayNot (inMain calls) [] ws) byte e)
+
+  -- a block that reads as words all of which may stand
+  pub record Stands (words : Words) : Type 0 where
+    pub ws : List Word
+    pub are : words ≡ these ws
+    pub goes : verdict words ≡ judgedFrom 1 machine calls room s start ws (saidBy machine (s .modes) ws)
+
+  pub stands : (words : Words) → status.Fine ≡ statusOf (inMain calls) words → Stands words
+  unfolding statusOf execWords judged blames judgedFrom
+  stands (badAt at) e = let no : _≡_ {A = ℕ} 0 1 = cc in absurd (omega arith)
+  stands (these ws) e =
+      record {
+        ws = ws;
+        are = refl;
+        goes = past _ _ _ (word-past CannotExecute _ (standing-fine (firstThatMayNot (inMain calls) [] ws) e));
+      }

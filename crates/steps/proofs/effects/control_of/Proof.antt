@@ -1,0 +1,33 @@
+-- `steps::effects::control_of` meets its contract. Assumes nothing.
+use borrow.Author.Tests.{eq-eqb, ne-eqb}
+use Rattle.codes.specs.Codes.{isM}
+use Rattle.blocks.specs.Exec.{controlOf}
+use borrow.Author.Needs.{needs}
+use Rattle.steps.proofs.effects.control_of.Statement.{statement}
+use Rattle.steps.proofs.effects.control_of.Tie as tie
+
+misc-number-requires : tie.Need-misc-number-requires
+misc-number-requires c κs = search needs
+
+called-requires : tie.Need-called-requires
+called-requires c κs = search needs
+
+returns : tie.Need-returns
+unfolding controlOf isM
+returns c = rw (← (c .before .before .misc-number .ensures), eq-eqb _ _ (c .before .if1 .taken), c .called .ensures)
+
+returns-2 : tie.Need-returns-2
+unfolding controlOf isM
+returns-2 c = rw (← (c .before .before .misc-number .ensures), ne-eqb _ _ (c .before .if1 .left), eq-eqb _ _ (c .if2 .taken))
+
+returns-3 : tie.Need-returns-3
+unfolding controlOf isM
+returns-3 c = rw (← (c .before .before .before .misc-number .ensures), ne-eqb _ _ (c .before .before .if1 .left), ne-eqb _ _ (c .before .if2 .left), c .if3 .taken)
+
+returns-4 : tie.Need-returns-4
+unfolding controlOf isM
+returns-4 c = rw (← (c .before .before .before .misc-number .ensures), ne-eqb _ _ (c .before .before .if1 .left), ne-eqb _ _ (c .before .if2 .left), c .if3 .left)
+
+pub control-of-spec : {M : Type 1} → statement M
+control-of-spec =
+    tie.close (tie.spec misc-number-requires called-requires returns returns-2 returns-3 returns-4)

@@ -1,0 +1,24 @@
+-- `steps::effects::last_plan` meets its contract. Assumes nothing.
+use borrow.Author.Tests.{eq-eqb, ne-eqb}
+use Rattle.steps.proofs.Small.{last-off, last-pause, last-end, last-none}
+use borrow.Author.Needs.{needs}
+use Rattle.steps.proofs.effects.last_plan.Statement.{statement}
+use Rattle.steps.proofs.effects.last_plan.Tie as tie
+
+misc-number-requires : tie.Need-misc-number-requires
+misc-number-requires c κs = search needs
+
+returns : tie.Need-returns
+returns c = last-off (c .before .before .args .misc) (c .before .misc-number .ensures) (eq-eqb _ _ (c .if1 .taken))
+
+returns-2 : tie.Need-returns-2
+returns-2 c = last-pause (c .before .before .before .args .misc) (c .before .before .misc-number .ensures) (ne-eqb _ _ (c .before .if1 .left)) (eq-eqb _ _ (c .if2 .taken))
+
+returns-3 : tie.Need-returns-3
+returns-3 c = last-end (c .before .before .before .before .args .misc) (c .before .before .before .misc-number .ensures) (ne-eqb _ _ (c .before .before .if1 .left)) (ne-eqb _ _ (c .before .if2 .left)) (c .if3 .taken)
+
+returns-4 : tie.Need-returns-4
+returns-4 c = last-none (c .before .before .before .before .args .misc) (c .before .before .before .misc-number .ensures) (ne-eqb _ _ (c .before .before .if1 .left)) (ne-eqb _ _ (c .before .if2 .left)) (c .if3 .left)
+
+pub last-plan-spec : {M : Type 1} → statement M
+last-plan-spec = tie.close (tie.spec misc-number-requires returns returns-2 returns-3 returns-4)

@@ -1,0 +1,20 @@
+-- `steps::order::is_g17` meets its contract. Assumes nothing.
+use mathlib.Core.Path.{sym}
+use Rattle.blocks.specs.Exec.{isG17}
+use Rattle.steps.proofs.Small.{not-g17}
+use borrow.Author.Needs.{needs}
+use Rattle.steps.proofs.order.is_g17.Statement.{statement}
+use Rattle.steps.proofs.order.is_g17.Tie as tie
+
+enum-told : tie.Need-enum-told
+enum-told c = search needs
+
+returns : tie.Need-returns
+unfolding isG17
+returns c = rw (c .enum-told .given .1)
+
+returns-2 : tie.Need-returns-2
+returns-2 c = sym (not-g17 (c .before .args .plane) (c .match .keys2))
+
+pub is-g17-spec : {M : Type 1} → statement M
+is-g17-spec = tie.close (tie.spec enum-told returns returns-2)

@@ -1,0 +1,107 @@
+// What a block does beside its motion, in the order of effects.
+ghost use mathlib.Core.Path.{_≡_};
+ghost use lib.IntN.{natAbs};
+ghost use Rattle.blocks.specs.Exec.{working, spindleRecords, lastRecords, controlOf};
+ghost use Rattle.steps.specs.Steps.{Brief, settledAt};
+use blocks::Control;
+use blocks::Said;
+use codes::Misc;
+use lengths::Len;
+use moves::Plan;
+use points::Point;
+use records::Record;
+use settings::State;
+use words::Given;
+
+// The settings in which the block moves: after groups A to F, the F word, S and M03.
+pub fn working(s: State, b: Said) -> State
+    ensures { λ r. ⌜ r ≡ working s b ⌝ }
+{
+    let at = s.at;
+    let modes = b.modes;
+    let misc = b.misc;
+    let values = b.values;
+    let feed = settings::or_else(values.f, s.feed);
+    let speed = settings::or_else(values.s, s.speed);
+    let turning = s.turning | (codes::misc_number(misc) == 3);
+    State {
+        at,
+        modes,
+        feed,
+        speed,
+        turning,
+    }
+}
+
+// S with the spindle turning, or M03, writes one spindle record. The speed is that which the block works with.
+pub fn spindle_plan(s: State, b: Said, speed: Len) -> Plan
+    requires { ⌜ speed ≡ working s b .speed ⌝ }
+    ensures { λ p. ⌜ Brief (spindleRecords s b) p ⌝ }
+{
+    let misc = b.misc;
+    let values = b.values;
+    let word = values.s;
+    if (s.turning & word.stands) | (codes::misc_number(misc) == 3) {
+        return Plan::Single(Record::SP(speed));
+    }
+    Plan::Rest
+}
+
+// What the M code writes after the motion.
+pub fn last_plan(misc: Misc) -> Plan
+    ensures { λ p. ⌜ Brief (lastRecords misc) p ⌝ }
+{
+    let n = codes::misc_number(misc);
+    if n == 5 {
+        return Plan::Single(Record::SO);
+    }
+    if n == 0 {
+        return Plan::Single(Record::PA);
+    }
+    if (n == 2) | (n == 30) {
+        return Plan::Single(Record::EN);
+    }
+    Plan::Rest
+}
+
+// The number that M98 calls. The value of P is not negative there.
+fn called(p: Given) -> u64
+    ensures { λ n. ⌜ n ≡ natAbs (p .v .v) ⌝ }
+{
+    p.v.apart(Len::zero())
+}
+
+pub fn control_of(b: Said) -> Control
+    ensures { λ r. ⌜ r ≡ controlOf b ⌝ }
+{
+    let misc = b.misc;
+    let values = b.values;
+    let n = codes::misc_number(misc);
+    if n == 98 {
+        return Control::Call(called(values.p));
+    }
+    if n == 99 {
+        return Control::Back;
+    }
+    if (n == 2) | (n == 30) {
+        return Control::Stop;
+    }
+    Control::On
+}
+
+// The settings after the block, whose path ended at a point.
+pub fn settled(w: State, misc: Misc, end: Point) -> State
+    ensures { λ r. ⌜ r ≡ settledAt w misc end ⌝ }
+{
+    let modes = w.modes;
+    let feed = w.feed;
+    let speed = w.speed;
+    let turning = w.turning & (codes::misc_number(misc) != 5);
+    State {
+        at: end,
+        modes,
+        feed,
+        speed,
+        turning,
+    }
+}

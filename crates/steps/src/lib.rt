@@ -1,0 +1,13 @@
+// One block, from its words to its verdict and its records.
+mod effects;
+mod order;
+
+pub use effects::control_of;
+pub use effects::last_plan;
+pub use effects::settled;
+pub use effects::spindle_plan;
+pub use effects::working;
+pub use order::cannot_drill;
+pub use order::is_too_deep;
+pub use order::is_unknown_call;
+pub use order::lacks_parameter;

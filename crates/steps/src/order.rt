@@ -1,0 +1,102 @@
+// The order of refusals from 3 on, and what an accepted block leaves in the list.
+ghost use mathlib.Core.Path.{_≡_};
+ghost use mathlib.Core.Bool.{Bool, _&&_};
+ghost use mathlib.Core.List.{List};
+ghost use Prim.Native.Nat.{ℕ, _-_};
+ghost use Rattle.letters.specs.declared.BlockCode.the-variants.{Moving};
+ghost use Rattle.programs.specs.declared.Program.{Program};
+ghost use Rattle.programs.specs.Found.{Ready, subsOf};
+ghost use Rattle.blocks.specs.Motions.{cycleDone};
+ghost use Rattle.blocks.specs.Exec.{callsIn, callTo, unknownCall, tooDeep, lacksCentre, lacksParameter, drills, isG17, cannotDrill, working};
+use blocks::Control;
+use blocks::Said;
+use codes::Motion;
+use codes::Plane;
+use letters::BlockCode;
+use programs::Found;
+use programs::Programs;
+use settings::State;
+use words::Values;
+
+fn lacks_centre(motion: Motion, v: Values) -> bool
+    ensures { λ r. ⌜ r ≡ lacksCentre motion v ⌝ }
+{
+    match motion {
+        Motion::G02 => moves::end_stands(v) & !moves::centre_stands(v),
+        Motion::G03 => moves::end_stands(v) & !moves::centre_stands(v),
+        _ => false,
+    }
+}
+
+pub fn lacks_parameter(code: BlockCode, v: Values) -> bool
+    ensures { λ r. ⌜ r ≡ lacksParameter code v ⌝ }
+{
+    let p = v.p;
+    match code {
+        BlockCode::Calling => !p.stands,
+        BlockCode::Returning => false,
+        BlockCode::Dwelling => !p.stands,
+        BlockCode::Moving(motion) => lacks_centre(motion, v),
+    }
+}
+
+pub fn is_unknown_call(t: Programs, control: Control) -> bool
+    requires { ⌜ Ready t ⌝ }
+    ensures { λ r. ⌜ ((left : ℕ) → r ≡ unknownCall (callsIn (subsOf t) left) (callTo control)) ⌝ }
+{
+    let Control::Call(n) = control else {
+        return false;
+    };
+    match scanning::find(t, n) {
+        Found::At(_) => false,
+        Found::Missing => true,
+    }
+}
+
+pub fn is_too_deep(left: usize, control: Control) -> bool
+    ensures { λ r. ⌜ ((programs : List Program) → r ≡ tooDeep (callsIn programs left) (callTo control)) ⌝ }
+{
+    match control {
+        Control::Call(_) => left == 0,
+        _ => false,
+    }
+}
+
+fn is_drilling(motion: Motion) -> bool
+    ensures { λ r. ⌜ ((named : Bool) (v : Values) → drills (Moving motion) named v ≡ (r && cycleDone named v)) ⌝ }
+{
+    match motion {
+        Motion::Drilling(_) => true,
+        _ => false,
+    }
+}
+
+// Whether a cycle is done in the block.
+fn drills(code: BlockCode, named: bool, v: Values) -> bool
+    ensures { λ r. ⌜ r ≡ drills code named v ⌝ }
+{
+    match code {
+        BlockCode::Moving(motion) => is_drilling(motion) & moves::cycle_done(named, v),
+        _ => false,
+    }
+}
+
+fn is_g17(plane: Plane) -> bool
+    ensures { λ r. ⌜ r ≡ isG17 plane ⌝ }
+{
+    match plane {
+        Plane::G17 => true,
+        _ => false,
+    }
+}
+
+// A cycle needs G17 and a turning spindle, whose M03 may be the block's own.
+pub fn cannot_drill(b: Said, turning: bool) -> bool
+    ensures { λ r. ⌜ ((s : State) → working s b .turning ≡ turning → r ≡ cannotDrill s b) ⌝ }
+{
+    let code = b.code;
+    let modes = b.modes;
+    let plane = modes.plane;
+    let v = b.values;
+    drills(code, b.named, v) & (!is_g17(plane) | !turning)
+}

@@ -1,0 +1,24 @@
+-- `strokes::seen` meets its contract: view by view. Assumes nothing.
+use borrow.Author.Needs.{needs}
+use Rattle.strokes.specs.Strokes.{seenFrom}
+use Rattle.strokes.proofs.seen.Statement.{statement}
+use Rattle.strokes.proofs.seen.Tie as tie
+
+enum-told : tie.Need-enum-told
+enum-told c = search needs
+
+enum-told-2 : tie.Need-enum-told-2
+enum-told-2 c = search needs
+
+returns : tie.Need-returns
+unfolding seenFrom
+returns c =
+    rw (c .enum-told .given .1)
+
+returns-2 : tie.Need-returns-2
+unfolding seenFrom
+returns-2 c =
+    rw (c .enum-told2 .given .1)
+
+pub seen-spec : {M : Type 1} → statement M
+seen-spec = tie.close (tie.spec enum-told enum-told-2 returns returns-2)

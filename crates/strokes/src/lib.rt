@@ -1,0 +1,59 @@
+// Numbers, points, lines and dots as SVG text, in units, written into a buffer that may be too short for them.
+mod writing;
+
+ghost use mathlib.Core.Path.{_≡_};
+ghost use mathlib.Core.List.{_++_};
+ghost use Rattle.strokes.specs.Text.{Fills};
+ghost use Rattle.strokes.specs.Strokes.{seenFrom, pair, line, dot};
+use points::Flat;
+use points::Point;
+pub use writing::put_count;
+pub use writing::put_named;
+pub use writing::put_text;
+
+// From where a path is seen: X to the right, and Y up from above, Z up from the side.
+pub enum View {
+    Above,
+    Side,
+}
+
+pub fn seen(view: View, p: Point) -> Flat
+    ensures { λ r. ⌜ r ≡ seenFrom view p ⌝ }
+{
+    let x = p.x;
+    let y = p.y;
+    let z = p.z;
+    match view {
+        View::Above => Flat {
+            first: x,
+            second: y,
+        },
+        View::Side => Flat {
+            first: x,
+            second: z,
+        },
+    }
+}
+
+pub fn put_pair(out: &mut [u8], at: usize, text: &[u8], p: Flat) -> usize
+    ensures { λ next. ⌜ Fills (now (out .entry)) at (now (text .entry) ++ pair p) (now (out .exit)) next ⌝ }
+{
+    let next = put_named(out, at, text, p.first);
+    put_named(out, next, b" ", p.second)
+}
+
+pub fn put_line(out: &mut [u8], at: usize, from: Flat, to: Flat) -> usize
+    ensures { λ next. ⌜ Fills (now (out .entry)) at (line from to) (now (out .exit)) next ⌝ }
+{
+    let first = put_pair(out, at, b"<path d=\"M", from);
+    let second = put_pair(out, first, b"L", to);
+    put_text(out, second, b"\"/>\n")
+}
+
+// A dot, after the text that opens its path and says what it marks.
+pub fn put_dot(out: &mut [u8], at: usize, opening: &[u8], p: Flat) -> usize
+    ensures { λ next. ⌜ Fills (now (out .entry)) at (dot (now (opening .entry)) p) (now (out .exit)) next ⌝ }
+{
+    let next = put_pair(out, at, opening, p);
+    put_text(out, next, b"h0\"/>\n")
+}

@@ -1,0 +1,67 @@
+-- `texts::word_end` meets its contract. What is left gives the same. Assumes nothing.
+use borrow.Author.Needs.{needs}
+use Prim.Native.Nat.{_+_, _-_}
+use mathlib.Core.Path.{_≡_, refl, sym, ap, _∙_}
+use mathlib.Core.Bool.{true, false}
+use native.Mathlib.Omega.{arith}
+use lib.ListN.{length, getD}
+use borrow.Author.Tests.{not-true, not-false}
+use Rattle.texts.specs.Texts.{inWord, wordAt}
+use Rattle.texts.proofs.Places.{word-end, word-more, word-over}
+use Rattle.texts.proofs.word_end.Statement.{statement}
+use Rattle.texts.proofs.word_end.Tie as tie
+
+abbrev Inv-loop : tie.InvT-loop
+Inv-loop s at i₀ i = at + length (wordAt s at) ≡ i + length (wordAt s i)
+
+abbrev μ-loop : tie.MeasureT-loop
+μ-loop s at i₀ i = length s - i
+
+loop-holds : tie.Need-loop-holds Inv-loop μ-loop
+loop-holds c = refl
+
+shared-slice-read-in-word : tie.Need-shared-slice-read-in-word Inv-loop μ-loop
+shared-slice-read-in-word c = search needs
+
+in-word-requires : tie.Need-in-word-requires Inv-loop μ-loop
+in-word-requires c κs = search needs
+
+returns : tie.Need-returns Inv-loop μ-loop
+returns c =
+    let d = c .before .before .before .before in
+    let s = d .before .before .args .s .now in
+    let e : inWord (getD s (d .loop .i) 0) ≡ false = sym (c .before .in-word .ensures) ∙ not-true _ (c .if1 .taken) in
+    omega (arith, d .loop .inv, word-over s (d .loop .i) (omega arith) e)
+
+add-i : tie.Need-add-i Inv-loop μ-loop
+add-i c = search needs
+
+loop-less : tie.Need-loop-less Inv-loop μ-loop
+loop-less c = search needs
+
+loop-again : tie.Need-loop-again Inv-loop μ-loop
+loop-again c =
+    let d = c .before .before .before .before in
+    let s = d .before .before .args .s .now in
+    let e : inWord (getD s (d .loop .i) 0) ≡ true = sym (c .before .in-word .ensures) ∙ not-false _ (c .if1 .left) in
+    omega (arith, d .loop .inv, word-more s (d .loop .i) (omega arith) e)
+
+returns-2 : tie.Need-returns-2 Inv-loop μ-loop
+returns-2 c =
+    let d = c .before in
+    omega (arith, d .loop .inv, word-end (d .before .before .args .s .now) (d .loop .i) (omega arith))
+
+pub word-end-spec : {M : Type 1} → statement M
+word-end-spec =
+    tie.close
+    (tie.spec
+    Inv-loop
+    μ-loop
+    loop-holds
+    shared-slice-read-in-word
+    in-word-requires
+    returns
+    add-i
+    loop-less
+    loop-again
+    returns-2)
