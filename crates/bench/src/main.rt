@@ -1,20 +1,11 @@
 // Runs the data on standard input under setup T, as many times as the argument says and each time into the same buffer, and
 // prints one line: that number, the blocks that a run executes, and the records that it makes. The time of a block is
 // measured from outside, by two numbers of runs, so that all that is done once is taken off.
-ghost use mathlib.Core.Path.{_≡_};
-ghost use lib.ListN.{length};
 use libc::STDERR_FILENO;
 use libc::STDIN_FILENO;
 use libc::STDOUT_FILENO;
 use refusals::Answer;
 use texts::Digits;
-
-// A call hands the array over as an unknown of a known length, so that no proof writes a million zeros out.
-fn list_room() -> [u8; 1048576]
-    ensures { λ r. ⌜ 1048576 ≡ length r ⌝ }
-{
-    [0; 1048576]
-}
 
 fn main() {
     let mut word = [0u8; 32];
@@ -29,7 +20,7 @@ fn main() {
 }
 
 fn measure(times: u64, bytes: &[u8]) {
-    let mut list = list_room();
+    let mut list = buffers::list_room();
     let records = run_times(times, bytes, &mut list);
     let blocks = least(enough(bytes, &mut list), bytes, &mut list);
     io::print_decimal(STDOUT_FILENO, times);

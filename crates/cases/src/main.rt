@@ -2,7 +2,6 @@
 // case is a line of 38 whole numbers with one space between: the setup's 35 in document 01's order, the count of blocks to
 // run or a number below 0 for the whole, the room for records, and the data's length; then the data's bytes as they are, and
 // a line's end. What is no case ends the run by `bad case`. The input has to be shorter than 1 MiB.
-ghost use mathlib.Core.Path.{_≡_};
 ghost use Prim.Native.Nat.{_≤_};
 ghost use lib.ListN.{length};
 use headers::Case;
@@ -12,15 +11,8 @@ use libc::STDOUT_FILENO;
 use refusals::Answer;
 use setup::Setup;
 
-// A call hands the array over as an unknown of a known length, so that no proof writes a million zeros out.
-fn room() -> [u8; 1048576]
-    ensures { λ r. ⌜ 1048576 ≡ length r ⌝ }
-{
-    [0; 1048576]
-}
-
 fn main() {
-    let mut input = room();
+    let mut input = buffers::list_room();
     let n = io::read_full(STDIN_FILENO, &mut input);
     if n == 1048576 {
         io::write_all(STDOUT_FILENO, b"too long\n");

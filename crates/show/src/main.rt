@@ -1,20 +1,11 @@
 // Prints the records of a list that comes on standard input, one to a line: the mark, then its numbers in layout order,
 // with one space between. The last line is `end`, or what the reader refuses and the place of its mark. A list has to be
 // shorter than 1 MiB.
-ghost use mathlib.Core.Path.{_≡_};
-ghost use lib.ListN.{length};
 use libc::STDIN_FILENO;
 use libc::STDOUT_FILENO;
 
-// A call hands the array over as an unknown of a known length, so that no proof writes a million zeros out.
-fn room() -> [u8; 1048576]
-    ensures { λ r. ⌜ 1048576 ≡ length r ⌝ }
-{
-    [0; 1048576]
-}
-
 fn main() {
-    let mut buffer = room();
+    let mut buffer = buffers::list_room();
     let n = io::read_full(STDIN_FILENO, &mut buffer);
     if n == 1048576 {
         io::write_all(STDOUT_FILENO, b"too long\n");

@@ -1,0 +1,38 @@
+// A run's answer: printed, with what a refusal means and where it stands.
+mod meanings;
+mod places;
+
+use libc::STDOUT_FILENO;
+use meanings::show_meaning;
+use places::show_place;
+use printing::show_count;
+pub use refusals::Answer;
+use refusals::Place;
+use refusals::Refusal;
+
+pub fn show_answer(data: &[u8], answer: Answer) {
+    match answer {
+        Answer::Done(count) => show_counted(b"done", count),
+        Answer::Unfinished(count) => show_counted(b"not finished", count),
+        Answer::Refused(refusal, place, _) => show_refusal(data, refusal, place),
+    }
+}
+
+fn show_counted(word: &[u8], count: usize) {
+    io::write_all(STDOUT_FILENO, word);
+    show_count(count as u64);
+    io::write_all(STDOUT_FILENO, b"\n");
+}
+
+// Where the data is not to blame the block is 0, and no place is shown.
+fn show_refusal(data: &[u8], refusal: Refusal, place: Place) {
+    io::write_all(STDOUT_FILENO, b"refused");
+    show_count(refusals::number(refusal));
+    show_count(place.block as u64);
+    show_count(place.byte as u64);
+    io::write_all(STDOUT_FILENO, b"\n");
+    show_meaning(refusal);
+    if place.block != 0 {
+        show_place(data, place.byte);
+    }
+}

@@ -1,0 +1,55 @@
+-- `commands::count_of` meets its contract. What is left gives the same. Assumes nothing.
+use borrow.Author.Needs.{needs}
+use Prim.Native.Nat.{_≤_, _-_, _+_}
+use mathlib.Core.Path.{_≡_}
+use mathlib.Core.Logic.{⊎-elim}
+use native.Mathlib.Omega.{arith}
+use lib.ListN.{length, drop}
+use Rattle.commands.specs.Words.{countIn}
+use Rattle.commands.proofs.Parting.{count-end, count-one, count-none}
+use Rattle.commands.proofs.count_of.Statement.{statement}
+use Rattle.commands.proofs.count_of.Tie as tie
+
+abbrev Inv-loop : tie.InvT-loop
+Inv-loop line count₀ i₀ count i = (i ≤ length line) × (count ≤ i) × (countIn line ≡ count + countIn (drop i line))
+
+abbrev μ-loop : tie.MeasureT-loop
+μ-loop line count₀ i₀ count i = length line - i
+
+loop-holds : tie.Need-loop-holds Inv-loop μ-loop
+loop-holds c = search needs
+
+shared-slice-read-if1 : tie.Need-shared-slice-read-if1 Inv-loop μ-loop
+shared-slice-read-if1 c = search needs
+
+add-count : tie.Need-add-count Inv-loop μ-loop
+add-count c = search needs
+
+add-i : tie.Need-add-i Inv-loop μ-loop
+add-i c = search needs
+
+loop-less : tie.Need-loop-less Inv-loop μ-loop
+loop-less c = search needs
+
+loop-again : tie.Need-loop-again Inv-loop μ-loop
+loop-again c =
+    let d = c .before .before .before in
+    let l = d .before .args .line .now in
+    ⊎-elim (λ w. omega (arith, count-one l (d .loop .i) (omega arith) (w .0 .taken))) (λ w. omega (arith, count-none l (d .loop .i) (omega arith) (w .0 .left))) (c .if1 .came)
+
+returns : tie.Need-returns Inv-loop μ-loop
+returns c = omega (arith, count-end (c .before .before .args .line .now) (c .before .loop .i) (omega arith))
+
+pub count-of-spec : {M : Type 1} → statement M
+count-of-spec =
+    tie.close
+    (tie.spec
+    Inv-loop
+    μ-loop
+    loop-holds
+    shared-slice-read-if1
+    add-count
+    add-i
+    loop-less
+    loop-again
+    returns)

@@ -1,0 +1,42 @@
+-- `commands::word` meets its contract: the bytes from a place to another are the word there. Assumes nothing.
+use borrow.Author.Needs.{needs}
+use mathlib.Core.Path.{ap, _∙_}
+use native.Mathlib.Omega.{arith}
+use Rattle.commands.specs.Words.{wordIn, wordOf}
+use Rattle.commands.proofs.Parting.{word-inside, is-word}
+use Rattle.commands.proofs.word.Statement.{statement}
+use Rattle.commands.proofs.word.Tie as tie
+
+after-words-requires : tie.Need-after-words-requires
+after-words-requires c κs = search needs
+
+word-end-requires : tie.Need-word-end-requires
+word-end-requires c κs = search needs
+
+sub-result : tie.Need-sub-result
+sub-result c = search needs
+
+part-result-start : tie.Need-part-result-start
+part-result-start c = search needs
+
+part-result-end : tie.Need-part-result-end
+part-result-end c =
+    let d = c .before in
+    omega (arith, word-inside (d .before .before .args .line .now) (d .after-words .result) (omega arith))
+
+returns : tie.Need-returns
+unfolding wordOf
+returns c =
+    let d = c .before .before in
+    is-word (d .before .before .args .line .now) (d .after-words .result) (c .before .word-end .result) (c .before .word-end .ensures) ∙ ap wordIn (d .after-words .ensures .1)
+
+pub word-spec : {M : Type 1} → statement M
+word-spec =
+    tie.close
+    (tie.spec
+    after-words-requires
+    word-end-requires
+    sub-result
+    part-result-start
+    part-result-end
+    returns)

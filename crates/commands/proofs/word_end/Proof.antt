@@ -1,0 +1,55 @@
+-- `commands::word_end` meets its contract. What is left gives the same. Assumes nothing.
+use borrow.Author.Needs.{needs}
+use Prim.Native.Nat.{_≤_, _-_, _+_}
+use mathlib.Core.Path.{_≡_}
+use native.Mathlib.Omega.{arith}
+use lib.ListN.{length, drop}
+use Rattle.commands.specs.Words.{wordIn}
+use Rattle.commands.proofs.Parting.{word-none, word-over, word-more}
+use Rattle.commands.proofs.word_end.Statement.{statement}
+use Rattle.commands.proofs.word_end.Tie as tie
+
+abbrev Inv-loop : tie.InvT-loop
+Inv-loop line from i₀ i = (i ≤ length line) × (from + length (wordIn (drop from line)) ≡ i + length (wordIn (drop i line)))
+
+abbrev μ-loop : tie.MeasureT-loop
+μ-loop line from i₀ i = length line - i
+
+loop-holds : tie.Need-loop-holds Inv-loop μ-loop
+loop-holds c = search needs
+
+shared-slice-read-if1 : tie.Need-shared-slice-read-if1 Inv-loop μ-loop
+shared-slice-read-if1 c = search needs
+
+returns : tie.Need-returns Inv-loop μ-loop
+returns c =
+    let d = c .before .before .before in
+    omega (arith, word-over (d .before .args .line .now) (d .loop .i) (omega arith) (c .if1 .taken))
+
+add-i : tie.Need-add-i Inv-loop μ-loop
+add-i c = search needs
+
+loop-less : tie.Need-loop-less Inv-loop μ-loop
+loop-less c = search needs
+
+loop-again : tie.Need-loop-again Inv-loop μ-loop
+loop-again c =
+    let d = c .before .before .before in
+    omega (arith, word-more (d .before .args .line .now) (d .loop .i) (omega arith) (c .if1 .left))
+
+returns-2 : tie.Need-returns-2 Inv-loop μ-loop
+returns-2 c = let d = c .before in omega (arith, word-none (d .before .args .line .now) (d .loop .i) (omega arith))
+
+pub word-end-spec : {M : Type 1} → statement M
+word-end-spec =
+    tie.close
+    (tie.spec
+    Inv-loop
+    μ-loop
+    loop-holds
+    shared-slice-read-if1
+    returns
+    add-i
+    loop-less
+    loop-again
+    returns-2)
