@@ -1,4 +1,4 @@
-// Arcs: the root of the radius, the end's tolerance and the extremes of the path. The rules stand in specs/.
+// Arcs: the root of the radius and the end's tolerance. The rules stand in specs/, those of the path among them.
 use points::Flat;
 use points::Point;
 use records::Arc;

@@ -16,7 +16,7 @@ use Rattle.strokes.specs.declared.View.{View}
 use Rattle.strokes.specs.declared.View.the-variants.{Above, Side}
 use Rattle.strokes.specs.Text.{_⧺_, decimal}
 use Rattle.strokes.specs.Strokes.{seenFrom, pair, begun, done, line}
-use Rattle.bends.specs.Turns.{quarterOn, soon, pointOn, radiusOf, drawable}
+use Rattle.turning.specs.Turns.{quarterOn, soon, pointOn, radiusOf, drawable}
 
 -- an arc is seen round from above in G17, and from the side in G18
 unfoldable pub isRound : View → Plane → Bool

@@ -1,5 +1,4 @@
 // An arc as SVG text: round where its plane is seen from the front, and from its edge as the straight line that it is from there.
-mod turning;
 
 ghost use Prim.Native.Nat.{_≤_};
 ghost use mathlib.Core.Path.{_≡_};
@@ -8,7 +7,7 @@ ghost use Rattle.arcs.specs.Arcs.{towards};
 ghost use Rattle.arcs.specs.Turning.{onLeftWay};
 ghost use Rattle.arcs.specs.Bounds.{Small};
 ghost use Rattle.strokes.specs.Text.{Fills};
-ghost use Rattle.bends.specs.Turns.{Drawable};
+ghost use Rattle.turning.specs.Turns.{Drawable};
 ghost use Rattle.bends.specs.Bends.{isRound, turnSeen, piece, quarters, extreme, extremes, rounded, edge, arc};
 use codes::Plane;
 use lengths::Len;

@@ -2,7 +2,7 @@
 ghost use Prim.Native.Nat.{_≤_, _<_};
 use crate::is;
 use crate::word;
-use files::complain;
+use telling::complain;
 use texts::Digits;
 
 // All blocks are run where it is whole, and else the first so many.

@@ -4,8 +4,8 @@ ghost use mathlib.Core.Path.{_≡_};
 ghost use Prim.Native.Nat.{_+_, _≤_};
 ghost use lib.ListN.{length};
 ghost use Rattle.io.specs.Counts.{Counts};
-use crate::telling::begin_line;
-use crate::telling::complain_why;
+use telling::begin_line;
+use telling::complain_why;
 
 // How many bytes were read to the start of the buffer, and whether all went well.
 pub struct Got {

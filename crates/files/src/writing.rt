@@ -4,8 +4,8 @@ ghost use mathlib.Core.Path.{_≡_};
 ghost use Prim.Native.Nat.{_+_, _≤_};
 ghost use lib.ListN.{length};
 ghost use Rattle.io.specs.Counts.{Counts};
-use crate::telling::complain;
-use crate::telling::complain_why;
+use telling::complain;
+use telling::complain_why;
 
 // Answers whether the bytes are there. Where not, a line says why, and nothing new stands at the path or beside it.
 pub fn write_whole(path: &[u8], bytes: &[u8], err: i32) -> bool {

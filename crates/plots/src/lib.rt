@@ -3,11 +3,11 @@ use buffers::list_room;
 use buffers::picture_room;
 use commands::is;
 use commands::word;
-use files::begin_line;
-use files::complain;
 use pictures::Drawn;
 use setup::Setup;
 use setup_files::setup_in;
+use telling::begin_line;
+use telling::complain;
 
 pub fn plot(line: &[u8], count: usize, err: i32) {
     if count != 4 {

@@ -1,4 +1,4 @@
-// The walk through the blocks of a program. A call walks the subprogram by the same function, with one level less.
+// What changes from block to block, and where a block leads.
 ghost use mathlib.Core.Path.{_≡_};
 ghost use mathlib.Core.Bool.{false};
 ghost use mathlib.Core.List.{[]};

@@ -1,4 +1,4 @@
-// Reading the words of a block, each byte once: refusal 15, and 4 for words that may not stand.
+// The tests of one word in a block, refusal 4, and the readable item at a place of its text.
 use codes::Code;
 use codes::Misc;
 use gaps::Comment;

@@ -1,10 +1,10 @@
 // Setups in files: one is read, or a line says what is wrong with it; and which limit one breaks, in plain words.
 mod limits;
 
-use files::begin_line;
 pub use limits::show_fault;
 use setup::Setup;
 use setups::Reading;
+use telling::begin_line;
 use texts::Wrong;
 
 // A setup is of use only where all is fine. Else a line has said what is wrong.

@@ -5,11 +5,11 @@ use commands::count_of;
 use commands::is;
 use commands::word;
 use faults::Fault;
-use files::complain;
 use libc::STDOUT_FILENO;
 use plots::plot;
 use running::run;
 use setup_files::setup_in;
+use telling::complain;
 
 // What the first word asks for.
 pub enum Asked {

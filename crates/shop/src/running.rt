@@ -9,11 +9,11 @@ use commands::Options;
 use commands::is;
 use commands::options_of;
 use commands::word;
-use files::complain;
 use printing::count_of;
 use records::Listed;
 use setup::Setup;
 use setup_files::setup_in;
+use telling::complain;
 
 pub fn run(line: &[u8], count: usize, err: i32) {
     if count < 4 {

@@ -1,4 +1,4 @@
-// One block, from its words to its verdict and its records.
+// What a block is tested for, and what it does beside its motion.
 mod effects;
 mod order;
 

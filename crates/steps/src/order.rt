@@ -1,4 +1,4 @@
-// The order of refusals from 3 on, and what an accepted block leaves in the list.
+// The tests of a block in the order of refusals, from 3 on to that of a cycle.
 ghost use mathlib.Core.Path.{_≡_};
 ghost use mathlib.Core.Bool.{Bool, _&&_};
 ghost use mathlib.Core.List.{List};

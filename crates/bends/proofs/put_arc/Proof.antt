@@ -3,7 +3,8 @@ use mathlib.Core.Path.{sym, _∙_}
 use native.Mathlib.Omega.{arith}
 use borrow.Author.Needs.{needs}
 use borrow.Author.Tests.{not-true, not-false}
-use Rattle.bends.proofs.Turned.{drawable-facts, arc-far, arc-round, arc-left, arc-right}
+use Rattle.turning.proofs.Turned.{drawable-facts}
+use Rattle.bends.proofs.Bent.{arc-far, arc-round, arc-left, arc-right}
 use Rattle.bends.proofs.put_arc.Statement.{statement}
 use Rattle.bends.proofs.put_arc.Tie as tie
 

@@ -10,7 +10,7 @@ use Rattle.arcs.specs.Turning.{onLeftWay}
 use Rattle.strokes.proofs.Filled.{fills-length}
 use Rattle.strokes.specs.Text.{Fills}
 use Rattle.bends.specs.Bends.{extremes}
-use Rattle.bends.proofs.Turned.{extremes-done, extremes-on}
+use Rattle.bends.proofs.Bent.{extremes-done, extremes-on}
 use Rattle.bends.proofs.put_extremes.Statement.{statement}
 use Rattle.bends.proofs.put_extremes.Tie as tie
 

@@ -9,7 +9,7 @@ use Rattle.arcs.specs.Bounds.{Small}
 use Rattle.strokes.proofs.Filled.{fills-length}
 use Rattle.strokes.specs.Text.{Fills}
 use Rattle.bends.specs.Bends.{quarters}
-use Rattle.bends.proofs.Turned.{quarters-soon, quarters-done, quarters-on}
+use Rattle.bends.proofs.Bent.{quarters-soon, quarters-done, quarters-on}
 use Rattle.bends.proofs.put_quarters.Statement.{statement}
 use Rattle.bends.proofs.put_quarters.Tie as tie
 

@@ -1,4 +1,4 @@
--- `cycles::writing::put_cut` meets its contract. Assumes nothing.
+-- `drilling::put_cut` meets its contract. Assumes nothing.
 use borrow.Author.Needs.{needs}
 use Rattle.cycles.proofs.Written.{cut-sums, cut-fits, put-cut}
 use Rattle.drilling.proofs.put_cut.Statement.{statement}

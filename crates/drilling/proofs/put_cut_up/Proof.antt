@@ -1,4 +1,4 @@
--- `cycles::writing::put_cut_up` meets its contract, code by code. Assumes nothing.
+-- `drilling::put_cut_up` meets its contract, code by code. Assumes nothing.
 use mathlib.Core.Path.{ap}
 use mathlib.Core.List.{[], _∷_}
 use borrow.Author.Needs.{needs}

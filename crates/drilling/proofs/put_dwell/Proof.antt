@@ -1,4 +1,4 @@
--- `cycles::writing::put_dwell` meets its contract, whether P stands or not. Assumes nothing.
+-- `drilling::put_dwell` meets its contract, whether P stands or not. Assumes nothing.
 use borrow.Author.Needs.{needs}
 use Rattle.cycles.proofs.Written.{dwell-fits, put-dwell, put-no-dwell}
 use Rattle.drilling.proofs.put_dwell.Statement.{statement}

@@ -1,4 +1,4 @@
--- `cycles::writing::put_leaving` meets its contract, cycle by cycle. Assumes nothing.
+-- `drilling::put_leaving` meets its contract, cycle by cycle. Assumes nothing.
 use borrow.Author.Needs.{needs}
 use Rattle.cycles.proofs.Passes.{leaving-81, leaving-82, leaving-85, leaving-89}
 use Rattle.cycles.proofs.Written.{ready-as, put-as}

@@ -1,4 +1,4 @@
--- `cycles::writing::put_pass` meets its contract: the parts of a pass are written one after the other. Assumes nothing.
+-- `drilling::put_pass` meets its contract: the parts of a pass are written one after the other. Assumes nothing.
 use mathlib.Core.List.{List, [], _∷_, _++_}
 use borrow.Author.Needs.{needs}
 use Rattle.points.specs.declared.Point.{Point}

@@ -1,4 +1,4 @@
--- `cycles::writing::put_passes` meets its contract. What is left gives the same: the passes that are left, written onto the list as it
+-- `drilling::put_passes` meets its contract. What is left gives the same: the passes that are left, written onto the list as it
 -- is, leave what all of them leave of the list at entry. Assumes nothing.
 use mathlib.Core.Path.{refl}
 use native.Mathlib.Omega.{arith}

@@ -1,4 +1,4 @@
--- `cycles::writing::put_rapid` meets its contract. Assumes nothing.
+-- `drilling::put_rapid` meets its contract. Assumes nothing.
 use borrow.Author.Needs.{needs}
 use Rattle.cycles.proofs.Written.{rapid-sums, rapid-fits, put-rapid}
 use Rattle.drilling.proofs.put_rapid.Statement.{statement}

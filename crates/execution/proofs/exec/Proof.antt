@@ -1,4 +1,4 @@
--- `steps::exec` meets its contract. Assumes nothing.
+-- `execution::exec` meets its contract. Assumes nothing.
 use mathlib.Core.Path.{sym, _∙_, ap}
 use native.Mathlib.Omega.{arith}
 use Prim.Native.Nat.{_-_}

@@ -1,4 +1,4 @@
--- `steps::hear` meets its contract. Assumes nothing.
+-- `execution::hear` meets its contract. Assumes nothing.
 use mathlib.Core.Path.{sym, _∙_, ap}
 use native.Mathlib.Omega.{arith}
 use Rattle.refusals.specs.declared.Refusal.the-variants.{AddressUndefined, BadParameter}

@@ -1,4 +1,4 @@
--- `steps::order::obey` meets its contract. Assumes nothing.
+-- `execution::obey` meets its contract. Assumes nothing.
 use mathlib.Core.Path.{refl, _∙_, ap}
 use native.Mathlib.Omega.{arith}
 use Rattle.refusals.specs.declared.Refusal.the-variants.{ParameterUndefined, NumberNotFound, NestOver, CannotExecute}

@@ -1,4 +1,4 @@
--- `letters::is_nothing` meets its contract: only one use is none. Assumes nothing.
+-- `judging::is_nothing` meets its contract: only one use is none. Assumes nothing.
 use borrow.Author.Needs.{needs}
 use mathlib.Core.Path.{sym}
 use Rattle.letters.specs.Letters.{isNothing}

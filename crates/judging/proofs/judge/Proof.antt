@@ -1,4 +1,4 @@
--- `letters::judge` meets its contract. The invariant: what is left gives the judgement of all. Assumes nothing.
+-- `judging::judge` meets its contract. The invariant: what is left gives the judgement of all. Assumes nothing.
 use Prim.Native.Nat.{_-_, _≤_}
 use native.Mathlib.Omega.{arith}
 use lib.ListN.{length}

@@ -1,4 +1,4 @@
--- `letters::judge_value` meets its contract, by the judgement so far and then by the word's value. Assumes nothing.
+-- `judging::judge_value` meets its contract, by the judgement so far and then by the word's value. Assumes nothing.
 use borrow.Author.Needs.{needs}
 use Rattle.letters.proofs.Judging.{next-kept, next-bad, next-fit}
 use Rattle.judging.proofs.judge_value.Statement.{statement}

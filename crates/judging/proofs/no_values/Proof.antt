@@ -1,4 +1,4 @@
--- `letters::no_values` meets its contract: each is missing. Assumes nothing.
+-- `judging::no_values` meets its contract: each is missing. Assumes nothing.
 use borrow.Author.Needs.{needs}
 use Rattle.judging.proofs.no_values.Statement.{statement}
 use Rattle.judging.proofs.no_values.Tie as tie

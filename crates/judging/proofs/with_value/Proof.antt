@@ -1,4 +1,4 @@
--- `letters::with_value` meets its contract: the letter of each value, and every other. Assumes nothing.
+-- `judging::with_value` meets its contract: the letter of each value, and every other. Assumes nothing.
 use Rattle.terms.specs.Terms.{byte}
 use Rattle.letters.specs.Letters.{withValue}
 use Rattle.letters.proofs.Judging.{value-at, no-value}

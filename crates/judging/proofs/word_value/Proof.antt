@@ -1,4 +1,4 @@
--- `letters::word_value` meets its contract: it is the value for the use of the letter. Assumes nothing.
+-- `judging::word_value` meets its contract: it is the value for the use of the letter. Assumes nothing.
 use borrow.Author.Needs.{needs}
 use Rattle.letters.specs.Letters.{wordValue}
 use Rattle.judging.proofs.word_value.Statement.{statement}

@@ -1,4 +1,4 @@
--- `records::reading::arc_at` meets its contract: the end and the three numbers after it. Assumes nothing.
+-- `loading::arc_at` meets its contract: the end and the three numbers after it. Assumes nothing.
 use borrow.Author.Needs.{needs}
 use Rattle.records.proofs.Found.{arc-found}
 use Rattle.loading.proofs.arc_at.Statement.{statement}

@@ -1,4 +1,4 @@
--- `records::reading::kind_at` meets its contract: the mark as one number is found in the table of marks, or is none of its rows. Assumes nothing.
+-- `loading::kind_at` meets its contract: the mark as one number is found in the table of marks, or is none of its rows. Assumes nothing.
 use Prim.Native.Nat.{_+_, _*_}
 use mathlib.Core.Path.{_≡_, refl, sym, ap, _∙_}
 use borrow.Author.Needs.{needs}

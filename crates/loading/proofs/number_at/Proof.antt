@@ -1,4 +1,4 @@
--- `records::reading::number_at` meets its contract: what `of_bytes` answers is the number at the place. Assumes nothing.
+-- `loading::number_at` meets its contract: what `of_bytes` answers is the number at the place. Assumes nothing.
 use borrow.Author.Needs.{needs}
 use Rattle.loading.proofs.number_at.Statement.{statement}
 use Rattle.loading.proofs.number_at.Tie as tie

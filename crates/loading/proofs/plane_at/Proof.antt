@@ -1,4 +1,4 @@
--- `records::reading::plane_at` meets its contract: the byte is one of the three, or none of them. Assumes nothing.
+-- `loading::plane_at` meets its contract: the byte is one of the three, or none of them. Assumes nothing.
 use borrow.Author.Tests.{ne-eqb}
 use borrow.Author.Needs.{needs}
 use Rattle.terms.specs.Terms.{first}

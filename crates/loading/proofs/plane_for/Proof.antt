@@ -1,4 +1,4 @@
--- `records::reading::plane_for` meets its contract: by whether the kind has a plane byte. Assumes nothing.
+-- `loading::plane_for` meets its contract: by whether the kind has a plane byte. Assumes nothing.
 use mathlib.Core.Bool.{true}
 use mathlib.Core.Path.{_≡_, sym, _∙_}
 use native.Mathlib.Omega.{arith}

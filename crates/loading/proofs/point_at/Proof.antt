@@ -1,4 +1,4 @@
--- `records::reading::point_at` meets its contract: the three numbers, one after the other. Assumes nothing.
+-- `loading::point_at` meets its contract: the three numbers, one after the other. Assumes nothing.
 use borrow.Author.Needs.{needs}
 use Rattle.records.proofs.Found.{point-found}
 use Rattle.loading.proofs.point_at.Statement.{statement}

@@ -1,4 +1,4 @@
--- `records::reading::read` meets its contract: each answer is a case of the definition, in its order. Assumes nothing.
+-- `loading::read` meets its contract: each answer is a case of the definition, in its order. Assumes nothing.
 use Prim.Native.Nat.{_+_}
 use mathlib.Core.Option.{some}
 use mathlib.Core.Path.{_≡_, sym, ap, _∙_}

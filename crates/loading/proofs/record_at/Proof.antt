@@ -1,4 +1,4 @@
--- `records::reading::record_at` meets its contract: each arm reads the numbers that its kind has. Assumes nothing.
+-- `loading::record_at` meets its contract: each arm reads the numbers that its kind has. Assumes nothing.
 use mathlib.Core.Path.{ap}
 use native.Mathlib.Omega.{arith}
 use borrow.Author.Needs.{needs}

@@ -1,4 +1,4 @@
--- `steps::order::block_count` meets its contract. Assumes nothing.
+-- `making::block_count` meets its contract. Assumes nothing.
 use native.Mathlib.Omega.{arith}
 use lib.ListN.{length-append}
 use mathlib.Core.List.{_++_}

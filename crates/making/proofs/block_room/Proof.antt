@@ -1,4 +1,4 @@
--- `steps::order::block_room` meets its contract. Assumes nothing.
+-- `making::block_room` meets its contract. Assumes nothing.
 use native.Mathlib.Omega.{arith}
 use mathlib.Core.List.{_++_}
 use Rattle.cycles.proofs.Rooms.{room-append}

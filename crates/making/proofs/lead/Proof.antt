@@ -1,4 +1,4 @@
--- `steps::order::lead` meets its contract. Assumes nothing.
+-- `making::lead` meets its contract. Assumes nothing.
 use mathlib.Core.Path.{_≡_, sym, _∙_}
 use mathlib.Core.Bool.{Bool, true, false}
 use native.Mathlib.Omega.{arith}

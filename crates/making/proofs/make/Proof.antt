@@ -1,4 +1,4 @@
--- `steps::order::make` meets its contract. Assumes nothing.
+-- `making::make` meets its contract. Assumes nothing.
 use mathlib.Core.Path.{sym, _∙_, ap}
 use native.Mathlib.Omega.{arith}
 use lib.ListN.{length}

@@ -1,4 +1,4 @@
--- `steps::order::put_block` meets its contract. Assumes nothing.
+-- `making::put_block` meets its contract. Assumes nothing.
 use mathlib.Core.List.{_++_}
 use Rattle.cycles.proofs.Written.{ready-left, ready-right, put-then}
 use Rattle.moves.specs.Plans.{planRecords}

@@ -1,4 +1,4 @@
--- `words::ended` meets its contract. Assumes nothing.
+-- `numbers::ended` meets its contract. Assumes nothing.
 use Rattle.words.proofs.Reading.{ended-none, ended-some}
 use Rattle.numbers.proofs.ended.Statement.{statement}
 use Rattle.numbers.proofs.ended.Tie as tie

@@ -1,4 +1,4 @@
--- `words::first_step` meets its contract: by the kind of the byte. Assumes nothing.
+-- `numbers::first_step` meets its contract: by the kind of the byte. Assumes nothing.
 use borrow.Author.Needs.{needs}
 use Rattle.terms.specs.Terms.{byte}
 use Rattle.words.specs.declared.Sign.the-variants.{Plain, Plus, Minus}

@@ -1,4 +1,4 @@
--- `words::next_step` meets its contract: by the kind of the byte. Assumes nothing.
+-- `numbers::next_step` meets its contract: by the kind of the byte. Assumes nothing.
 use Prim.Native.Nat.{_+_, _-_}
 use mathlib.Core.Path.{_≡_}
 use mathlib.Core.Logic.{⊎-elim}

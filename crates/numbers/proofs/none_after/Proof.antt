@@ -1,4 +1,4 @@
--- `words::none_after` meets its contract, sign by sign. Assumes nothing.
+-- `numbers::none_after` meets its contract, sign by sign. Assumes nothing.
 use borrow.Author.Needs.{needs}
 use Rattle.words.specs.Numbers.{signLength}
 use Rattle.numbers.proofs.none_after.Statement.{statement}

@@ -1,4 +1,4 @@
--- `words::read_figures` meets its contract. What is left gives the same: the figures passed and the bytes from i on make the
+-- `numbers::read_figures` meets its contract. What is left gives the same: the figures passed and the bytes from i on make the
 -- number that those at the start and all bytes make. Assumes nothing.
 use Prim.Native.Nat.{_-_, _≤_}
 use mathlib.Core.Path.{_≡_, sym, _∙_}

@@ -1,4 +1,4 @@
--- `words::read_number` meets its contract: the first byte, and then the figures. Assumes nothing.
+-- `numbers::read_number` meets its contract: the first byte, and then the figures. Assumes nothing.
 use Prim.Native.Nat.{ℕ, _≤_, _<_}
 use mathlib.Core.Path.{_≡_, sym, _∙_}
 use native.Mathlib.Omega.{arith}

@@ -1,4 +1,4 @@
--- `words::with_digit` meets its contract. Assumes nothing.
+-- `numbers::with_digit` meets its contract. Assumes nothing.
 use mathlib.Core.Logic.{⊎-elim}
 use native.Mathlib.Nat.{add-zero}
 use borrow.Author.Needs.{needs}

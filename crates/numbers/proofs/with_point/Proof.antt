@@ -1,4 +1,4 @@
--- `words::with_point` meets its contract. Assumes nothing.
+-- `numbers::with_point` meets its contract. Assumes nothing.
 use native.Mathlib.Omega.{arith}
 use Rattle.words.proofs.Reading.{one-most, step-point, step-second-point}
 use Rattle.numbers.proofs.with_point.Statement.{statement}

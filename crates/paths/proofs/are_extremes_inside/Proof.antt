@@ -1,4 +1,4 @@
--- `arcs::are_extremes_inside` meets its contract, extreme by extreme. Assumes nothing.
+-- `paths::are_extremes_inside` meets its contract, extreme by extreme. Assumes nothing.
 use mathlib.Core.Path.{_≡_, ap₂}
 use mathlib.Core.Bool.{Bool, not, _&&_, _||_}
 use borrow.Author.Needs.{needs}

@@ -1,4 +1,4 @@
--- `arcs::from_centre` meets its contract, axis by axis. Assumes nothing.
+-- `paths::from_centre` meets its contract, axis by axis. Assumes nothing.
 use native.Mathlib.Omega.{arith}
 use borrow.Author.Needs.{needs}
 use Rattle.arcs.specs.Turning.{direction}

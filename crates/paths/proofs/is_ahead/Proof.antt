@@ -1,4 +1,4 @@
--- `arcs::is_ahead` meets its contract. Assumes nothing.
+-- `paths::is_ahead` meets its contract. Assumes nothing.
 use borrow.Author.Needs.{needs}
 use Rattle.arcs.specs.Turning.{dot}
 use Rattle.paths.proofs.is_ahead.Statement.{statement}

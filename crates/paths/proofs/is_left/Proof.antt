@@ -1,4 +1,4 @@
--- `arcs::is_left` meets its contract. Assumes nothing.
+-- `paths::is_left` meets its contract. Assumes nothing.
 use borrow.Author.Needs.{needs}
 use Rattle.arcs.specs.Turning.{left, cross}
 use Rattle.paths.proofs.is_left.Statement.{statement}

@@ -1,4 +1,4 @@
--- `arcs::is_on_left_way` meets its contract, by the definition's three cases. Assumes nothing.
+-- `paths::is_on_left_way` meets its contract, by the definition's three cases. Assumes nothing.
 use mathlib.Core.Path.{_≡_, refl, sym, _∙_}
 use mathlib.Core.Bool.{Bool, true, false, not, _||_}
 use borrow.Author.Needs.{needs}

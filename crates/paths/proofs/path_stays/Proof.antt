@@ -1,4 +1,4 @@
--- `arcs::path_stays` meets its contract, mark by mark. Assumes nothing.
+-- `paths::path_stays` meets its contract, mark by mark. Assumes nothing.
 use mathlib.Core.Path.{_≡_, refl, sym}
 use mathlib.Core.Bool.{true}
 use mathlib.Core.List.{[], _∷_}

@@ -1,4 +1,4 @@
--- `arcs::root_fits_between` meets its contract. Assumes nothing.
+-- `paths::root_fits_between` meets its contract. Assumes nothing.
 use borrow.Author.Needs.{needs}
 use Rattle.arcs.specs.Arcs.{notAbove}
 use Rattle.paths.proofs.root_fits_between.Statement.{statement}

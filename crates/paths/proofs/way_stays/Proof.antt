@@ -1,4 +1,4 @@
--- `arcs::way_stays` meets its contract. Assumes nothing.
+-- `paths::way_stays` meets its contract. Assumes nothing.
 use mathlib.Core.Path.{ap₂}
 use mathlib.Core.Bool.{_&&_}
 use borrow.Author.Needs.{needs}

@@ -1,4 +1,4 @@
--- `moves::testing::plan_count` meets its contract. Assumes nothing.
+-- `plans::plan_count` meets its contract. Assumes nothing.
 use mathlib.Core.Path.{refl}
 use native.Mathlib.Omega.{arith}
 use lib.ListN.{length}

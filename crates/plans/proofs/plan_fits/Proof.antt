@@ -1,4 +1,4 @@
--- `moves::testing::plan_fits` meets its contract. Assumes nothing.
+-- `plans::plan_fits` meets its contract. Assumes nothing.
 use mathlib.Core.Path.{sym}
 use Rattle.moves.proofs.Ways.{rest-fits, single-fits, passes-fits}
 use borrow.Author.Needs.{needs}

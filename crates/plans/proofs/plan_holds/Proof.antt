@@ -1,4 +1,4 @@
--- `moves::testing::plan_holds` meets its contract. Assumes nothing.
+-- `plans::plan_holds` meets its contract. Assumes nothing.
 use Rattle.moves.specs.Plans.{planHolds}
 use borrow.Author.Needs.{needs}
 use Rattle.plans.proofs.plan_holds.Statement.{statement}

@@ -1,4 +1,4 @@
--- `moves::testing::plan_room` meets its contract. Assumes nothing.
+-- `plans::plan_room` meets its contract. Assumes nothing.
 use mathlib.Core.Path.{refl, _∙_}
 use native.Mathlib.Omega.{arith}
 use Rattle.records.specs.Layout.{roomOf}

@@ -1,4 +1,4 @@
--- `moves::testing::plan_way` meets its contract. Assumes nothing.
+-- `plans::plan_way` meets its contract. Assumes nothing.
 use Rattle.cycles.specs.Ways.{wayOf, passesWay}
 use Rattle.records.specs.Path.{endOf, pathStaysIn}
 use Rattle.moves.specs.Plans.{planRecords}

@@ -1,4 +1,4 @@
--- `moves::writing::put_plan` meets its contract. Assumes nothing.
+-- `plans::put_plan` meets its contract. Assumes nothing.
 use Rattle.cycles.proofs.Written.{ready-as, put-as, put-none}
 use Rattle.moves.proofs.Planning.{records-rest, records-single, records-passes}
 use borrow.Author.Needs.{needs}

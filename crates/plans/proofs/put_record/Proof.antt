@@ -1,4 +1,4 @@
--- `moves::writing::put_record` meets its contract. Assumes nothing.
+-- `plans::put_record` meets its contract. Assumes nothing.
 use Rattle.moves.proofs.Putting.{one-sums, one-fits, one-put}
 use borrow.Author.Needs.{needs}
 use Rattle.plans.proofs.put_record.Statement.{statement}

@@ -1,4 +1,4 @@
--- `moves::testing::record_end` meets its contract, mark by mark. Assumes nothing.
+-- `plans::record_end` meets its contract, mark by mark. Assumes nothing.
 use mathlib.Core.Path.{_≡_, refl, sym}
 use mathlib.Core.Bool.{true}
 use mathlib.Core.List.{[], _∷_}

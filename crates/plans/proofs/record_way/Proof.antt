@@ -1,4 +1,4 @@
--- `moves::testing::record_way` meets its contract. Assumes nothing.
+-- `plans::record_way` meets its contract. Assumes nothing.
 use mathlib.Core.Path.{sym, _∙_}
 use Rattle.moves.proofs.Ways.{ends-one, leaves-one}
 use borrow.Author.Needs.{needs}

@@ -1,4 +1,4 @@
--- `cycles::counting::pass_length` meets its contract, with Z and without, with the dwell and without. Assumes nothing.
+-- `rooms::pass_length` meets its contract, with Z and without, with the dwell and without. Assumes nothing.
 use native.Mathlib.Omega.{arith}
 use borrow.Author.Needs.{needs}
 use Rattle.cycles.proofs.Counts.{count-with-z, count-without-z, count-dwell, count-no-dwell}

@@ -1,4 +1,4 @@
--- `cycles::pass_room` meets its contract, with Z and without, with the dwell and without. Assumes nothing.
+-- `rooms::pass_room` meets its contract, with Z and without, with the dwell and without. Assumes nothing.
 use native.Mathlib.Omega.{arith}
 use borrow.Author.Needs.{needs}
 use Rattle.cycles.proofs.Rooms.{room-with-z, room-without-z, room-dwell, room-no-dwell}

@@ -1,4 +1,4 @@
--- `cycles::counting::passes_length` meets its contract: every pass takes the same count. Assumes nothing.
+-- `rooms::passes_length` meets its contract: every pass takes the same count. Assumes nothing.
 use mathlib.Core.Path.{sym, _∙_, ap}
 use native.Mathlib.Omega.{arith}
 use native.Mathlib.Nat.{mul-le-mul}

@@ -1,4 +1,4 @@
--- `cycles::passes_room` meets its contract: every pass takes the same room. Assumes nothing.
+-- `rooms::passes_room` meets its contract: every pass takes the same room. Assumes nothing.
 use mathlib.Core.Path.{sym, _∙_, ap}
 use native.Mathlib.Omega.{arith}
 use native.Mathlib.Nat.{mul-le-mul}

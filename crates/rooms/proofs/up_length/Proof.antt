@@ -1,4 +1,4 @@
--- `cycles::counting::up_length` meets its contract, code by code. Assumes nothing.
+-- `rooms::up_length` meets its contract, code by code. Assumes nothing.
 use native.Mathlib.Omega.{arith}
 use borrow.Author.Needs.{needs}
 use lib.ListN.{length}

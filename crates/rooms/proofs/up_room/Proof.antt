@@ -1,4 +1,4 @@
--- `cycles::up_room` meets its contract, code by code. Assumes nothing.
+-- `rooms::up_room` meets its contract, code by code. Assumes nothing.
 use native.Mathlib.Omega.{arith}
 use borrow.Author.Needs.{needs}
 use Rattle.records.specs.Layout.{roomOf}

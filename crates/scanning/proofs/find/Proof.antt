@@ -1,4 +1,4 @@
--- `programs::find` meets its contract: what is left of the table in use gives the same. Assumes nothing.
+-- `scanning::find` meets its contract: what is left of the table in use gives the same. Assumes nothing.
 use Prim.Native.Nat.{_-_, _≤_}
 use native.Mathlib.Omega.{arith}
 use Rattle.programs.proofs.Finding.{Hunt, hunt-start, hunt-done, hunt-found, hunt-past}

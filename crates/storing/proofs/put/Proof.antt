@@ -1,4 +1,4 @@
--- `records::writing::put` meets its contract: the mark and then the rest are the record. Assumes nothing.
+-- `storing::put` meets its contract: the mark and then the rest are the record. Assumes nothing.
 use native.Mathlib.Omega.{arith}
 use borrow.Author.Needs.{needs}
 use Rattle.records.specs.Layout.{kindOf}

@@ -1,4 +1,4 @@
--- `records::writing::put_body` meets its contract: each arm writes the plane byte and the numbers that its record has. Assumes nothing.
+-- `storing::put_body` meets its contract: each arm writes the plane byte and the numbers that its record has. Assumes nothing.
 use native.Mathlib.Omega.{arith}
 use borrow.Author.Needs.{needs}
 use Rattle.records.specs.Layout.{planeBytes, planeOf, numbersOf, numberBytes}

@@ -1,4 +1,4 @@
--- `records::writing::put_mark` meets its contract: two stores write the mark. Assumes nothing.
+-- `storing::put_mark` meets its contract: two stores write the mark. Assumes nothing.
 use native.Mathlib.Omega.{arith}
 use borrow.Author.Needs.{needs}
 use lib.ListN.{length-set}

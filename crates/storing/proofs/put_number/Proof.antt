@@ -1,4 +1,4 @@
--- `records::writing::put_number` meets its contract: four stores write the four bytes. Assumes nothing.
+-- `storing::put_number` meets its contract: four stores write the four bytes. Assumes nothing.
 use native.Mathlib.Omega.{arith}
 use borrow.Author.Needs.{needs}
 use lib.ListN.{length-set}

@@ -1,4 +1,4 @@
--- `progress::do_block` meets its contract. Assumes nothing.
+-- `walking::do_block` meets its contract. Assumes nothing.
 use mathlib.Core.Path.{sym, _∙_}
 use borrow.Author.Needs.{needs}
 use borrow.Author.Tests.{not-true, not-false}

@@ -1,4 +1,4 @@
--- `progress::execute` meets its contract. Assumes nothing.
+-- `walking::execute` meets its contract. Assumes nothing.
 use Prim.Native.Nat.{_-_}
 use native.Mathlib.Omega.{arith}
 use borrow.Author.Needs.{needs}

@@ -1,4 +1,4 @@
--- `answers::block_start` meets its contract: no LF stands between the place and where the loop is. Assumes nothing.
+-- `answers::places::block_start` meets its contract: no LF stands between the place and where the loop is. Assumes nothing.
 use borrow.Author.Needs.{needs}
 use Prim.Native.Nat.{_≤_, _-_}
 use native.Mathlib.Omega.{arith}

@@ -1,4 +1,4 @@
--- `answers::show_blanks` meets its contract: fewer are left at each turn. Assumes nothing.
+-- `answers::places::show_blanks` meets its contract: fewer are left at each turn. Assumes nothing.
 use borrow.Author.Needs.{needs}
 use Prim.Native.Nat.{_≤_}
 use Rattle.answers.proofs.places.show_blanks.Statement.{statement}

@@ -1,4 +1,4 @@
--- `answers::text_end` meets its contract. What is left gives the same. Assumes nothing.
+-- `answers::places::text_end` meets its contract. What is left gives the same. Assumes nothing.
 use borrow.Author.Needs.{needs}
 use Prim.Native.Nat.{_≤_, _-_, _+_}
 use mathlib.Core.Path.{_≡_, sym, _∙_}

@@ -1,4 +1,4 @@
--- `files::fill` meets its contract: each read but the last brings the place on, and none past the end. Assumes nothing.
+-- `files::reading::fill` meets its contract: each read but the last brings the place on, and none past the end. Assumes nothing.
 use borrow.Author.Needs.{needs}
 use Prim.Native.Nat.{_≤_, _-_}
 use mathlib.Core.Path.{_≡_}

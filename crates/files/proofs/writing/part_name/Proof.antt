@@ -1,4 +1,4 @@
--- `files::part_name` meets its contract: the ending fits after a path that is short enough. Assumes nothing.
+-- `files::writing::part_name` meets its contract: the ending fits after a path that is short enough. Assumes nothing.
 use borrow.Author.Needs.{needs}
 use native.Mathlib.Omega.{arith}
 use Rattle.io.proofs.Counting.{counts}

@@ -1,4 +1,4 @@
--- `files::put` meets its contract: as many places as the text has bytes. Assumes nothing.
+-- `files::writing::put` meets its contract: as many places as the text has bytes. Assumes nothing.
 use borrow.Author.Needs.{needs}
 use Prim.Native.Nat.{_≤_, _-_}
 use mathlib.Core.Path.{_≡_}

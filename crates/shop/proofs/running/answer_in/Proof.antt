@@ -1,4 +1,4 @@
--- `shop::answer_in` meets its contract: the room is a part of the list. Assumes nothing.
+-- `shop::running::answer_in` meets its contract: the room is a part of the list. Assumes nothing.
 use borrow.Author.Needs.{needs}
 use mathlib.Core.Path.{sym}
 use lib.Seq.{length-take-le}

@@ -1,4 +1,4 @@
--- `shop::records_end` meets its contract: the place stays in the list. Assumes nothing.
+-- `shop::running::records_end` meets its contract: the place stays in the list. Assumes nothing.
 use Prim.Native.Nat.{_≤_}
 use mathlib.Core.Path.{sym, _∙_}
 use native.Mathlib.Omega.{arith}

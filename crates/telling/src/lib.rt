@@ -1,0 +1,98 @@
+// One line that says what is wrong, with a file or with a word of the command.
+use libc::EACCES;
+use libc::EISDIR;
+use libc::ENAMETOOLONG;
+use libc::ENOENT;
+use libc::ENOSPC;
+use libc::ENOTDIR;
+use libc::EPERM;
+use libc::EROFS;
+ghost use mathlib.Core.Path.{_≡_};
+ghost use Rattle.io.specs.Counts.{Counts};
+ghost use Rattle.telling.specs.Shown.{shownAs};
+
+// The line as far as a place's name: what comes next says what is wrong there.
+pub fn begin_line(err: i32, name: &[u8]) {
+    io::write_all(err, b"iswenaid: ");
+    if name.len() == 0 {
+        io::write_all(err, b"''");
+    }
+    show_text(err, name, 255);
+    io::write_all(err, b": ");
+}
+
+pub fn complain(err: i32, name: &[u8], what: &[u8]) {
+    begin_line(err, name);
+    io::write_all(err, what);
+    io::write_all(err, b"\n");
+}
+
+// The same of a call that has just failed, with the reason that the system gives for it.
+pub fn complain_why(err: i32, name: &[u8], what: &[u8]) {
+    let error = os::errno();
+    begin_line(err, name);
+    io::write_all(err, what);
+    show_reason(err, error);
+    io::write_all(err, b"\n");
+}
+
+// The reasons that somebody at the machine can do something about.
+fn show_reason(err: i32, error: i32) {
+    if error == ENOENT {
+        io::write_all(err, b": no such file or folder");
+    }
+    if error == ENOTDIR {
+        io::write_all(err, b": a file stands where a folder should");
+    }
+    if error == EISDIR {
+        io::write_all(err, b": it is a folder");
+    }
+    if (error == EACCES) | (error == EPERM) | (error == EROFS) {
+        io::write_all(err, b": not allowed");
+    }
+    if error == ENOSPC {
+        io::write_all(err, b": no space left");
+    }
+    if error == ENAMETOOLONG {
+        io::write_all(err, b": the name is too long");
+    }
+}
+
+// A line's bytes so that they stay on one line and each takes one place: a tab as a blank, other bytes below the blank and
+// those above the last as a question mark.
+fn shown(b: u8, last: u8) -> u8
+    ensures { λ r. ⌜ r ≡ shownAs last b ⌝ }
+{
+    if b == b'\t' {
+        return b' ';
+    }
+    if b < b' ' {
+        return b'?';
+    }
+    if last < b {
+        return b'?';
+    }
+    b
+}
+
+// As much of a text as the buffer takes, each byte as it is shown.
+fn put_shown(text: &[u8], last: u8, out: &mut [u8]) -> usize
+    ensures { λ r. ⌜ Counts r (now (out .exit)) ⌝ }
+{
+    let mut i = 0;
+    while i < text.len() {
+        if out.len() <= i {
+            return i;
+        }
+        out[i] = shown(text[i], last);
+        i += 1;
+    }
+    i
+}
+
+// Text of somebody else's, of 65,536 bytes at most; bytes above the last are not shown as they are.
+pub fn show_text(fd: i32, text: &[u8], last: u8) {
+    let mut out = io::large_buffer();
+    let n = put_shown(text, last, &mut out);
+    io::write_all(fd, &out[..n]);
+}

@@ -1,0 +1,16 @@
+-- `turning::is_near` meets its contract: the distance decides. Assumes nothing.
+use borrow.Author.Needs.{needs}
+use Rattle.turning.specs.Turns.{near}
+use Rattle.turning.proofs.is_near.Statement.{statement}
+use Rattle.turning.proofs.is_near.Tie as tie
+
+apart-requires : tie.Need-apart-requires
+apart-requires c κs = search needs
+
+returns : tie.Need-returns
+unfolding near
+returns c =
+    rw (c .apart .ensures .is)
+
+pub is-near-spec : {M : Type 1} → statement M
+is-near-spec = tie.close (tie.spec apart-requires returns)

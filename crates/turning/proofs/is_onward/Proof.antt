@@ -1,0 +1,24 @@
+-- `turning::is_onward` meets its contract: to the left or to the right. Assumes nothing.
+use borrow.Author.Needs.{needs}
+use Rattle.turning.specs.Turns.{onward}
+use Rattle.turning.proofs.is_onward.Statement.{statement}
+use Rattle.turning.proofs.is_onward.Tie as tie
+
+is-left-requires : tie.Need-is-left-requires
+is-left-requires c κs = search needs
+
+returns : tie.Need-returns
+unfolding onward
+returns c =
+    rw (c .before .if1 .taken, c .is-left .ensures)
+
+is-left-requires-2 : tie.Need-is-left-requires-2
+is-left-requires-2 c κs = search needs
+
+returns-2 : tie.Need-returns-2
+unfolding onward
+returns-2 c =
+    rw (c .before .if1 .left, c .is-left2 .ensures)
+
+pub is-onward-spec : {M : Type 1} → statement M
+is-onward-spec = tie.close (tie.spec is-left-requires returns is-left-requires-2 returns-2)

@@ -1,0 +1,23 @@
+-- `turning::is_soon` meets its contract: on from one quarter, and not on from the next. Assumes nothing.
+use borrow.Author.Needs.{needs}
+use Rattle.turning.specs.Turns.{soon}
+use Rattle.turning.proofs.is_soon.Statement.{statement}
+use Rattle.turning.proofs.is_soon.Tie as tie
+
+is-onward-requires : tie.Need-is-onward-requires
+is-onward-requires c κs = search needs
+
+quarter-on-requires : tie.Need-quarter-on-requires
+quarter-on-requires c κs = search needs
+
+is-onward-requires-2 : tie.Need-is-onward-requires-2
+is-onward-requires-2 c κs = search needs
+
+returns : tie.Need-returns
+unfolding soon
+returns c =
+    rw (c .before .before .is-onward .ensures, c .is-onward2 .ensures, c .before .quarter-on .ensures .0)
+
+pub is-soon-spec : {M : Type 1} → statement M
+is-soon-spec =
+    tie.close (tie.spec is-onward-requires quarter-on-requires is-onward-requires-2 returns)

@@ -1,0 +1,48 @@
+-- `turning::point_on` meets its contract: plane by plane. Assumes nothing.
+use borrow.Author.Needs.{needs}
+use Rattle.turning.specs.Turns.{lifted, pointOn}
+use Rattle.turning.proofs.point_on.Statement.{statement}
+use Rattle.turning.proofs.point_on.Tie as tie
+
+plus-requires : tie.Need-plus-requires
+plus-requires c κs = search needs
+
+plus-requires-2 : tie.Need-plus-requires-2
+plus-requires-2 c κs = search needs
+
+enum-told : tie.Need-enum-told
+enum-told c = search needs
+
+enum-told-2 : tie.Need-enum-told-2
+enum-told-2 c = search needs
+
+enum-told-3 : tie.Need-enum-told-3
+enum-told-3 c = search needs
+
+returns : tie.Need-returns
+unfolding lifted pointOn
+returns c =
+    rw (c .enum-told .given .1, c .before .before .before .before .before .before .plus .ensures .is, c .before .before .before .before .before .plus2 .ensures .is)
+
+returns-2 : tie.Need-returns-2
+unfolding lifted pointOn
+returns-2 c =
+    rw (c .enum-told2 .given .1, c .before .before .before .before .before .before .plus .ensures .is, c .before .before .before .before .before .plus2 .ensures .is)
+
+returns-3 : tie.Need-returns-3
+unfolding lifted pointOn
+returns-3 c =
+    rw (c .enum-told3 .given .1, c .before .before .before .before .before .before .plus .ensures .is, c .before .before .before .before .before .plus2 .ensures .is)
+
+pub point-on-spec : {M : Type 1} → statement M
+point-on-spec =
+    tie.close
+    (tie.spec
+    plus-requires
+    plus-requires-2
+    enum-told
+    enum-told-2
+    enum-told-3
+    returns
+    returns-2
+    returns-3)

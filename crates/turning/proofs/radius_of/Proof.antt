@@ -1,0 +1,39 @@
+-- `turning::radius_of` meets its contract: two squares of at most 1,500,000,000 have a root below 2 ^ 31. Assumes nothing.
+use mathlib.Core.Path.{refl}
+use native.Mathlib.Omega.{arith}
+use borrow.Author.Needs.{needs}
+use Rattle.arcs.specs.Arcs.{radius²}
+use Rattle.turning.specs.Turns.{radiusOf}
+use Rattle.turning.proofs.Turned.{radius-most}
+use Rattle.turning.proofs.radius_of.Statement.{statement}
+use Rattle.turning.proofs.radius_of.Tie as tie
+
+centre-of-requires : tie.Need-centre-of-requires
+centre-of-requires c κs = search needs
+
+in-plane-requires : tie.Need-in-plane-requires
+in-plane-requires c κs = search needs
+
+squared-distance-requires : tie.Need-squared-distance-requires
+squared-distance-requires c κs =
+    rw (c .in-plane .ensures, c .before .centre-of .ensures) (omega arith)
+
+root-of-requires : tie.Need-root-of-requires
+root-of-requires c κs = search needs
+
+returns : tie.Need-returns
+unfolding radiusOf radius²
+returns c =
+    let x = c .before .before .before .before .args in
+    let most = radius-most (x .from) (x .a) (c .before .before .before .before .pre) in
+    rw (c .root-of .ensures, c .before .squared-distance .ensures, c .before .before .in-plane .ensures, c .before .before .before .centre-of .ensures) (refl, most)
+
+pub radius-of-spec : {M : Type 1} → statement M
+radius-of-spec =
+    tie.close
+    (tie.spec
+    centre-of-requires
+    in-plane-requires
+    squared-distance-requires
+    root-of-requires
+    returns)
