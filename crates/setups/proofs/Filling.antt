@@ -18,7 +18,7 @@ use Rattle.setup.specs.declared.Setup.{Setup}
 use Rattle.words.specs.Numbers.{run, signOf, signLength}
 use Rattle.texts.specs.Texts.{next, inWord, wordAt, sameBytes, isLettered}
 use Rattle.texts.specs.Figures.{digitsIn, worthBy, worthOf}
-use Rattle.setups.specs.Setups.{names, plan, isNamed, faultOf, nameAt, placed, numberAt, numberBy, entryAt, Numbers, these, faulty, prepend, entryThen, ended, numbersFrom, setupOf, refused, answered, setupIn}
+use Rattle.setups.specs.Setups.{names, plan, isNamed, wrongIn, nameAt, placed, numberAt, numberBy, entryAt, Numbers, these, faulty, prepend, entryThen, ended, numbersFrom, setupOf, refused, answered, setupIn}
 use Rattle.texts.specs.declared.Wrong.{Wrong}
 use Rattle.texts.specs.declared.Wrong.the-variants.{Nothing, OtherName, TooFew, TooMuch}
 use Rattle.texts.specs.declared.Worth.{Worth}
@@ -61,8 +61,8 @@ module _ (text : List ℕ) (first : ℕ) (e : first ≡ next text 0) where
 
 -- ---- one number, and the name before it
 
-fault-some : (wrong : Wrong) (word : List ℕ) → 0 < length word → faultOf wrong word ≡ wrong
-unfolding faultOf
+fault-some : (wrong : Wrong) (word : List ℕ) → 0 < length word → wrongIn wrong word ≡ wrong
+unfolding wrongIn
 fault-some wrong [] h = absurd (omega arith)
 fault-some wrong (b ∷ bs) h = refl
 
@@ -71,7 +71,7 @@ name-next :
     → nameAt name text at
     ≡ (if sameBytes (wordAt text (next text at)) name
     then To (next text at + length (wordAt text (next text at)))
-    else Not (faultOf OtherName (wordAt text (next text at))) (next text at))
+    else Not (wrongIn OtherName (wordAt text (next text at))) (next text at))
 unfolding nameAt
 name-next text at [] k = absurd (omega arith)
 name-next text at (c ∷ cs) k = refl
@@ -82,7 +82,7 @@ module _ (text : List ℕ) (at from end : ℕ) (e : from ≡ next text at) (f : 
   number-here = rw e
 
   pub number-missing : from ≡ end → Bad TooFew from ≡ numberAt text at
-  unfolding placed worthOf worthBy digitsIn signOf signLength faultOf
+  unfolding placed worthOf worthBy digitsIn signOf signLength wrongIn
   number-missing h = sym (number-here ∙ rw (nothing-there text from end f h))
 
   module _ (h : from ≡ end → ⊥) where
@@ -102,11 +102,11 @@ module _ (text : List ℕ) (at from end : ℕ) (e : from ≡ next text at) (f : 
   module _ (name : List ℕ) (some : 0 < length name) where
     name-here :
         nameAt name text at
-        ≡ (if sameBytes (wordAt text from) name then To (from + length (wordAt text from)) else Not (faultOf OtherName (wordAt text from)) from)
+        ≡ (if sameBytes (wordAt text from) name then To (from + length (wordAt text from)) else Not (wrongIn OtherName (wordAt text from)) from)
     name-here = rw e (name-next text at name some)
 
     pub name-missing : from ≡ end → Not TooFew from ≡ nameAt name text at
-    unfolding faultOf
+    unfolding wrongIn
     name-missing h =
         let other : sameBytes [] name ≡ false = same-lengths [] name (λ g. omega arith) in
         sym (name-here ∙ rw (nothing-there text from end f h) (rw other))

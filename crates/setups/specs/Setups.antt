@@ -47,10 +47,10 @@ isNamed text = isLettered (wordAt text (next text 0))
 
 -- ---- a number, and the name before it
 
--- the fault of a word, or that there is none
-unfoldable pub faultOf : Wrong → List ℕ → Wrong
-faultOf wrong [] = TooFew
-faultOf wrong (b ∷ bs) = wrong
+-- what is wrong with a word, or that there is none
+unfoldable pub wrongIn : Wrong → List ℕ → Wrong
+wrongIn wrong [] = TooFew
+wrongIn wrong (b ∷ bs) = wrong
 
 -- the place after the name, where one is expected
 unfoldable pub nameAt : List ℕ → List ℕ → ℕ → Passed
@@ -58,11 +58,11 @@ nameAt [] text at = To at
 nameAt (c ∷ cs) text at =
     let place = next text at in
     let word = wordAt text place in
-    if sameBytes word (c ∷ cs) then To (place + length word) else Not (faultOf OtherName word) place
+    if sameBytes word (c ∷ cs) then To (place + length word) else Not (wrongIn OtherName word) place
 
 unfoldable pub placed : ℕ → List ℕ → Worth → Entry
 placed place word (Fit z) = Is z (place + length word)
-placed place word (Unfit wrong) = Bad (faultOf wrong word) place
+placed place word (Unfit wrong) = Bad (wrongIn wrong word) place
 
 -- the next number, and the place after it
 unfoldable pub numberAt : List ℕ → ℕ → Entry
