@@ -6,15 +6,6 @@ use borrow.Author.Needs.{needs}
 use Rattle.cases.proofs.run_case.Statement.{statement}
 use Rattle.cases.proofs.run_case.Tie as tie
 
-array-copy-out-blocks : tie.Need-array-copy-out-blocks
-array-copy-out-blocks c = search needs
-
-setup-of-requires : tie.Need-setup-of-requires
-setup-of-requires c κs = search needs
-
-of-requires : tie.Need-of-requires
-of-requires c κs = search needs
-
 sub-answer-to : tie.Need-sub-answer-to
 sub-answer-to c = search needs
 
@@ -29,7 +20,7 @@ slice-relend-prefix-answer-to c = search needs
 
 slice-aggregate-answer-to : tie.Need-slice-aggregate-answer-to
 slice-aggregate-answer-to c =
-    let a = c .before .before .before .before .before .before .before .before .args in
+    let a = c .before .before .before .before .before .args in
     sym (length-take-le (a .case .room) (a .list .now) (omega arith))
 
 answer-to-requires : tie.Need-answer-to-requires
@@ -48,9 +39,6 @@ pub run-case-spec : {M : Type 1} → statement M
 run-case-spec =
     tie.close
     (tie.spec
-    array-copy-out-blocks
-    setup-of-requires
-    of-requires
     sub-answer-to
     part-answer-to-start
     part-answer-to-end

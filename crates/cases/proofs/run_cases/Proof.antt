@@ -2,7 +2,10 @@
 use Prim.Native.Nat.{_≤_, _-_}
 use mathlib.Core.Path.{_≡_}
 use lib.ListN.{length}
+use native.Mathlib.Omega.{arith}
+use Rattle.headers.proofs.Laws.{Inside, case-inside}
 use borrow.Author.Needs.{needs}
+use borrow.Author.Tests.{not-false}
 use Rattle.cases.proofs.run_cases.Statement.{statement}
 use Rattle.cases.proofs.run_cases.Tie as tie
 
@@ -11,6 +14,16 @@ Inv-loop input list₀ at₀ t5 list at = (at ≤ length input) × (length list 
 
 abbrev μ-loop : tie.MeasureT-loop
 μ-loop input list₀ at₀ t5 list at = length input - at
+
+-- a case that is run stands
+inside :
+    (c : tie.Else1 Inv-loop μ-loop)
+    → Inside
+    (c .before .before .before .before .loop .at)
+    (length (c .before .before .before .before .before .before .before .args .input .now))
+    (length (c .before .before .before .before .loop .list))
+    (c .before .before .case-at .result)
+inside c = case-inside _ _ _ (c .before .before .case-at .ensures) (not-false _ (c .if1 .left))
 
 loop-holds : tie.Need-loop-holds Inv-loop μ-loop
 loop-holds c = search needs
@@ -31,16 +44,19 @@ returns : tie.Need-returns Inv-loop μ-loop
 returns c = search needs
 
 run-case-requires : tie.Need-run-case-requires Inv-loop μ-loop
-run-case-requires c κs = search needs
+run-case-requires c κs = let h = inside (c .before) in (h .ends, omega arith, h .room)
 
 add-at : tie.Need-add-at Inv-loop μ-loop
-add-at c = search needs
+add-at c =
+    let h = inside (c .before .before .before .before .before) in
+    let good = c .before .before .before .before .before .before .before .before .before .before .before .before .good in
+    omega arith
 
 loop-less : tie.Need-loop-less Inv-loop μ-loop
-loop-less c = search needs
+loop-less c = let h = inside (c .before .before .before .before .before) in omega arith
 
 loop-again : tie.Need-loop-again Inv-loop μ-loop
-loop-again c = search needs
+loop-again c = let h = inside (c .before .before .before .before .before) in (omega arith, search needs)
 
 same-length-2 : tie.Need-same-length-2 Inv-loop μ-loop
 same-length-2 c = search needs
