@@ -1,9 +1,9 @@
 -- A block that is accepted has passed every test of the rules, so that it keeps what a run counts on. Assumes nothing.
 use Prim.Native.Nat.{ℕ}
-use mathlib.Core.Path.{_≡_, refl}
+use mathlib.Core.Path.{_≡_, refl, ap, _∙_}
 use mathlib.Core.Bool.{Bool, true, false, not}
 use mathlib.Core.Option.{Option, none, some}
-use mathlib.Core.List.{List, [], _∷_}
+use mathlib.Core.List.{List, [], _∷_, _++_, append-nil}
 use native.Mathlib.Omega.{arith}
 use lib.Dec.{ltb}
 use borrow.Author.Tests.{ltb-false, not-false}
@@ -49,13 +49,22 @@ abbrev pub AllNone : List (Option Blame) → Type 0
 AllNone [] = Unit
 AllNone (o ∷ os) = (o ≡ none) × AllNone os
 
-pub all-none : (os : List (Option Blame)) → firstOf os ≡ none → AllNone os
+pub none-before : (os last : List (Option Blame)) → firstOf (os ++ last) ≡ none → AllNone os × (firstOf last ≡ none)
 unfolding firstOf
-all-none [] e = tt
-all-none (none ∷ os) e = (refl, all-none os e)
-all-none (some blame ∷ os) e = let no : _≡_ {A = ℕ} 0 1 = cc in absurd (omega arith)
+none-before [] last e = (tt, e)
+none-before (none ∷ os) last e = let h = none-before os last e in ((refl, h .0), h .1)
+none-before (some blame ∷ os) last e = let no : _≡_ {A = ℕ} 0 1 = cc in absurd (omega arith)
 
-word-none : (refusal : Refusal) (o : Option Word) → atWord refusal o ≡ none → o ≡ none
+pub all-none : (os : List (Option Blame)) → firstOf os ≡ none → AllNone os
+all-none os e = none-before os [] (ap firstOf (append-nil os) ∙ e) .0
+
+-- what has passed is passed over
+pub past-all : (os last : List (Option Blame)) → AllNone os → firstOf (os ++ last) ≡ firstOf last
+unfolding firstOf
+past-all [] last h = refl
+past-all (o ∷ os) last h = rw (h .0) (past-all os last (h .1))
+
+pub word-none : (refusal : Refusal) (o : Option Word) → atWord refusal o ≡ none → o ≡ none
 unfolding atWord
 word-none refusal none e = refl
 word-none refusal (some w) e = let no : _≡_ {A = ℕ} 0 1 = cc in absurd (omega arith)

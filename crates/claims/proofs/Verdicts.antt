@@ -7,8 +7,8 @@ use mathlib.Core.List.{List, [], _∷_, _++_}
 use native.Mathlib.Omega.{arith}
 use lib.Dec.{eqb, ltb}
 use lib.IntN.{natAbs}
+use borrow.Author.Tests.{not-false}
 use Rattle.terms.specs.Terms.{if_then_else_, all, any, first, firstOf}
-use Rattle.refusals.specs.declared.Refusal.{Refusal}
 use Rattle.refusals.specs.declared.Refusal.the-variants.{
   BadParameter,
   AddressUndefined,
@@ -33,34 +33,12 @@ use Rattle.blocks.specs.Machine.{Machine}
 use Rattle.blocks.specs.declared.Said.{Said}
 use Rattle.blocks.specs.declared.Control.{Control}
 use Rattle.blocks.specs.declared.Control.the-variants.{On, Call, Back, Stop}
-use Rattle.blocks.proofs.Accepting.{start-none}
+use Rattle.blocks.proofs.Accepting.{none-before, all-none, past-all, word-none, start-none}
 use Rattle.blocks.specs.Exec.{Blame, Calls, Verdict, accepted, saidBy, movesIn, madeBy, settled, controlOf, inMain, callTo, unknownCall, lacksParameter, cannotDrill, atWord, tooDeep, atStart, blames, unless, judged, execWords, exec}
 
-module _ {ℓ} {A : Type ℓ} where
-  -- of options of which the first that stands is none, each is none
-  pub none-here : (o : Option A) (os : List (Option A)) → firstOf (o ∷ os) ≡ none → o ≡ none
-  unfolding firstOf
-  none-here none os e = refl
-  none-here (some a) os e = e
-
-  pub none-after : (o : Option A) (os : List (Option A)) → firstOf (o ∷ os) ≡ none → firstOf os ≡ none
-  unfolding firstOf
-  none-after none os e = e
-  none-after (some a) os e = let z : _≡_ {A = ℕ} 0 1 = cc in absurd (omega arith)
-
-pub not-at-word : (refusal : Refusal) (o : Option Word) → atWord refusal o ≡ none → o ≡ none
-unfolding atWord
-not-at-word refusal none e = refl
-not-at-word refusal (some w) e = let z : _≡_ {A = ℕ} 0 1 = cc in absurd (omega arith)
-
-not-false : (t : Bool) → not t ≡ false → t ≡ true
-not-false true e = refl
-not-false false e = sym e
-
--- the refusals of a block whose last three, "16; 9; 10", are left open
-unfoldable pub blamesThen :
-    Machine → Calls → State → ℕ → List Word → Said → List (Option Blame) → List (Option Blame)
-blamesThen machine calls s start ws b last =
+-- the refusals of a block but for the last three, "16; 9; 10"
+abbrev firstBlames : Machine → Calls → State → ℕ → List Word → Said → List (Option Blame)
+firstBlames machine calls s start ws b =
     atWord CannotExecute (firstThatMayNot (inMain calls) [] ws)
     ∷ atWord AddressUndefined (firstUnused (b .code) (b .modes .plane) ws)
     ∷ atWord BadParameter (firstBadValue (machine .speeds) (b .modes) (b .code) ws)
@@ -68,7 +46,12 @@ blamesThen machine calls s start ws b last =
     ∷ atStart start NumberNotFound (unknownCall calls (callTo (controlOf b)))
     ∷ atStart start NestOver (tooDeep calls (callTo (controlOf b)))
     ∷ atStart start CannotExecute (cannotDrill s b)
-    ∷ atStart start BadParameter (not (movesIn machine s b .sound)) ∷ last
+    ∷ atStart start BadParameter (not (movesIn machine s b .sound)) ∷ []
+
+-- the same with any others after them
+unfoldable pub blamesThen :
+    Machine → Calls → State → ℕ → List Word → Said → List (Option Blame) → List (Option Blame)
+blamesThen machine calls s start ws b last = firstBlames machine calls s start ws b ++ last
 
 abbrev pub lastBlames : (Record → Bool) → (Point → Record → Bool) → ℕ → Point → ℕ → List Record → List (Option Blame)
 lastBlames fits stays room at start made =
@@ -91,81 +74,24 @@ pub record Passed (machine : Machine) (calls : Calls) (s : State) (start : ℕ) 
   pub sound : movesIn machine s b .sound ≡ true
   pub others : (last : List (Option Blame)) → firstOf (blamesThen machine calls s start ws b last) ≡ firstOf last
 
-skipped : (o : Option Blame) (os : List (Option Blame)) → o ≡ none → firstOf (o ∷ os) ≡ firstOf os
-unfolding firstOf
-skipped none os e = refl
-skipped (some a) os e = let z : _≡_ {A = ℕ} 0 1 = cc in absurd (omega arith)
-
--- eight refusals that do not stand, before others
-record Eight (a b c d e f g h : Option Blame) (last : List (Option Blame)) : Type 0 where
-  first : a ≡ none
-  third : c ≡ none
-  sixth : f ≡ none
-  eighth : h ≡ none
-  rest : firstOf last ≡ none
-  others : (more : List (Option Blame)) → firstOf (a ∷ b ∷ c ∷ d ∷ e ∷ f ∷ g ∷ h ∷ more) ≡ firstOf more
-
-eight :
-    (a b c d e f g h : Option Blame) (last : List (Option Blame))
-    → firstOf (a ∷ b ∷ c ∷ d ∷ e ∷ f ∷ g ∷ h ∷ last) ≡ none → Eight a b c d e f g h last
-eight a b c d e f g h last k =
-    let k₁ = none-after a (b ∷ c ∷ d ∷ e ∷ f ∷ g ∷ h ∷ last) k in
-    let k₂ = none-after b (c ∷ d ∷ e ∷ f ∷ g ∷ h ∷ last) k₁ in
-    let k₃ = none-after c (d ∷ e ∷ f ∷ g ∷ h ∷ last) k₂ in
-    let k₄ = none-after d (e ∷ f ∷ g ∷ h ∷ last) k₃ in
-    let k₅ = none-after e (f ∷ g ∷ h ∷ last) k₄ in
-    let k₆ = none-after f (g ∷ h ∷ last) k₅ in
-    let k₇ = none-after g (h ∷ last) k₆ in
-    let n₁ = none-here a (b ∷ c ∷ d ∷ e ∷ f ∷ g ∷ h ∷ last) k in
-    let n₃ = none-here c (d ∷ e ∷ f ∷ g ∷ h ∷ last) k₂ in
-    let n₆ = none-here f (g ∷ h ∷ last) k₅ in
-    let n₈ = none-here h last k₇ in
-    record {
-      first = n₁;
-      third = n₃;
-      sixth = n₆;
-      eighth = n₈;
-      rest = none-after h last k₇;
-      others =
-          λ more.
-          skipped a (b ∷ c ∷ d ∷ e ∷ f ∷ g ∷ h ∷ more) n₁
-          ∙ skipped b (c ∷ d ∷ e ∷ f ∷ g ∷ h ∷ more) (none-here b (c ∷ d ∷ e ∷ f ∷ g ∷ h ∷ last) k₁)
-          ∙ skipped c (d ∷ e ∷ f ∷ g ∷ h ∷ more) n₃
-          ∙ skipped d (e ∷ f ∷ g ∷ h ∷ more) (none-here d (e ∷ f ∷ g ∷ h ∷ last) k₃)
-          ∙ skipped e (f ∷ g ∷ h ∷ more) (none-here e (f ∷ g ∷ h ∷ last) k₄)
-          ∙ skipped f (g ∷ h ∷ more) n₆
-          ∙ skipped g (h ∷ more) (none-here g (h ∷ last) k₆)
-          ∙ skipped h more n₈;
-    }
-
 pub passed :
     (machine : Machine) (calls : Calls) (s : State) (start : ℕ) (ws : List Word) (b : Said) (last : List (Option Blame))
     → firstOf (blamesThen machine calls s start ws b last) ≡ none
     → Passed machine calls s start ws b × (firstOf last ≡ none)
 unfolding blamesThen
 passed machine calls s start ws b last k =
-    let all₈ =
-    eight
-    (atWord CannotExecute (firstThatMayNot (inMain calls) [] ws))
-    (atWord AddressUndefined (firstUnused (b .code) (b .modes .plane) ws))
-    (atWord BadParameter (firstBadValue (machine .speeds) (b .modes) (b .code) ws))
-    (atStart start ParameterUndefined (lacksParameter (b .code) (b .values)))
-    (atStart start NumberNotFound (unknownCall calls (callTo (controlOf b))))
-    (atStart start NestOver (tooDeep calls (callTo (controlOf b))))
-    (atStart start CannotExecute (cannotDrill s b))
-    (atStart start BadParameter (not (movesIn machine s b .sound)))
-    last
-    k in (
+    let h = none-before (firstBlames machine calls s start ws b) last k in
+    let p = h .0 in (
       record {
-        stand = not-at-word CannotExecute (firstThatMayNot (inMain calls) [] ws) (all₈ .first);
-        value = not-at-word BadParameter (firstBadValue (machine .speeds) (b .modes) (b .code) ws) (all₈ .third);
-        deep = start-none start NestOver (tooDeep calls (callTo (controlOf b))) (all₈ .sixth);
+        stand = word-none CannotExecute (firstThatMayNot (inMain calls) [] ws) (p .0);
+        value = word-none BadParameter (firstBadValue (machine .speeds) (b .modes) (b .code) ws) (p .1 .1 .0);
+        deep = start-none start NestOver (tooDeep calls (callTo (controlOf b))) (p .1 .1 .1 .1 .1 .0);
         sound =
             not-false (movesIn machine s b .sound)
-            (start-none start BadParameter (not (movesIn machine s b .sound)) (all₈ .eighth));
-        others = all₈ .others;
+            (start-none start BadParameter (not (movesIn machine s b .sound)) (p .1 .1 .1 .1 .1 .1 .1 .0));
+        others = λ more. past-all (firstBlames machine calls s start ws b) more p;
       },
-      all₈ .rest,
+      h .1,
     )
 
 -- the last three, "16; 9; 10"
@@ -178,16 +104,11 @@ pub fitting :
     (fits : Record → Bool) (stays : Point → Record → Bool) (room : ℕ) (at : Point) (start : ℕ) (made : List Record)
     → firstOf (lastBlames fits stays room at start made) ≡ none → Fitting fits stays room at made
 fitting fits stays room at start made k =
-    let a : Option Blame = atStart start CentreTooFar (not (all fits made)) in
-    let b : Option Blame = atStart start LeavesTravel (not (pathStaysIn stays at made)) in
-    let c : Option Blame = atStart start NoRoom (ltb room (roomOf made)) in
-    let k₁ = none-after a (b ∷ c ∷ []) k in
+    let p = all-none (lastBlames fits stays room at start made) k in
     record {
-      centres = not-false (all fits made) (start-none start CentreTooFar (not (all fits made)) (none-here a (b ∷ c ∷ []) k));
-      path =
-          not-false (pathStaysIn stays at made)
-          (start-none start LeavesTravel (not (pathStaysIn stays at made)) (none-here b (c ∷ []) k₁));
-      space = start-none start NoRoom (ltb room (roomOf made)) (none-here c [] (none-after b (c ∷ []) k₁));
+      centres = not-false (all fits made) (start-none start CentreTooFar (not (all fits made)) (p .0));
+      path = not-false (pathStaysIn stays at made) (start-none start LeavesTravel (not (pathStaysIn stays at made)) (p .1 .0));
+      space = start-none start NoRoom (ltb room (roomOf made)) (p .1 .1 .0);
     }
 
 -- an accepted block: its words, what they passed, and what the verdict holds

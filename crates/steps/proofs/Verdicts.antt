@@ -7,7 +7,6 @@ use mathlib.Core.List.{List, [], _∷_, map}
 use native.Mathlib.Omega.{arith}
 use lib.Dec.{ltb}
 use lib.ListN.{length}
-use lib.Seq.{sets}
 use Rattle.terms.specs.Terms.{all, firstOf}
 use Rattle.refusals.specs.declared.Refusal.{Refusal}
 use Rattle.refusals.specs.declared.Refusal.the-variants.{
@@ -69,6 +68,7 @@ use Rattle.blocks.specs.Exec.{
   judged,
   execWords,
 }
+use Rattle.blocks.proofs.Accepting.{past-all}
 use Rattle.blocks.specs.Doing.{madeOf, executed, Does}
 use Rattle.steps.specs.Steps.{judgedFrom}
 
@@ -97,8 +97,7 @@ module _ {offset : Point} {v : Verdict} {was : List ℕ} {at after : ℕ} where
 -- ---- one test of the order
 
 past : (o : Option Blame) (os : List (Option Blame)) (v : Verdict) → o ≡ none → unless (firstOf (o ∷ os)) v ≡ unless (firstOf os) v
-unfolding firstOf
-past o os v e = rw e
+past o os v e = ap (λ (o : Option Blame). unless o v) (past-all (o ∷ []) os (e, tt))
 
 stop : (o : Option Blame) (os : List (Option Blame)) (v : Verdict) (blame : Blame) → o ≡ some blame → unless (firstOf (o ∷ os)) v ≡ refused blame
 unfolding firstOf unless
