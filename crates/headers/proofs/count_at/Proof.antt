@@ -1,5 +1,4 @@
 -- `headers::count_at` meets its contract: the next word, and its digits. Assumes nothing.
-use Prim.Native.Nat.{_≤_}
 use native.Mathlib.Omega.{arith}
 use borrow.Author.Needs.{needs}
 use Rattle.texts.proofs.Places.{standing}
