@@ -1,6 +1,5 @@
 // The path of a record list as SVG text, rapids and cuts in two layers.
 ghost use mathlib.Core.Path.{_≡_};
-ghost use Rattle.records.specs.Path.{pathOf, pathEnd};
 ghost use Rattle.strokes.specs.Text.{Fills};
 ghost use Rattle.drawing.specs.Shapes.{same, cut, shape, isRapid, inLayer, drawn, path};
 ghost use Rattle.drawing.specs.Walks.{recordsFrom, endFrom};
@@ -81,23 +80,6 @@ fn put_record(out: &mut [u8], at: usize, view: View, rapids: bool, from: Point, 
     at
 }
 
-// Where a record leads that begins at a point.
-fn end_of(from: Point, r: Record) -> Point
-    ensures { λ p. ⌜ p ≡ pathEnd from (pathOf r) ⌝ }
-{
-    match r {
-        Record::RP(p) => p,
-        Record::LN(p, _) => p,
-        Record::AR(a) => a.end,
-        Record::AL(a) => a.end,
-        Record::DW(_) => from,
-        Record::SP(_) => from,
-        Record::SO => from,
-        Record::PA => from,
-        Record::EN => from,
-    }
-}
-
 // What the reader says after the last record that it can read.
 pub fn last_of(list: &[u8]) -> Listed
     ensures { λ r. ⌜ r ≡ endFrom (now (list .entry)) 0 ⌝ }
@@ -137,7 +119,7 @@ pub fn put_path(
         match found {
             Listed::Next(r, after) => {
                 next = put_record(out, next, view, rapids, from, r);
-                from = end_of(from, r);
+                from = records::path_end(from, r);
                 place = after;
             }
             Listed::End => {

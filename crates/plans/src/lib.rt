@@ -10,7 +10,7 @@ ghost use mathlib.Core.Path.{_≡_};
 ghost use Prim.Native.Nat.{_^_};
 ghost use Rattle.terms.specs.Terms.{all};
 ghost use Rattle.points.specs.Near.{Near};
-ghost use Rattle.records.specs.Path.{pathOf, pathEnd, recordMoved};
+ghost use Rattle.records.specs.Path.{pathOf, recordMoved};
 ghost use Rattle.arcs.specs.Arcs.{centreFits};
 ghost use mathlib.Core.List.{[], _∷_};
 ghost use lib.ListN.{length};
@@ -57,25 +57,12 @@ pub fn plan_fits(offset: Point, p: Plan) -> bool
     }
 }
 
-// Where the path of a record ends.
-fn record_end(from: Point, r: Record) -> Point
-    ensures { λ e. ⌜ e ≡ pathEnd from (pathOf r) ⌝ }
-{
-    match r {
-        Record::RP(p) => p,
-        Record::LN(p, _) => p,
-        Record::AR(a) => a.end,
-        Record::AL(a) => a.end,
-        _ => from,
-    }
-}
-
 fn record_way(t: Travel, from: Point, r: Record) -> Way
     requires { ⌜ Arcs.Ready t from (pathOf r) ⌝ }
     ensures { λ w. ⌜ w ≡ wayOf t from (r ∷ []) ⌝ }
 {
     if paths::path_stays(t, from, r) {
-        return Way::Ends(record_end(from, r));
+        return Way::Ends(records::path_end(from, r));
     }
     Way::Leaves
 }

@@ -1,4 +1,5 @@
 pub mod Opened
+pub mod Still
 pub mod Laid
 pub mod Written
 pub mod Found

@@ -1,6 +1,7 @@
 // The record list that the motor card and the viewer read.
 mod displacing;
 mod kinds;
+mod leading;
 
 use codes::Plane;
 pub use displacing::displaced;
@@ -10,6 +11,7 @@ pub use kinds::kind_length;
 pub use kinds::kind_of;
 pub use kinds::mark_of;
 pub use kinds::room;
+pub use leading::path_end;
 use lengths::Len;
 use points::Point;
 

@@ -39,8 +39,8 @@ put-record-requires : tie.Need-put-record-requires Inv-loop μ-loop
 put-record-requires c κs =
     search needs
 
-end-of-requires : tie.Need-end-of-requires Inv-loop μ-loop
-end-of-requires c κs =
+path-end-requires : tie.Need-path-end-requires Inv-loop μ-loop
+path-end-requires c κs =
     search needs
 
 loop-less : tie.Need-loop-less Inv-loop μ-loop
@@ -52,7 +52,7 @@ loop-again c =
     let x = c .before .before .before .before .before .before .before .before .before .before .before .before .args in
     let h = c .before .before .before .before .before .before .before .before .before .loop in (
       fills-length (c .before .before .before .put-record .ensures) ∙ h .inv .0,
-      λ is k rest. h .inv .1 is k (path-on (x .list .now) (x .view) (x .rapids) (h .from) (h .place) (sym (c .before .before .before .before .before .before .before .before .read .ensures) ∙ c .before .before .before .before .before .before .found .given .1) (c .before .before .before .put-record .ensures) (c .end-of .ensures) rest),
+      λ is k rest. h .inv .1 is k (path-on (x .list .now) (x .view) (x .rapids) (h .from) (h .place) (sym (c .before .before .before .before .before .before .before .before .read .ensures) ∙ c .before .before .before .before .before .before .found .given .1) (c .before .before .before .put-record .ensures) (c .path-end .ensures) rest),
     )
 
 enum-told : tie.Need-enum-told Inv-loop μ-loop
@@ -93,7 +93,7 @@ put-path-spec =
     read-requires
     enum-known-found
     put-record-requires
-    end-of-requires
+    path-end-requires
     loop-less
     loop-again
     enum-told

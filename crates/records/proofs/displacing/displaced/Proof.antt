@@ -1,29 +1,11 @@
 -- `records::displacing::displaced` meets its contract, mark by mark. Assumes nothing.
-use mathlib.Core.Path.{_≡_, refl, sym}
-use mathlib.Core.List.{[], _∷_}
-use denote.Enum.Declared.{tagOf}
-use types.Run.{OneOf, miss}
+use mathlib.Core.Path.{_≡_, refl}
 use borrow.Author.Needs.{needs}
-use Rattle.points.specs.declared.Point.{Point}
-use Rattle.records.proofs.Record.{the-type}
 use Rattle.records.specs.declared.Record.{Record}
-use Rattle.records.specs.declared.Record.the-variants.{RP, LN, AR, AL, DW, SP, SO, PA, EN}
 use Rattle.records.specs.Path.{pathOf, recordMoved}
+use Rattle.records.proofs.Still.{still-ones}
 use Rattle.records.proofs.displacing.displaced.Statement.{statement}
 use Rattle.records.proofs.displacing.displaced.Tie as tie
-
--- the marks that have no arm of their own
-others : (by : Point) (r : Record) → OneOf (4 ∷ 5 ∷ 6 ∷ 7 ∷ 8 ∷ []) (tagOf the-type r) → recordMoved by r ≡ r
-unfolding recordMoved
-others by (RP p) h = absurd (miss (4 ∷ 5 ∷ 6 ∷ 7 ∷ 8 ∷ []) 0 tt h)
-others by (LN p feed) h = absurd (miss (4 ∷ 5 ∷ 6 ∷ 7 ∷ 8 ∷ []) 1 tt h)
-others by (AR a) h = absurd (miss (4 ∷ 5 ∷ 6 ∷ 7 ∷ 8 ∷ []) 2 tt h)
-others by (AL a) h = absurd (miss (4 ∷ 5 ∷ 6 ∷ 7 ∷ 8 ∷ []) 3 tt h)
-others by (DW ms) h = refl
-others by (SP speed) h = refl
-others by SO h = refl
-others by PA h = refl
-others by EN h = refl
 
 enum-known-r : tie.Need-enum-known-r
 enum-known-r c = search needs
@@ -70,7 +52,8 @@ unfolding recordMoved
 returns-4 c = rw (c .before .before .r4 .given .1, c .displaced-arc2 .ensures)
 
 returns-5 : tie.Need-returns-5
-returns-5 c = sym (others (c .before .args .by) (c .before .args .r) (c .match .keys5))
+unfolding recordMoved
+returns-5 c = still-ones (λ (r : Record). r ≡ recordMoved (c .before .args .by) r) (c .before .args .r) (c .match .keys5) (λ ms. refl) (λ speed. refl) refl refl refl
 
 pub displaced-spec : {M : Type 1} → statement M
 displaced-spec =

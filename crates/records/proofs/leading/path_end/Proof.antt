@@ -1,0 +1,54 @@
+-- `records::leading::path_end` meets its contract, mark by mark. Assumes nothing.
+use mathlib.Core.Path.{_≡_, refl}
+use Rattle.records.specs.declared.Record.{Record}
+use Rattle.records.specs.Path.{pathOf, pathEnd}
+use borrow.Author.Needs.{needs}
+use Rattle.records.proofs.Still.{still-ones}
+use Rattle.records.proofs.leading.path_end.Statement.{statement}
+use Rattle.records.proofs.leading.path_end.Tie as tie
+
+enum-known-r : tie.Need-enum-known-r
+enum-known-r c = search needs
+
+enum-known-r-2 : tie.Need-enum-known-r-2
+enum-known-r-2 c = search needs
+
+enum-known-r-3 : tie.Need-enum-known-r-3
+enum-known-r-3 c = search needs
+
+enum-known-r-4 : tie.Need-enum-known-r-4
+enum-known-r-4 c = search needs
+
+returns : tie.Need-returns
+unfolding pathOf pathEnd
+returns c = rw (c .before .r .given .1)
+
+returns-2 : tie.Need-returns-2
+unfolding pathOf pathEnd
+returns-2 c = rw (c .before .r2 .given .1)
+
+returns-3 : tie.Need-returns-3
+unfolding pathOf pathEnd
+returns-3 c = rw (c .before .before .r3 .given .1)
+
+returns-4 : tie.Need-returns-4
+unfolding pathOf pathEnd
+returns-4 c = rw (c .before .before .r4 .given .1)
+
+returns-5 : tie.Need-returns-5
+unfolding pathEnd pathOf
+returns-5 c = still-ones (λ (r : Record). c .before .args .from ≡ pathEnd (c .before .args .from) (pathOf r)) (c .before .args .r) (c .match .keys5) (λ ms. refl) (λ speed. refl) refl refl refl
+
+pub path-end-spec : {M : Type 1} → statement M
+path-end-spec =
+    tie.close
+    (tie.spec
+    enum-known-r
+    enum-known-r-2
+    enum-known-r-3
+    enum-known-r-4
+    returns
+    returns-2
+    returns-3
+    returns-4
+    returns-5)
