@@ -9,12 +9,12 @@ use words::Use;
 use words::Value;
 use words::Values;
 use words::Word;
+ghost use Prim.Native.Nat.{_<_};
 ghost use mathlib.Core.Path.{_≡_};
 ghost use lib.ListN.{take};
-ghost use Rattle.words.specs.Numbers.{Written};
-ghost use Rattle.words.specs.Values.{noValues};
-ghost use Rattle.letters.specs.Letters.{isNothing, withValue, wordValue};
-ghost use Rattle.letters.specs.Judging.{judgedNext, judgedBy, Stored};
+ghost use Rattle.letters.specs.Letters.{isNothing};
+ghost use Rattle.letters.specs.Judging.{judgedBy, Stored};
+ghost use Rattle.judging.specs.Places.{givenAt, valuesIn, IsPlace};
 
 fn is_nothing(meaning: Use) -> bool
     ensures { λ r. ⌜ r ≡ isNothing meaning ⌝ }
@@ -25,100 +25,90 @@ fn is_nothing(meaning: Use) -> bool
     }
 }
 
-// The value of a word by what its letter means in the block.
-pub fn word_value(speeds: Speeds, m: Modes, code: BlockCode, w: Word) -> Value
-    requires { ⌜ Written (w .number) ⌝ }
-    ensures { λ r. ⌜ r ≡ wordValue speeds m code w ⌝ }
+// The place of a letter's value in the arrays. N, G and M are no values: what they are worth goes to the last place,
+// which nothing reads.
+fn place_of(letter: u8) -> usize
+    ensures { λ r. ⌜ IsPlace letter r ⌝ }
 {
-    let unit = m.unit;
-    let plane = m.plane;
-    let number = w.number;
-    let lowest = speeds.lowest;
-    let highest = speeds.highest;
-    words::value_of(
-        unit,
-        lowest,
-        highest,
-        letters::use_of(code, plane, w.letter),
-        number,
-    )
-}
-
-// The values with that of one letter more; N, G and M are no values.
-pub fn with_value(v: Values, letter: u8, g: Given) -> Values
-    ensures { λ r. ⌜ r ≡ withValue v letter g ⌝ }
-{
-    let mut next = v;
     match letter {
-        b'X' => next.x = g,
-        b'Y' => next.y = g,
-        b'Z' => next.z = g,
-        b'I' => next.i = g,
-        b'J' => next.j = g,
-        b'K' => next.k = g,
-        b'R' => next.r = g,
-        b'P' => next.p = g,
-        b'F' => next.f = g,
-        b'S' => next.s = g,
-        _ => {}
+        b'X' => 0,
+        b'Y' => 1,
+        b'Z' => 2,
+        b'I' => 3,
+        b'J' => 4,
+        b'K' => 5,
+        b'R' => 6,
+        b'P' => 7,
+        b'F' => 8,
+        b'S' => 9,
+        _ => 10,
     }
-    next
 }
 
-// No word stands yet.
-fn no_values() -> Values
-    ensures { λ r. ⌜ r ≡ noValues ⌝ }
+fn given_at(stands: [bool; 11], v: [Len; 11], k: usize) -> Given
+    requires { ⌜ k < 11 ⌝ }
+    ensures { λ r. ⌜ r ≡ givenAt stands v k ⌝ }
 {
-    let missing = Given {
-        stands: false,
-        v: Len::zero(),
-    };
+    Given {
+        stands: stands[k],
+        v: v[k],
+    }
+}
+
+fn values_in(stands: [bool; 11], v: [Len; 11]) -> Values
+    ensures { λ r. ⌜ r ≡ valuesIn stands v ⌝ }
+{
     Values {
-        x: missing,
-        y: missing,
-        z: missing,
-        i: missing,
-        j: missing,
-        k: missing,
-        r: missing,
-        p: missing,
-        f: missing,
-        s: missing,
+        x: given_at(stands, v, 0),
+        y: given_at(stands, v, 1),
+        z: given_at(stands, v, 2),
+        i: given_at(stands, v, 3),
+        j: given_at(stands, v, 4),
+        k: given_at(stands, v, 5),
+        r: given_at(stands, v, 6),
+        p: given_at(stands, v, 7),
+        f: given_at(stands, v, 8),
+        s: given_at(stands, v, 9),
     }
 }
 
-// One word more, which the block's code uses. The first bad value stays.
-fn judge_value(speeds: Speeds, m: Modes, code: BlockCode, passed: Judged, w: Word) -> Judged
-    requires { ⌜ Written (w .number) ⌝ }
-    ensures { λ r. ⌜ r ≡ judgedNext speeds m code passed w ⌝ }
-{
-    let Judged::Fine(values) = passed else {
-        return passed;
-    };
-    match word_value(speeds, m, code, w) {
-        Value::Bad => Judged::Bad(w.at),
-        Value::Fit(v) => {
-            let given = Given { stands: true, v };
-            Judged::Fine(with_value(values, w.letter, given))
-        }
-    }
-}
-
-// A word that the code does not use is named before any bad value, also one on its left.
+// A word that the code does not use is named before any bad value, also one on its left; of bad values the first.
+// The values stand in arrays of this function, where each is written once: `Values` handed from word to word would be
+// copied for each of them.
 pub fn judge(speeds: Speeds, m: Modes, code: BlockCode, words: [Word; 13], count: usize) -> Judged
     requires { ⌜ Stored words count ⌝ }
     ensures { λ r. ⌜ r ≡ judgedBy speeds m code (take count words) ⌝ }
 {
-    let plane = m.plane;
-    let mut passed = Judged::Fine(no_values());
+    let mut stands = [false; 11];
+    let mut v = [Len::zero(); 11];
+    let mut bad = false;
+    let mut place = 0;
     let mut i = 0;
     while i < count {
         let w = words[i];
-        if is_nothing(letters::use_of(code, plane, w.letter)) {
+        i += 1;
+        let plane = m.plane;
+        let meaning = letters::use_of(code, plane, w.letter);
+        if is_nothing(meaning) {
             return Judged::Unused(w.at);
         }
-        passed = judge_value(speeds, m, code, passed, w);
-        i += 1;
+        let unit = m.unit;
+        let lowest = speeds.lowest;
+        let highest = speeds.highest;
+        let number = w.number;
+        let Value::Fit(z) = words::value_of(unit, lowest, highest, meaning, number) else {
+            if !bad {
+                bad = true;
+                place = w.at;
+            }
+            continue;
+        };
+        let k = place_of(w.letter);
+        stands[k] = true;
+        v[k] = z;
     }
-    passed
+    if bad {
+        return Judged::Bad(place);
+    }
+    Judged::Fine(values_in(stands, v))
 }

@@ -9,12 +9,9 @@ use native.Mathlib.Omega.{arith}
 use native.Mathlib.Numerals.{add-one}
 use lib.ListN.{length, take, drop, getD, drop-of-length-le}
 use lib.Seq.{length-take-le, drop-cons, getD-take}
-use denote.Enum.Declared.{tagOf}
-use types.Run.{OneOf, miss}
 use borrow.Author.Tests.{ne-eqb}
 use Rattle.terms.specs.Terms.{if_then_else_, byte, bytes, first}
 use Rattle.codes.proofs.Tables.{Others}
-use Rattle.lengths.specs.declared.Len.{Len}
 use Rattle.words.specs.declared.Word.{Word}
 use Rattle.words.specs.declared.Given.{Given}
 use Rattle.words.specs.declared.Use.{Use}
@@ -23,18 +20,12 @@ use Rattle.words.specs.declared.Value.the-variants as value
 use Rattle.words.specs.declared.Values.{Values}
 use Rattle.words.specs.Values.{noValues}
 use Rattle.settings.specs.declared.Modes.{Modes}
-use Rattle.letters.proofs.Judged.{the-type}
 use Rattle.letters.specs.declared.Speeds.{Speeds}
 use Rattle.letters.specs.declared.BlockCode.{BlockCode}
 use Rattle.letters.specs.declared.Judged.{Judged}
 use Rattle.letters.specs.declared.Judged.the-variants.{Fine, Unused, Bad}
 use Rattle.letters.specs.Letters.{useOf, isNothing, firstUnused, wordValue, isBad, firstBadValue, givenBy, withValue, valuesAfter}
 use Rattle.letters.specs.Judging.{unusedOr, badOr, judgedBy, valueNext, judgedNext, judgedAll, judgedAfter}
-
--- ---- the values by their letters
-
-pub value-at : (v : Values) (g : Given) (k : ℕ) {n : ℕ} → n ≡ k → withValue v k g ≡ withValue v n g
-value-at v g k e = rw e
 
 -- a letter that is none of a value's
 pub no-value : (v : Values) (g : Given) (n : ℕ) → Others n (bytes "SFPRKJIZYX") → v ≡ withValue v n g
@@ -78,29 +69,6 @@ module _ (speeds : Speeds) (m : Modes) (code : BlockCode) where
   unfolding judgedAll judgedNext badOr firstBadValue first valuesAfter
   all-values [] v = refl
   all-values (w ∷ ws) v = value-next v w ws (wordValue speeds m code w) (all-values ws)
-
-  -- ---- one word more, by its value
-
-  module _ (passed : Judged) (w : Word) where
-    pub next-kept : OneOf (1 ∷ 2 ∷ []) (tagOf the-type passed) → passed ≡ judgedNext speeds m code passed w
-    unfolding judgedNext
-    next-kept h = go passed h
-      where
-        go : (j : Judged) → OneOf (1 ∷ 2 ∷ []) (tagOf the-type j) → j ≡ judgedNext speeds m code j w
-        go (Fine v) k = absurd (miss (1 ∷ 2 ∷ []) 0 tt k)
-        go (Unused at) k = refl
-        go (Bad at) k = refl
-
-    module _ (v : Values) (x : Value) (fine : passed ≡ Fine v) (is : x ≡ wordValue speeds m code w) where
-      pub next-bad : x ≡ value.Bad → Bad (w .at) ≡ judgedNext speeds m code passed w
-      unfolding judgedNext valueNext
-      next-bad e = rw (fine, ← is, e)
-
-      pub next-fit :
-          (y : Len) (u : Values) → x ≡ value.Fit y → u ≡ withValue v (w .letter) (record { stands = true; v = y })
-          → Fine u ≡ judgedNext speeds m code passed w
-      unfolding judgedNext valueNext givenBy
-      next-fit y u e f = rw (fine, ← is, e, f)
 
   -- ---- one word more, of a block's first words
 

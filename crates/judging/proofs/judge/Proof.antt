@@ -1,35 +1,36 @@
 -- `judging::judge` meets its contract. The invariant: what is left gives the judgement of all. Assumes nothing.
-use Prim.Native.Nat.{_-_, _≤_}
+use Prim.Native.Nat.{_-_}
 use native.Mathlib.Omega.{arith}
-use lib.ListN.{length}
 use borrow.Author.Needs.{needs}
-use Rattle.letters.proofs.Judging.{LeftFrom, judge-start, judge-done, judge-unused, judge-past}
+use borrow.Author.Tests.{not-true, not-false}
+use Rattle.letters.proofs.Judging.{judge-unused}
+use Rattle.judging.proofs.Places.{soFar, Kept, kept-first, past-bad, past-bad-again, past-fit, ended-bad, ended-fine}
 use Rattle.judging.proofs.judge.Statement.{statement}
 use Rattle.judging.proofs.judge.Tie as tie
 
 abbrev Inv-loop : tie.InvT-loop
-Inv-loop speeds m code count words plane passed₀ i₀ passed i =
-    (i ≤ count) × (count ≤ length words) × LeftFrom speeds m code words count passed i
+Inv-loop speeds m code count words stands₀ v₀ bad₀ place₀ i₀ stands v bad place i = Kept speeds m code words count stands v bad place i
 
 abbrev μ-loop : tie.MeasureT-loop
-μ-loop speeds m code count words plane passed₀ i₀ passed i = count - i
+μ-loop speeds m code count words stands₀ v₀ bad₀ place₀ i₀ stands v bad place i = count - i
 
-no-values-requires : tie.Need-no-values-requires Inv-loop μ-loop
-no-values-requires c κs = search needs
+zero-requires : tie.Need-zero-requires Inv-loop μ-loop
+zero-requires c κs = search needs
 
 loop-holds : tie.Need-loop-holds Inv-loop μ-loop
 loop-holds c =
-    let a = c .before .args in (
-      omega arith,
-      omega (arith, c .before .pre .few, c .before .good .1 .1 .1 .0),
-      judge-start (a .speeds) (a .m) (a .code) (a .t4) (a .count) (c .no-values .result) (c .no-values .ensures),
-    )
+    let a = c .before .args in
+    kept-first (a .speeds) (a .m) (a .code) (a .t4) (a .count) (c .zero .result) (c .zero .ensures .is)
+    (omega (arith, c .before .pre .few, c .before .good .1 .1 .1 .0))
 
 mul-w : tie.Need-mul-w Inv-loop μ-loop
 mul-w c = omega arith
 
 array-copy-out-w : tie.Need-array-copy-out-w Inv-loop μ-loop
 array-copy-out-w c = omega arith
+
+add-i : tie.Need-add-i Inv-loop μ-loop
+add-i c = omega arith
 
 use-of-requires : tie.Need-use-of-requires Inv-loop μ-loop
 use-of-requires c κs = search needs
@@ -40,60 +41,140 @@ is-nothing-requires c κs = search needs
 returns : tie.Need-returns Inv-loop μ-loop
 returns c =
     let n = c .before in
-    let l = n .before .before .before .before in
-    let s = l .before .before in
-    let a = s .args in
-    judge-unused (a .speeds) (a .m) (a .code) (a .t4) (a .count) (l .loop .passed) (l .loop .i) _
-    (l .loop .inv .1)
-    (omega arith)
-    (l .loop .inv .2)
+    let t = n .before .before .before in
+    let l = t .before in
+    let k = l .loop in
+    let a = l .before .before .args in
+    judge-unused (a .speeds) (a .m) (a .code) (a .t4) (a .count) (soFar (k .bad) (k .place) (k .stands) (k .v)) (k .i) _
+    (k .inv .few)
+    (t .loop-test .taken)
+    (k .inv .left)
     (n .before .use-of .result)
     (n .is-nothing .result)
     (n .before .use-of .ensures)
     (n .is-nothing .ensures)
     (c .if1 .taken)
 
-judge-value-requires : tie.Need-judge-value-requires Inv-loop μ-loop
-judge-value-requires c κs =
-    let l = c .before .before .before .before .before in
-    l .before .before .pre .written (l .loop .i) _ (omega arith)
+value-of-requires : tie.Need-value-of-requires Inv-loop μ-loop
+value-of-requires c κs =
+    let t = c .before .before .before .before .before .before .before in
+    let l = t .before in
+    l .before .before .pre .written (l .loop .i) _ (t .loop-test .taken)
 
-add-i : tie.Need-add-i Inv-loop μ-loop
-add-i c = omega arith
+enum-known-z : tie.Need-enum-known-z Inv-loop μ-loop
+enum-known-z c = search needs
+
+enum-told : tie.Need-enum-told Inv-loop μ-loop
+enum-told c = search needs
 
 loop-less : tie.Need-loop-less Inv-loop μ-loop
 loop-less c = omega arith
 
 loop-again : tie.Need-loop-again Inv-loop μ-loop
 loop-again c =
-    let n = c .before .before in
-    let l = n .before .before .before .before in
-    let s = l .before .before in
-    let a = s .args in (
-      omega arith,
-      l .loop .inv .1,
-      judge-past (a .speeds) (a .m) (a .code) (a .t4) (a .count) (l .loop .passed) (l .loop .i) _
-          (l .loop .inv .1)
-          (omega arith)
-          (l .loop .inv .2)
-          (n .before .use-of .result)
-          (n .is-nothing .result)
-          (n .before .use-of .ensures)
-          (n .is-nothing .ensures)
-          (c .judge-value .result)
-          (c .before .if1 .left)
-          (c .judge-value .ensures),
-    )
+    let q = c .before .before .before in
+    let e = q .before .before .before .before in
+    let n = e .before in
+    let t = n .before .before .before in
+    let l = t .before in
+    let k = l .loop in
+    let a = l .before .before .args in
+    past-bad (a .speeds) (a .m) (a .code) (a .t4) (a .count) (k .stands) (k .v) (k .bad) (k .place) (k .i) (k .inv) _
+    (t .loop-test .taken)
+    (n .before .use-of .result)
+    (n .is-nothing .result)
+    (n .before .use-of .ensures)
+    (n .is-nothing .ensures)
+    (e .if1 .left)
+    (q .value-of .result)
+    (q .value-of .ensures)
+    (c .before .enum-told .given .1)
+    (not-true (k .bad) (c .if2 .taken))
+
+loop-less-2 : tie.Need-loop-less-2 Inv-loop μ-loop
+loop-less-2 c = omega arith
+
+loop-again-2 : tie.Need-loop-again-2 Inv-loop μ-loop
+loop-again-2 c =
+    let q = c .before .before .before in
+    let e = q .before .before .before .before in
+    let n = e .before in
+    let t = n .before .before .before in
+    let l = t .before in
+    let k = l .loop in
+    let a = l .before .before .args in
+    past-bad-again (a .speeds) (a .m) (a .code) (a .t4) (a .count) (k .stands) (k .v) (k .bad) (k .place) (k .i) (k .inv) _
+    (t .loop-test .taken)
+    (n .before .use-of .result)
+    (n .is-nothing .result)
+    (n .before .use-of .ensures)
+    (n .is-nothing .ensures)
+    (e .if1 .left)
+    (q .value-of .result)
+    (q .value-of .ensures)
+    (not-false (k .bad) (c .if2 .left))
+
+place-of-requires : tie.Need-place-of-requires Inv-loop μ-loop
+place-of-requires c κs = search needs
+
+array-write-stands : tie.Need-array-write-stands Inv-loop μ-loop
+array-write-stands c = c .place-of .ensures .inside
+
+mul-v : tie.Need-mul-v Inv-loop μ-loop
+mul-v c = omega (arith, c .place-of .ensures .inside)
+
+array-set-from-v : tie.Need-array-set-from-v Inv-loop μ-loop
+array-set-from-v c = c .place-of .ensures .inside
+
+loop-less-3 : tie.Need-loop-less-3 Inv-loop μ-loop
+loop-less-3 c = omega arith
+
+loop-again-3 : tie.Need-loop-again-3 Inv-loop μ-loop
+loop-again-3 c =
+    let y = c .before .before in
+    let q = y .before .before in
+    let e = q .before .before .before .before in
+    let n = e .before in
+    let t = n .before .before .before in
+    let l = t .before in
+    let k = l .loop in
+    let a = l .before .before .args in
+    past-fit (a .speeds) (a .m) (a .code) (a .t4) (a .count) (k .stands) (k .v) (k .bad) (k .place) (k .i) (k .inv) _
+    (t .loop-test .taken)
+    (n .before .use-of .result)
+    (n .is-nothing .result)
+    (n .before .use-of .ensures)
+    (n .is-nothing .ensures)
+    (e .if1 .left)
+    (q .value-of .result)
+    (q .value-of .ensures)
+    (y .z .given .0 .0)
+    (c .place-of .result)
+    (y .z .given .1)
+    (c .place-of .ensures)
 
 returns-2 : tie.Need-returns-2 Inv-loop μ-loop
 returns-2 c =
-    let l = c .before in
-    let s = l .before .before in
-    let a = s .args in
-    judge-done (a .speeds) (a .m) (a .code) (a .t4) (a .count) (l .loop .passed) (l .loop .i)
-    (l .loop .inv .1)
-    (c .loop-test .left)
-    (l .loop .inv .2)
+    let l = c .before .before in
+    let k = l .loop in
+    let a = l .before .before .args in
+    ended-bad (a .speeds) (a .m) (a .code) (a .t4) (a .count) (k .stands) (k .v) (k .bad) (k .place) (k .i) (k .inv)
+    (c .before .loop-test .left)
+    (c .if3 .taken)
+
+values-in-requires : tie.Need-values-in-requires Inv-loop μ-loop
+values-in-requires c κs = search needs
+
+returns-3 : tie.Need-returns-3 Inv-loop μ-loop
+returns-3 c =
+    let l = c .before .before .before in
+    let k = l .loop in
+    let a = l .before .before .args in
+    ended-fine (a .speeds) (a .m) (a .code) (a .t4) (a .count) (k .stands) (k .v) (k .bad) (k .place) (k .i) (k .inv)
+    (c .before .before .loop-test .left)
+    (c .before .if3 .left)
+    (c .values-in .result)
+    (c .values-in .ensures)
 
 pub judge-spec : {M : Type 1} → statement M
 judge-spec =
@@ -101,15 +182,27 @@ judge-spec =
     (tie.spec
     Inv-loop
     μ-loop
-    no-values-requires
+    zero-requires
     loop-holds
     mul-w
     array-copy-out-w
+    add-i
     use-of-requires
     is-nothing-requires
     returns
-    judge-value-requires
-    add-i
+    value-of-requires
+    enum-known-z
+    enum-told
     loop-less
     loop-again
-    returns-2)
+    loop-less-2
+    loop-again-2
+    place-of-requires
+    array-write-stands
+    mul-v
+    array-set-from-v
+    loop-less-3
+    loop-again-3
+    returns-2
+    values-in-requires
+    returns-3)
