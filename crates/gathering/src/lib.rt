@@ -2,6 +2,7 @@
 use codes::Misc;
 use reading::Item;
 use reading::Reading;
+use reading::Role;
 use reading::Seen;
 use reading::Status;
 use settings::Modes;
@@ -9,70 +10,11 @@ use words::Number;
 use words::Sign;
 use words::Word;
 ghost use mathlib.Core.Path.{_≡_};
-ghost use mathlib.Core.Bool.{_||_};
-ghost use Prim.Native.Nat.{_+_, _≤_, _<_};
+ghost use Prim.Native.Nat.{_≤_};
 ghost use lib.ListN.{length};
-ghost use Rattle.letters.specs.Letters.{isG, isMisc};
-ghost use Rattle.reading.specs.Seen.{indexOf, nothingSeen, seenWith};
+ghost use Rattle.terms.specs.Terms.{if_then_else_};
 ghost use Rattle.reading.specs.Whole.{IsRead};
-
-// One word more, which may stand.
-fn with_word(seen: Seen, w: Word) -> Seen
-    requires { ⌜ indexOf (w .letter) < 13 ⌝ }
-    ensures { λ r. ⌜ r ≡ seenWith seen w ⌝ }
-{
-    let k = reading::letter_index(w.letter);
-    let mut letters = seen.letters;
-    letters[k] = true;
-    let mut groups = seen.groups;
-    let misc = seen.misc;
-    let modes = seen.modes;
-    if w.letter == b'G' {
-        let c = reading::code_in(w);
-        let g = codes::group_of(c) as usize;
-        groups[g] = true;
-        let switched = settings::switched(modes, c);
-        return Seen {
-            letters,
-            groups,
-            misc,
-            modes: switched,
-        };
-    }
-    if w.letter == b'M' {
-        let named = reading::misc_in(w);
-        return Seen {
-            letters,
-            groups,
-            misc: named,
-            modes,
-        };
-    }
-    Seen {
-        letters,
-        groups,
-        misc,
-        modes,
-    }
-}
-
-fn nothing_seen(modes: Modes) -> Seen
-    ensures { λ r. ⌜ r ≡ nothingSeen modes ⌝ }
-{
-    Seen {
-        letters: [false; 13],
-        groups: [false; 8],
-        misc: Misc::Other,
-        modes,
-    }
-}
-
-// A G or M word is kept as a code and not as a word.
-fn is_coded(w: Word) -> bool
-    ensures { λ r. ⌜ r ≡ (isG w || isMisc w) ⌝ }
-{
-    (w.letter == b'G') | (w.letter == b'M')
-}
+ghost use Rattle.reading.specs.declared.Status.the-variants.{Fine, MayNot};
 
 // What fills a place that holds no word: no word has the letter 0.
 fn no_word() -> Word
@@ -91,19 +33,42 @@ fn no_word() -> Word
     }
 }
 
-// The words of the block's text from a place on, under the modes that held before.
-pub fn read_words(s: &[u8], from: usize, main: bool, modes: Modes) -> Reading
+fn status_of(stopped: bool, wrong: usize) -> Status
+    ensures { λ r. ⌜ r ≡ (if stopped then MayNot wrong else Fine) ⌝ }
+{
+    if stopped {
+        return Status::MayNot(wrong);
+    }
+    Status::Fine
+}
+
+// The words of the block's text from a place on, under the modes that held before. After the first word that may not stand
+// the rest is only looked through for what cannot be read. What is kept stands in variables of its own and is put together
+// at the end, so that nothing is copied from word to word.
+pub fn read_words(s: &[u8], from: usize, main: bool, before: Modes) -> Reading
     requires { ⌜ from ≤ length (now s) ⌝ }
-    ensures { λ r. ⌜ IsRead main modes (now (s .entry)) from r ⌝ }
+    ensures { λ r. ⌜ IsRead main before (now (s .entry)) from r ⌝ }
 {
     let mut words = [no_word(); 13];
     let mut count: usize = 0;
-    let mut seen = nothing_seen(modes);
+    let mut letters = [false; 26];
+    let mut groups = [false; 8];
+    let mut misc = Misc::Other;
+    let mut modes = before;
+    let mut stopped = false;
+    let mut wrong: usize = 0;
     let mut i = from;
     loop {
         if lines::text_ends(s, i) {
+            let status = status_of(stopped, wrong);
+            let seen = Seen {
+                letters,
+                groups,
+                misc,
+                modes,
+            };
             return Reading {
-                status: Status::Fine,
+                status,
                 seen,
                 count,
                 words,
@@ -112,6 +77,12 @@ pub fn read_words(s: &[u8], from: usize, main: bool, modes: Modes) -> Reading
         }
         match reading::item_at(s, i) {
             Item::Unreadable => {
+                let seen = Seen {
+                    letters,
+                    groups,
+                    misc,
+                    modes,
+                };
                 return Reading {
                     status: Status::Unreadable(i),
                     seen,
@@ -124,23 +95,32 @@ pub fn read_words(s: &[u8], from: usize, main: bool, modes: Modes) -> Reading
                 i = next;
             }
             Item::Says(w, next) => {
-                if reading::may_not_stand(main, seen, w) {
-                    let status = reading::status_after(s, next, w.at);
-                    return Reading {
-                        status,
-                        seen,
-                        count,
-                        words,
-                        end: i,
-                    };
-                }
                 i = next;
-                seen = with_word(seen, w);
-                if is_coded(w) {
+                if stopped {
                     continue;
                 }
-                words[count] = w;
-                count += 1;
+                let k = reading::place_of(w.letter);
+                match reading::role_of(main, letters[k], letters[6], groups, misc, w) {
+                    Role::MayNot => {
+                        stopped = true;
+                        wrong = w.at;
+                    }
+                    Role::Code(c) => {
+                        let g = codes::group_of(c) as usize;
+                        letters[6] = true;
+                        groups[g] = true;
+                        modes = settings::switched(modes, c);
+                    }
+                    Role::Misc(m) => {
+                        letters[12] = true;
+                        misc = m;
+                    }
+                    Role::Value => {
+                        letters[k] = true;
+                        words[count] = w;
+                        count += 1;
+                    }
+                }
             }
         }
     }

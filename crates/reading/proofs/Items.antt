@@ -85,26 +85,26 @@ number-text bs =
 
 abbrev Fits : Words.Item → List ℕ → Type 0
 Fits (gap k) rest = k ≤ length rest
-Fits (word w k) rest = (k ≤ length rest) × Written (w .number)
+Fits (word w k) rest = (k ≤ length rest) × Written (w .number) × (isCapital (w .letter) ≡ true)
 Fits unreadable rest = Unit {0}
 
 item-fits : (i b : ℕ) (rest : List ℕ) → Fits (itemAt i b rest) rest
 unfolding itemAt commentItem wordItem
-item-fits i b rest = by (isBlank b) (eqb b 40) (isCapital b)
+item-fits i b rest = by (isBlank b) (eqb b 40) (isCapital b) refl
   where
     by-comment : (o : Option ℕ) → ((k : ℕ) → o ≡ some k → k ≤ length rest) → Fits (commentItem o) rest
     by-comment none h = tt
     by-comment (some k) h = h k refl
 
-    by-number : (n : Numbered) → ((m : Number) (k : ℕ) → n ≡ Is m k → (k ≤ length rest) × Written m) → Fits (wordItem i b n) rest
-    by-number (Is m k) h = h m k refl
-    by-number Unreadable h = tt
+    by-number : isCapital b ≡ true → (n : Numbered) → ((m : Number) (k : ℕ) → n ≡ Is m k → (k ≤ length rest) × Written m) → Fits (wordItem i b n) rest
+    by-number e (Is m k) h = let f = h m k refl in (f .0, f .1, e)
+    by-number e Unreadable h = tt
 
-    by : (blank paren capital : Bool) → Fits (if blank then gap 0 else if paren then commentItem (closing rest) else if capital then wordItem i b (numberIn rest) else unreadable) rest
-    by true paren capital = omega arith
-    by false true capital = by-comment (closing rest) (closing-within rest)
-    by false false true = by-number (numberIn rest) (λ m k e. (number-short rest m k e, numberIn-written rest m k e))
-    by false false false = tt
+    by : (blank paren capital : Bool) → isCapital b ≡ capital → Fits (if blank then gap 0 else if paren then commentItem (closing rest) else if capital then wordItem i b (numberIn rest) else unreadable) rest
+    by true paren capital e = omega arith
+    by false true capital e = by-comment (closing rest) (closing-within rest)
+    by false false true e = by-number e (numberIn rest) (λ m k f. (number-short rest m k f, numberIn-written rest m k f))
+    by false false false e = tt
 
 -- ---- the item at a place
 
@@ -225,13 +225,13 @@ module _ (l : List ℕ) (i : ℕ) (going : noText (drop i l) ≡ false) where
 
   pub step-word :
       (w : Word) (next : ℕ) → placed i (itemAt i (here l i) (rest l i)) ≡ item.Says w next
-      → (wordsAt l i ≡ withWord w (wordsAt l next)) × Gone l i next × Written (w .number)
+      → (wordsAt l i ≡ withWord w (wordsAt l next)) × Gone l i next × Written (w .number) × (isCapital (w .letter) ≡ true)
   unfolding placed itemThen
   step-word w next e = go (itemAt i (here l i) (rest l i)) (item-fits i (here l i) (rest l i)) at-item e
     where
       go :
           (x : Words.Item) → Fits x (rest l i) → wordsAt l i ≡ itemThen i x (λ k. wordsAfter k (i + 1) (rest l i)) → placed i x ≡ item.Says w next
-          → (wordsAt l i ≡ withWord w (wordsAt l next)) × Gone l i next × Written (w .number)
+          → (wordsAt l i ≡ withWord w (wordsAt l next)) × Gone l i next × Written (w .number) × (isCapital (w .letter) ≡ true)
       go (gap k) h f g = let never : _≡_ {A = ℕ} 0 1 = cc in absurd (omega arith)
       go (word v k) h f g =
           let is : i + 1 + k ≡ next = cc in
@@ -239,6 +239,7 @@ module _ (l : List ℕ) (i : ℕ) (going : noText (drop i l) ≡ false) where
             f ∙ ap (withWord v) (pass k (h .0) ∙ ap (wordsAt l) is) ∙ ap (λ (x : Word). withWord x (wordsAt l next)) same,
             rw is at (gone k (h .0)),
             rw same at (h .1),
+            rw same at (h .2),
           )
       go unreadable h f g = let never : _≡_ {A = ℕ} 0 1 = cc in absurd (omega arith)
 

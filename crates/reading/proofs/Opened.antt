@@ -9,7 +9,6 @@ use Rattle.points.proofs.Opened.{opened as points-opened}
 use Rattle.settings.proofs.Opened.{opened as settings-opened}
 use Rattle.letters.proofs.Opened.{opened as letters-opened}
 use Rattle.reading.specs.Items.{placed, statusAfter}
-use Rattle.reading.specs.Seen.{indexIn, seenWith}
 use Rattle.reading.specs.Whole.{standing, statusOf}
 
 unfoldable pub opened : Unit {0}
@@ -25,8 +24,6 @@ unfolding
     letters-opened
     placed
     statusAfter
-    indexIn
-    seenWith
     standing
     statusOf
 opened = tt

@@ -1,44 +1,57 @@
 -- What is kept of the words tells whether the next one may stand, and is kept with it.
-use Prim.Native.Nat.{ℕ, _≤_, _<_}
+use Prim.Native.Nat.{ℕ, _+_, _<_}
 use mathlib.Core.Path.{_≡_, refl, sym, _∙_, ap}
-use mathlib.Core.Bool.{Bool, true, false, false≢true, _&&_, _||_, or-false, or-true}
+use mathlib.Core.Bool.{Bool, true, false, false≢true, not, _&&_, _||_, or-false, or-true}
 use mathlib.Core.Option.{none, some}
 use mathlib.Core.List.{List, [], _∷_, _++_}
 use native.Mathlib.Omega.{arith}
 use native.Mathlib.Decide.{ℕ-discrete}
-use borrow.Author.Tests.{eq-eqb, ne-eqb, eqb-true, lt-ltb, le-ltb}
+use borrow.Author.Tests.{eq-eqb, ne-eqb, eqb-true}
 use lib.Dec.{eqb, lit<}
-use lib.ListN.{length, getD, set, length-set, length-replicate, getD-replicate}
+use lib.ListN.{length, getD, set, replicate, length-set, length-replicate, getD-replicate}
 use lib.Seq.{getD-set-same, getD-set-other}
 use Rattle.terms.specs.Terms.{if_then_else_, any, first}
 use Rattle.terms.proofs.Laws.{either-left, either-right, any-snoc, any-more, any-neither, any-false}
 use Rattle.codes.specs.declared.Code.{Code}
 use Rattle.codes.specs.declared.Code.the-variants.{GroupA, GroupB, GroupC, GroupD, GroupE, GroupF, G04, Unknown}
+use Rattle.codes.specs.declared.Misc.{Misc}
+use Rattle.codes.specs.declared.Misc.the-variants.{Other}
 use Rattle.codes.specs.Codes.{groupOf, isGroupA, isG04, clash, isM, miscNumber}
 use Rattle.words.specs.declared.Word.{Word}
+use Rattle.words.specs.Words.{isCapital}
 use Rattle.settings.specs.declared.Modes.{Modes}
 use Rattle.settings.specs.Settings.{switched}
-use Rattle.letters.specs.Letters.{known, isKnown, isG, isMisc, codeIn, miscIn, standsAlone, repeats, badG, badM, mayNotStand, miscOrOther, miscOfBlock, modesIn}
-use Rattle.reading.specs.Seen.{indexOf, hasLetter, hasGroup, isAlone, Sums, nothingSeen, seenWith, badMisc}
+use Rattle.letters.specs.Letters.{isKnown, isG, isMisc, codeIn, miscIn, standsAlone, repeats, badG, badM, mayNotStand, miscOrOther, miscOfBlock, modesIn}
+use Rattle.reading.specs.Seen.{placeOf, hasLetter, hasGroup, isAlone, Coded, Sums, badMisc}
 use Rattle.reading.specs.declared.Seen.{Seen}
-use Rattle.reading.proofs.Letters.{known-index, index-letter, index-other}
+use Rattle.reading.proofs.Letters.{known-at, known-g, known-m, place-inside, place-back}
 
 -- ---- nothing read yet
+
+abbrev pub nothingSeen : Modes → Seen
+nothingSeen m = record { letters = replicate 26 false; groups = replicate 8 false; misc = Other; modes = m }
 
 pub sums-none : (m : Modes) → Sums m [] (nothingSeen m)
 unfolding any standsAlone isM miscNumber miscOfBlock miscOrOther first modesIn
 sums-none m =
     record {
-      places = length-replicate 13 false;
-      kinds = length-replicate 8 false;
-      letters = λ k h. getD-replicate 13 k false false h;
-      groups = λ g h. getD-replicate 8 g false false h;
-      alone = refl;
+      places = length-replicate 26 false;
+      letters = λ k h. getD-replicate 26 k false false h;
+      coded = record { kinds = length-replicate 8 false; each = λ g h. getD-replicate 8 g false false h; alone = refl };
       misc = refl;
       modes = refl;
     }
 
 -- ---- one word more
+
+unfoldable pub seenWith : Seen → Word → Seen
+seenWith seen w =
+    record {
+      letters = set (seen .letters) (placeOf (w .letter)) true;
+      groups = if isG w then set (seen .groups) (groupOf (codeIn w)) true else seen .groups;
+      misc = if isMisc w then miscIn w else seen .misc;
+      modes = if isG w then switched (seen .modes) (codeIn w) else seen .modes;
+    }
 
 pub group-most : (c : Code) → groupOf c < 8
 unfolding groupOf
@@ -76,36 +89,37 @@ no-misc test done h = any-neither (λ e. isMisc e && test e) isMisc isMisc (λ e
     go true u f = refl
     go false u f = f
 
-module _ (m : Modes) (done : List Word) (seen : Seen) (s : Sums m done seen) (w : Word) (k : indexOf (w .letter) < 13) where
-  letters-with : (j : ℕ) → j < 13 → getD (set (seen .letters) (indexOf (w .letter)) true) j false ≡ any (hasLetter (getD known j 0)) (done ++ w ∷ [])
+module _ (m : Modes) (done : List Word) (seen : Seen) (s : Sums m done seen) (w : Word) (capital : isCapital (w .letter) ≡ true) where
+  letters-with : (j : ℕ) → j < 26 → getD (set (seen .letters) (placeOf (w .letter)) true) j false ≡ any (hasLetter (65 + j)) (done ++ w ∷ [])
   letters-with j h =
-      elim (ℕ-discrete j (indexOf (w .letter))) [
+      elim (ℕ-discrete j (placeOf (w .letter))) [
         | yes e ↦
-            let same : hasLetter (getD known j 0) w ≡ true =
-            eq-eqb (w .letter) (getD known j 0) (sym (ap (λ (i : ℕ). getD known i 0) e ∙ index-letter (w .letter) k)) in
-            ap (λ (i : ℕ). getD (set (seen .letters) (indexOf (w .letter)) true) i false) e
-            ∙ getD-set-same (seen .letters) (indexOf (w .letter)) true false (omega (arith, s .places))
-            ∙ sym (any-snoc (hasLetter (getD known j 0)) done w ∙ ap (any (hasLetter (getD known j 0)) done ||_) same ∙ or-true (any (hasLetter (getD known j 0)) done))
+            let same : hasLetter (65 + j) w ≡ true = eq-eqb (w .letter) (65 + j) (omega (arith, e, place-back (w .letter) capital)) in
+            ap (λ (i : ℕ). getD (set (seen .letters) (placeOf (w .letter)) true) i false) e
+            ∙ getD-set-same (seen .letters) (placeOf (w .letter)) true false (omega (arith, s .places, place-inside (w .letter) capital))
+            ∙ sym (any-snoc (hasLetter (65 + j)) done w ∙ ap (any (hasLetter (65 + j)) done ||_) same ∙ or-true (any (hasLetter (65 + j)) done))
         | no f ↦
-            getD-set-other (seen .letters) (indexOf (w .letter)) j true false f ∙ s .letters j h
-            ∙ sym
-            (any-snoc (hasLetter (getD known j 0)) done w
-            ∙ ap (any (hasLetter (getD known j 0)) done ||_) (index-other (w .letter) j h f) ∙ or-false (any (hasLetter (getD known j 0)) done))
+            let other : hasLetter (65 + j) w ≡ false = ne-eqb (w .letter) (65 + j) (λ e. f (omega (arith, e))) in
+            getD-set-other (seen .letters) (placeOf (w .letter)) j true false f ∙ s .letters j h
+            ∙ sym (any-snoc (hasLetter (65 + j)) done w ∙ ap (any (hasLetter (65 + j)) done ||_) other ∙ or-false (any (hasLetter (65 + j)) done))
       ]
 
-  groups-with : (g : ℕ) → g < 8 → getD (if isG w then set (seen .groups) (groupOf (codeIn w)) true else seen .groups) g false ≡ any (hasGroup g) (done ++ w ∷ [])
+  abbrev groupsWith : Bool → List Bool
+  groupsWith t = if t then set (seen .groups) (groupOf (codeIn w)) true else seen .groups
+
+  groups-with : (g : ℕ) → g < 8 → getD (groupsWith (isG w)) g false ≡ any (hasGroup g) (done ++ w ∷ [])
   groups-with g h = go (isG w) ∙ sym (any-snoc (hasGroup g) done w)
     where
       kept : (t : Bool) → t ≡ false → getD (seen .groups) g false ≡ (any (hasGroup g) done || t)
-      kept t e = s .groups g h ∙ sym (ap (any (hasGroup g) done ||_) e ∙ or-false (any (hasGroup g) done))
+      kept t e = s .coded .each g h ∙ sym (ap (any (hasGroup g) done ||_) e ∙ or-false (any (hasGroup g) done))
 
-      go : (t : Bool) → getD (if t then set (seen .groups) (groupOf (codeIn w)) true else seen .groups) g false ≡ (any (hasGroup g) done || t && eqb (groupOf (codeIn w)) g)
+      go : (t : Bool) → getD (groupsWith t) g false ≡ (any (hasGroup g) done || t && eqb (groupOf (codeIn w)) g)
       go false = kept false refl
       go true =
           elim (ℕ-discrete g (groupOf (codeIn w))) [
             | yes e ↦
                 ap (λ (i : ℕ). getD (set (seen .groups) (groupOf (codeIn w)) true) i false) e
-                ∙ getD-set-same (seen .groups) (groupOf (codeIn w)) true false (omega (arith, s .kinds, group-most (codeIn w)))
+                ∙ getD-set-same (seen .groups) (groupOf (codeIn w)) true false (omega (arith, s .coded .kinds, group-most (codeIn w)))
                 ∙ sym (ap (any (hasGroup g) done ||_) (eq-eqb (groupOf (codeIn w)) g (sym e)) ∙ or-true (any (hasGroup g) done))
             | no f ↦
                 getD-set-other (seen .groups) (groupOf (codeIn w)) g true false f
@@ -116,24 +130,27 @@ module _ (m : Modes) (done : List Word) (seen : Seen) (s : Sums m done seen) (w 
   unfolding seenWith miscOfBlock miscOrOther
   sums-with once =
       record {
-        places = length-set (seen .letters) (indexOf (w .letter)) true ∙ s .places;
-        kinds = kinds-with (isG w);
+        places = length-set (seen .letters) (placeOf (w .letter)) true ∙ s .places;
         letters = letters-with;
-        groups = groups-with;
-        alone = any-snoc isAlone done w ∙ alone-with (isMisc w) refl once;
+        coded =
+            record {
+              kinds = kinds-with (isG w);
+              each = groups-with;
+              alone = any-snoc isAlone done w ∙ alone-with (isMisc w) refl once;
+            };
         misc = misc-with (isMisc w) refl once;
         modes = ap (λ (x : Modes). if isG w then switched x (codeIn w) else x) (s .modes) ∙ sym (modes-snoc m done w);
       }
     where
-      kinds-with : (t : Bool) → length (if t then set (seen .groups) (groupOf (codeIn w)) true else seen .groups) ≡ 8
-      kinds-with true = length-set (seen .groups) (groupOf (codeIn w)) true ∙ s .kinds
-      kinds-with false = s .kinds
+      kinds-with : (t : Bool) → length (groupsWith t) ≡ 8
+      kinds-with true = length-set (seen .groups) (groupOf (codeIn w)) true ∙ s .coded .kinds
+      kinds-with false = s .coded .kinds
 
       alone-with :
           (t : Bool) → isMisc w ≡ t → (t ≡ true → any isMisc done ≡ false)
           → (any isAlone done || t && standsAlone (miscIn w)) ≡ standsAlone (if t then miscIn w else seen .misc)
       alone-with true e h = rw (no-misc (λ x. standsAlone (miscIn x)) done (h refl))
-      alone-with false e h = or-false (any isAlone done) ∙ s .alone
+      alone-with false e h = or-false (any isAlone done) ∙ s .coded .alone
 
       misc-with :
           (t : Bool) → isMisc w ≡ t → (t ≡ true → any isMisc done ≡ false)
@@ -147,7 +164,7 @@ module _ (m : Modes) (done : List Word) (seen : Seen) (s : Sums m done seen) (w 
 abbrev pub toldG : Code → List Word → Bool
 toldG c done = eqb (groupOf c) 0 || any (λ e. isG e && clash (codeIn e) c) done || any isAlone done
 
-module _ (m : Modes) (done : List Word) (seen : Seen) (s : Sums m done seen) (c : Code) where
+module _ (done : List Word) (groups : List Bool) (misc : Misc) (s : Coded done groups misc) (c : Code) where
   clashes : any (λ e. isG e && clash (codeIn e) c) done ≡ true → toldG c done ≡ true
   clashes e = rw e (ap (_|| any isAlone done) (or-true (eqb (groupOf c) 0)))
 
@@ -155,27 +172,27 @@ module _ (m : Modes) (done : List Word) (seen : Seen) (s : Sums m done seen) (c 
   told-unknown e = rw (eq-eqb (groupOf c) 0 e)
 
   -- a group whose words all clash with c
-  by-group : (g : ℕ) → g < 8 → ((e : Code) → groupOf e ≡ g → clash e c ≡ true) → getD (seen .groups) g false ≡ true → true ≡ toldG c done
+  by-group : (g : ℕ) → g < 8 → ((e : Code) → groupOf e ≡ g → clash e c ≡ true) → getD groups g false ≡ true → true ≡ toldG c done
   by-group g h all-clash e =
       sym
       (clashes
       (any-more (hasGroup g) (λ x. isG x && clash (codeIn x) c) (λ x. go (isG x) (codeIn x) (eqb (groupOf (codeIn x)) g) refl) done
-      (sym (s .groups g h) ∙ e)))
+      (sym (s .each g h) ∙ e)))
     where
       go : (t : Bool) (x : Code) (u : Bool) → eqb (groupOf x) g ≡ u → (t && u) ≡ true → (t && clash x c) ≡ true
       go true x true f k = all-clash x (eqb-true (groupOf x) g f)
       go true x false f k = absurd (false≢true k)
       go false x u f k = k
 
-  pub told-group : getD (seen .groups) (groupOf c) false ≡ true → true ≡ toldG c done
+  pub told-group : getD groups (groupOf c) false ≡ true → true ≡ toldG c done
   unfolding clash
   told-group e = by-group (groupOf c) (group-most c) (λ x f. rw (eq-eqb (groupOf x) (groupOf c) f)) e
 
-  pub told-dwell : groupOf c ≡ 1 → getD (seen .groups) 7 false ≡ true → true ≡ toldG c done
+  pub told-dwell : groupOf c ≡ 1 → getD groups 7 false ≡ true → true ≡ toldG c done
   unfolding clash isGroupA isG04
   told-dwell h e = by-group 7 (lit< tt) (λ x f. rw (h, f)) e
 
-  pub told-motion : groupOf c ≡ 7 → getD (seen .groups) 1 false ≡ true → true ≡ toldG c done
+  pub told-motion : groupOf c ≡ 7 → getD groups 1 false ≡ true → true ≡ toldG c done
   unfolding clash isGroupA isG04
   told-motion h e = by-group 1 (lit< tt) (λ x f. rw (h, f)) e
 
@@ -183,17 +200,17 @@ module _ (m : Modes) (done : List Word) (seen : Seen) (s : Sums m done seen) (c 
   pair : Word → Bool
   pair e = isG e && (eqb (groupOf (codeIn e)) 1 && eqb (groupOf c) 7 || eqb (groupOf (codeIn e)) 7 && eqb (groupOf c) 1)
 
-  none-pair : (groupOf c ≡ 1 → getD (seen .groups) 7 false ≡ false) → (groupOf c ≡ 7 → getD (seen .groups) 1 false ≡ false) → any pair done ≡ false
+  none-pair : (groupOf c ≡ 1 → getD groups 7 false ≡ false) → (groupOf c ≡ 7 → getD groups 1 false ≡ false) → any pair done ≡ false
   unfolding pair
   none-pair dwell motion =
       elim (ℕ-discrete (groupOf c) 1) [
         | yes e ↦
-            let none-seven = sym (s .groups 7 (lit< tt)) ∙ dwell e in
+            let none-seven = sym (s .each 7 (lit< tt)) ∙ dwell e in
             any-neither pair (hasGroup 7) (hasGroup 7) (λ x f. seven (isG x) (eqb (groupOf (codeIn x)) 1) (eqb (groupOf (codeIn x)) 7) (rw e at f)) done none-seven none-seven
         | no g ↦
             (elim (ℕ-discrete (groupOf c) 7) [
               | yes e ↦
-                  let none-one = sym (s .groups 1 (lit< tt)) ∙ motion e in
+                  let none-one = sym (s .each 1 (lit< tt)) ∙ motion e in
                   any-neither pair (hasGroup 1) (hasGroup 1) (λ x f. one (isG x) (eqb (groupOf (codeIn x)) 1) (eqb (groupOf (codeIn x)) 7) (rw e at f)) done none-one none-one
               | no h ↦
                   any-false pair (λ x. rw (ne-eqb (groupOf c) 1 g, ne-eqb (groupOf c) 7 h) (neither (isG x) (eqb (groupOf (codeIn x)) 1) (eqb (groupOf (codeIn x)) 7))) done
@@ -221,8 +238,8 @@ module _ (m : Modes) (done : List Word) (seen : Seen) (s : Sums m done seen) (c 
 
   -- where neither its own group nor the one that it does not stand with was read, only an M98 or M99 tells
   pub told-rest :
-      (alone : Bool) → alone ≡ standsAlone (seen .misc) → (groupOf c ≡ 0 → ⊥) → getD (seen .groups) (groupOf c) false ≡ false
-      → (groupOf c ≡ 1 → getD (seen .groups) 7 false ≡ false) → (groupOf c ≡ 7 → getD (seen .groups) 1 false ≡ false) → alone ≡ toldG c done
+      (alone : Bool) → alone ≡ standsAlone (misc) → (groupOf c ≡ 0 → ⊥) → getD groups (groupOf c) false ≡ false
+      → (groupOf c ≡ 1 → getD groups 7 false ≡ false) → (groupOf c ≡ 7 → getD groups 1 false ≡ false) → alone ≡ toldG c done
   unfolding pair clash isGroupA isG04
   told-rest alone is known′ own dwell motion =
       is ∙ sym (s .alone) ∙ sym (rw (ne-eqb (groupOf c) 0 known′) (ap (_|| any isAlone done) none-clash))
@@ -236,60 +253,66 @@ module _ (m : Modes) (done : List Word) (seen : Seen) (s : Sums m done seen) (c 
       none-clash =
           any-neither (λ e. isG e && clash (codeIn e) c) (hasGroup (groupOf c)) pair
           (λ x. split (isG x) (eqb (groupOf (codeIn x)) (groupOf c)) (eqb (groupOf (codeIn x)) 1 && eqb (groupOf c) 7) (eqb (groupOf (codeIn x)) 7 && eqb (groupOf c) 1))
-          done (sym (s .groups (groupOf c) (group-most c)) ∙ own) (none-pair dwell motion)
+          done (sym (s .each (groupOf c) (group-most c)) ∙ own) (none-pair dwell motion)
 
   -- .. and of group A and G04, the other one
   pub told-one :
-      (alone : Bool) → alone ≡ standsAlone (seen .misc) → getD (seen .groups) (groupOf c) false ≡ false → groupOf c ≡ 1
-      → (getD (seen .groups) 7 false || alone) ≡ toldG c done
-  told-one alone is own e = go (getD (seen .groups) 7 false) refl
+      (alone : Bool) → alone ≡ standsAlone (misc) → getD groups (groupOf c) false ≡ false → groupOf c ≡ 1
+      → (getD groups 7 false || alone) ≡ toldG c done
+  told-one alone is own e = go (getD groups 7 false) refl
     where
-      go : (t : Bool) → getD (seen .groups) 7 false ≡ t → (t || alone) ≡ toldG c done
+      go : (t : Bool) → getD groups 7 false ≡ t → (t || alone) ≡ toldG c done
       go true f = told-dwell e f
       go false f = told-rest alone is (λ g. omega arith) own (λ g. f) (λ g. absurd (omega arith))
 
   pub told-seven :
-      (alone : Bool) → alone ≡ standsAlone (seen .misc) → getD (seen .groups) (groupOf c) false ≡ false → groupOf c ≡ 7
-      → (getD (seen .groups) 1 false || alone) ≡ toldG c done
-  told-seven alone is own e = go (getD (seen .groups) 1 false) refl
+      (alone : Bool) → alone ≡ standsAlone (misc) → getD groups (groupOf c) false ≡ false → groupOf c ≡ 7
+      → (getD groups 1 false || alone) ≡ toldG c done
+  told-seven alone is own e = go (getD groups 1 false) refl
     where
-      go : (t : Bool) → getD (seen .groups) 1 false ≡ t → (t || alone) ≡ toldG c done
+      go : (t : Bool) → getD groups 1 false ≡ t → (t || alone) ≡ toldG c done
       go true f = told-motion e f
       go false f = told-rest alone is (λ g. omega arith) own (λ g. absurd (omega arith)) (λ g. f)
 
 -- ---- any word
 
-module _ (main : Bool) (m : Modes) (done : List Word) (seen : Seen) (s : Sums m done seen) (w : Word) where
-  pub tells-unknown : 13 ≤ indexOf (w .letter) → true ≡ mayNotStand main done w
-  unfolding mayNotStand
-  tells-unknown h = rw (known-index (w .letter) ∙ le-ltb (indexOf (w .letter)) 13 h)
+module _ (main : Bool) (done : List Word) (w : Word) where
+  pub tells-code : (r : Bool) → isG w ≡ true → r ≡ toldG (codeIn w) done → mayNotStand main done w ≡ r
+  unfolding mayNotStand repeats badG
+  tells-code r e f =
+      let is = eqb-true (w .letter) 71 e in
+      rw (sym (known-at 71 known-g is), e, ne-eqb (w .letter) 77 (λ g. omega arith)) (or-false (toldG (codeIn w) done)) ∙ sym f
 
-  module _ (k : indexOf (w .letter) < 13) where
-    is-known : isKnown (w .letter) ≡ true
-    is-known = known-index (w .letter) ∙ lt-ltb (indexOf (w .letter)) 13 k
+  module _ (other : isG w ≡ false) where
+    pub tells-wrong : (stood : Bool) → stood ≡ any (hasLetter (w .letter)) done → (stood || not (isKnown (w .letter))) ≡ true → mayNotStand main done w ≡ true
+    unfolding mayNotStand repeats
+    tells-wrong stood e f = rw (other, sym e) (go (isKnown (w .letter)) stood f)
+      where
+        go : (k t : Bool) → (t || not k) ≡ true → (not k || t || false || isMisc w && badM main done w) ≡ true
+        go true true g = refl
+        go false t g = refl
+        go true false g = absurd (false≢true g)
 
-    stood : any (λ e. eqb (e .letter) (w .letter)) done ≡ getD (seen .letters) (indexOf (w .letter)) false
-    stood = ap (λ (x : ℕ). any (hasLetter x) done) (sym (index-letter (w .letter) k)) ∙ sym (s .letters (indexOf (w .letter)) k)
-
-    pub tells-code : (r : Bool) → w .letter ≡ 71 → r ≡ toldG (codeIn w) done → r ≡ mayNotStand main done w
-    unfolding mayNotStand repeats badG
-    tells-code r e f =
-        f ∙ sym (rw (is-known, eq-eqb (w .letter) 71 e, ne-eqb (w .letter) 77 (λ g. omega arith)) (or-false (toldG (codeIn w) done)))
-
-    module _ (other : w .letter ≡ 71 → ⊥) where
-      pub tells-repeat : getD (seen .letters) (indexOf (w .letter)) false ≡ true → true ≡ mayNotStand main done w
+    module _ (stood : Bool) (e : stood ≡ any (hasLetter (w .letter)) done) (f : (stood || not (isKnown (w .letter))) ≡ false) where
+      rest : mayNotStand main done w ≡ (isMisc w && badM main done w)
       unfolding mayNotStand repeats
-      tells-repeat e = rw (is-known, ne-eqb (w .letter) 71 other, stood ∙ e)
+      rest = rw (other, sym e) (go (isKnown (w .letter)) stood f)
+        where
+          go : (k t : Bool) → (t || not k) ≡ false → (not k || t || false || isMisc w && badM main done w) ≡ (isMisc w && badM main done w)
+          go true false g = refl
+          go true true g = absurd (false≢true (sym g))
+          go false true g = absurd (false≢true (sym g))
+          go false false g = absurd (false≢true (sym g))
 
-      pub tells-misc :
-          (r : Bool) → getD (seen .letters) (indexOf (w .letter)) false ≡ false → w .letter ≡ 77
-          → r ≡ badMisc main (getD (seen .letters) 1 false) (miscIn w) → r ≡ mayNotStand main done w
-      unfolding mayNotStand repeats badM
-      tells-misc r e f g =
-          g ∙ ap (λ (t : Bool). badMisc main t (miscIn w)) (s .letters 1 (lit< tt))
-          ∙ sym (rw (is-known, stood ∙ e) (rw (ne-eqb (w .letter) 71 other, eq-eqb (w .letter) 77 f)))
+      pub tells-misc : (r after : Bool) → after ≡ any isG done → isMisc w ≡ true → r ≡ badMisc main after (miscIn w) → mayNotStand main done w ≡ r
+      unfolding badM
+      tells-misc r after g h k = rest ∙ rw h (sym (k ∙ ap (λ (t : Bool). badMisc main t (miscIn w)) g))
 
-      pub tells-other :
-          getD (seen .letters) (indexOf (w .letter)) false ≡ false → (w .letter ≡ 77 → ⊥) → false ≡ mayNotStand main done w
-      unfolding mayNotStand repeats
-      tells-other e f = rw (is-known, ne-eqb (w .letter) 71 other, stood ∙ e, ne-eqb (w .letter) 77 f)
+      pub tells-other : isMisc w ≡ false → mayNotStand main done w ≡ false
+      tells-other h = rest ∙ rw h
+
+  -- an M code that is the first one
+  pub tells-misc-code : isMisc w ≡ true → false ≡ any (hasLetter (w .letter)) done → (r after : Bool) → after ≡ any isG done → r ≡ badMisc main after (miscIn w) → mayNotStand main done w ≡ r
+  tells-misc-code h e r after g k =
+      let is = eqb-true (w .letter) 77 h in
+      tells-misc (ne-eqb (w .letter) 71 (λ d. omega arith)) false e (rw (sym (known-at 77 known-m is))) r after g h k

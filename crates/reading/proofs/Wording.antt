@@ -1,12 +1,13 @@
 -- Reading a block word by word: what has been read, and what is left, give the whole.
-use Prim.Native.Nat.{ℕ, zero, suc, _+_, _≤_, _<_}
+use Prim.Native.Nat.{ℕ, _+_, _≤_, _<_}
 use mathlib.Core.Path.{_≡_, refl, sym, _∙_, ap}
-use mathlib.Core.Bool.{Bool, true, false, true≢false, not, _&&_, _||_}
+use mathlib.Core.Bool.{Bool, true, false, false≢true, not, _&&_, _||_}
 use mathlib.Core.List.{List, [], _∷_, _++_, append-assoc, append-nil}
 use native.Mathlib.Omega.{arith}
 use native.Mathlib.Numerals.{add-one}
 use native.Mathlib.Decide.{ℕ-discrete}
-use borrow.Author.Tests.{eqb-true, ne-eqb, ltb-true, not-false}
+use borrow.Author.Tests.{eqb-true, ne-eqb, not-false}
+use lib.Dec.{eqb}
 use lib.ListN.{length, take, drop, getD, set, length-set}
 use lib.Seq.{take-suc-set, getD-set-same, getD-set-other}
 use Rattle.terms.specs.Terms.{if_then_else_, any}
@@ -14,51 +15,71 @@ use Rattle.terms.proofs.Laws.{either-left, either-right}
 use Rattle.lines.specs.Blocks.{noText, lengthFrom}
 use Rattle.words.specs.Numbers.{Written}
 use Rattle.words.specs.Words as Words
-use Rattle.words.specs.Words.{these, badAt, withWord, wordsAfter}
+use Rattle.words.specs.Words.{isCapital, these, badAt, withWord, wordsAfter}
 use Rattle.words.specs.declared.Word.{Word}
+use Rattle.codes.specs.declared.Code.{Code}
+use Rattle.codes.specs.declared.Misc.{Misc}
+use Rattle.codes.specs.Codes.{groupOf}
 use Rattle.settings.specs.declared.Modes.{Modes}
-use Rattle.letters.specs.Letters.{isKnown, isG, isMisc, repeats, badG, badM, mayNotStand, firstThatMayNot}
+use Rattle.settings.specs.Settings.{switched}
+use Rattle.letters.specs.Letters.{known, isKnown, isG, isMisc, codeIn, miscIn, repeats, badG, badM, mayNotStand, firstThatMayNot}
 use Rattle.letters.specs.Judging.{valued, Stored}
 use Rattle.gaps.proofs.Laws.{text-none}
 use Rattle.reading.specs.Items.{wordsAt, statusAfter}
-use Rattle.reading.specs.Seen.{indexOf, hasLetter, Sums, nothingSeen, seenWith}
+use Rattle.reading.specs.Seen.{placeOf, hasLetter, Sums}
 use Rattle.reading.specs.Whole.{standing, statusOf, Kept, IsRead}
 use Rattle.reading.specs.declared.Seen.{Seen}
-use Rattle.reading.specs.declared.Status.the-variants.{Fine, Unreadable}
+use Rattle.reading.specs.declared.Status.{Status}
+use Rattle.reading.specs.declared.Status.the-variants.{Fine, Unreadable, MayNot}
 use Rattle.reading.specs.declared.Reading.{Reading}
-use Rattle.reading.proofs.Items.{Gone}
-use Rattle.reading.proofs.Letters.{known-index, index-letter}
-use Rattle.reading.proofs.Seeing.{sums-none, sums-with}
+use Rattle.reading.proofs.Items.{Gone, status-word, status-end}
+use Rattle.reading.proofs.Letters.{place-inside, place-back}
+use Rattle.reading.proofs.Seeing.{nothingSeen, seenWith, sums-none, sums-with}
 
--- ---- how many of a list of Bools are true
+-- ---- how many of some letters stood
 
-pub trues : List Bool → ℕ
-trues [] = 0
-trues (true ∷ bs) = suc (trues bs)
-trues (false ∷ bs) = trues bs
+abbrev one : Bool → ℕ
+one t = if t then 1 else 0
 
-trues-most : (bs : List Bool) → trues bs ≤ length bs
-unfolding trues
-trues-most [] = omega arith
-trues-most (true ∷ bs) = omega (arith, trues-most bs)
-trues-most (false ∷ bs) = omega (arith, trues-most bs)
+pub stood : List ℕ → List Bool → ℕ
+stood [] bs = 0
+stood (k ∷ ks) bs = one (getD bs (placeOf k) false) + stood ks bs
 
-trues-set : (bs : List Bool) (k : ℕ) → trues bs ≤ trues (set bs k true)
-unfolding trues
-trues-set [] k = omega arith
-trues-set (true ∷ bs) zero = omega arith
-trues-set (false ∷ bs) zero = omega arith
-trues-set (true ∷ bs) (suc k) = omega (arith, trues-set bs k)
-trues-set (false ∷ bs) (suc k) = trues-set bs k
+one-most : (t : Bool) → one t ≤ 1
+one-most true = omega arith
+one-most false = omega arith
 
--- a place that was false is one more
-trues-new : (bs : List Bool) (k : ℕ) → k < length bs → getD bs k false ≡ false → trues (set bs k true) ≡ suc (trues bs)
-unfolding trues
-trues-new [] k h e = absurd (omega arith)
-trues-new (true ∷ bs) zero h e = absurd (true≢false e)
-trues-new (false ∷ bs) zero h e = refl
-trues-new (true ∷ bs) (suc k) h e = ap suc (trues-new bs k (omega arith) e)
-trues-new (false ∷ bs) (suc k) h e = trues-new bs k (omega arith) e
+stood-most : (ks : List ℕ) (bs : List Bool) → stood ks bs ≤ length ks
+unfolding stood
+stood-most [] bs = omega arith
+stood-most (k ∷ ks) bs = omega (arith, one-most (getD bs (placeOf k) false), stood-most ks bs)
+
+module _ (bs : List Bool) (p : ℕ) (h : p < length bs) where
+  one-set : (k : ℕ) → one (getD bs k false) ≤ one (getD (set bs p true) k false)
+  one-set k =
+      elim (ℕ-discrete k p) [
+        | yes e ↦ rw (e, getD-set-same bs p true false h) (one-most (getD bs p false))
+        | no f ↦ rw (getD-set-other bs p k true false f) (omega arith)
+      ]
+
+  stood-set : (ks : List ℕ) → stood ks bs ≤ stood ks (set bs p true)
+  unfolding stood
+  stood-set [] = omega arith
+  stood-set (k ∷ ks) = omega (arith, one-set (placeOf k), stood-set ks)
+
+  -- a letter that was not there is one more
+  stood-new : (ks : List ℕ) (b : ℕ) → any (eqb b) ks ≡ true → placeOf b ≡ p → getD bs p false ≡ false → stood ks bs + 1 ≤ stood ks (set bs p true)
+  unfolding stood any
+  stood-new [] b e f g = absurd (false≢true e)
+  stood-new (k ∷ ks) b e f g = go (eqb b k) refl e (λ d. stood-new ks b d f g)
+    where
+      go :
+          (t : Bool) → eqb b k ≡ t → (t || any (eqb b) ks) ≡ true → (any (eqb b) ks ≡ true → stood ks bs + 1 ≤ stood ks (set bs p true))
+          → one (getD bs (placeOf k) false) + stood ks bs + 1 ≤ one (getD (set bs p true) (placeOf k) false) + stood ks (set bs p true)
+      go true same d more =
+          let is : placeOf k ≡ p = ap placeOf (sym (eqb-true b k same)) ∙ f in
+          rw (is, getD-set-same bs p true false h, g) (omega (arith, stood-set ks))
+      go false same d more = omega (arith, one-set (placeOf k), more d)
 
 -- ---- words put in front
 
@@ -99,10 +120,24 @@ pub record Sofar (main : Bool) (m : Modes) (l : List ℕ) (from i : ℕ) (seen :
   pub block : i + lengthFrom (drop i l) ≡ from + lengthFrom (drop from l)
   pub stands : (ws : List Word) → firstThatMayNot main [] (done ++ ws) ≡ firstThatMayNot main done ws
   pub sums : Sums m done seen
-  pub few : count ≤ trues (seen .letters)
+  pub few : count ≤ stood known (seen .letters)
   pub places : length words ≡ 13
   pub kept : take count words ≡ valued done
   pub written : (j : ℕ) (d : Word) → j < count → Written (getD words j d .number)
+
+-- a word may not stand, and the rest is only looked through for an unreadable byte
+pub record Halted (main : Bool) (l : List ℕ) (from i wrong : ℕ) : Type 0 where
+  pub inside : i ≤ length l
+  pub status : statusOf main (wordsAt l from) ≡ statusAfter wrong (wordsAt l i)
+
+-- along the block, halted or not
+pub record Along (stopped main : Bool) (m : Modes) (l : List ℕ) (from i wrong : ℕ) (seen : Seen) (count : ℕ) (words : List Word) : Type 0 where
+  pub inside : i ≤ length l
+  pub going : stopped ≡ false → Sofar main m l from i seen count words
+  pub halted : stopped ≡ true → Halted main l from i wrong
+
+abbrev pub statusBy : Bool → ℕ → Status
+statusBy stopped wrong = if stopped then MayNot wrong else Fine
 
 pub begins : (main : Bool) (m : Modes) (l : List ℕ) (from : ℕ) (words : List Word) → from ≤ length l → length words ≡ 13 → Sofar main m l from from (nothingSeen m) 0 words
 unfolding valued
@@ -121,7 +156,7 @@ begins main m l from words h p =
     }
 
 module _ {main : Bool} {m : Modes} {l : List ℕ} {from i : ℕ} {seen : Seen} {count : ℕ} {words : List Word} (s : Sofar main m l from i seen count words) where
-  pub over-gap : (next : ℕ) → wordsAt l i ≡ wordsAt l next → Gone l i next → Sofar main m l from next seen count words
+  over-gap : (next : ℕ) → wordsAt l i ≡ wordsAt l next → Gone l i next → Sofar main m l from next seen count words
   over-gap next e g =
       record {
         done = s .done;
@@ -136,15 +171,12 @@ module _ {main : Bool} {m : Modes} {l : List ℕ} {from i : ℕ} {seen : Seen} {
         written = s .written;
       }
 
-  count-most : count ≤ 13
-  count-most = omega (arith, s .few, trues-most (seen .letters), s .sums .places)
-
   stored : Stored words count
-  stored = record { few = count-most; written = s .written }
+  stored = record { few = omega (arith, s .few, stood-most known (seen .letters)); written = s .written }
 
   -- ---- where the reading ends
 
-  pub reads-end : noText (drop i l) ≡ true → IsRead main m l from (record { status = Fine; seen = seen; count = count; words = words; end = i })
+  reads-end : noText (drop i l) ≡ true → IsRead main m l from (record { status = Fine; seen = seen; count = count; words = words; end = i })
   unfolding wordsAfter prepend statusOf standing firstThatMayNot
   reads-end e = record { status = sym (ap (statusOf main) all ∙ ap standing (s .stands [])); kept = λ f ws g. kept-all ws g }
     where
@@ -163,38 +195,29 @@ module _ {main : Bool} {m : Modes} {l : List ℕ} {from i : ℕ} {seen : Seen} {
             block = s .block;
           }
 
-  pub reads-bad : wordsAt l i ≡ badAt i → IsRead main m l from (record { status = Unreadable i; seen = seen; count = count; words = words; end = i })
+  status-bad : wordsAt l i ≡ badAt i → statusOf main (wordsAt l from) ≡ Unreadable i
   unfolding prepend statusOf
-  reads-bad e =
-      record {
-        status = sym (ap (statusOf main) (s .whole ∙ ap (prepend (s .done)) e));
-        kept = λ f ws g. let never : _≡_ {A = ℕ} 0 1 = cc in absurd (omega arith);
-      }
+  status-bad e = ap (statusOf main) (s .whole ∙ ap (prepend (s .done)) e)
 
-  module _ (w : Word) (next : ℕ) (e : wordsAt l i ≡ withWord w (wordsAt l next)) where
+  -- whether a letter stood
+  pub letter-stood : (b : ℕ) → isCapital b ≡ true → getD (seen .letters) (placeOf b) false ≡ any (hasLetter b) (s .done)
+  letter-stood b capital =
+      s .sums .letters (placeOf b) (place-inside b capital) ∙ ap (λ (x : ℕ). any (hasLetter x) (s .done)) (place-back b capital)
+
+  module _ (w : Word) (next : ℕ) (e : wordsAt l i ≡ withWord w (wordsAt l next)) (g : Gone l i next) where
     -- ---- a word that may not stand
 
-    pub reads-wrong :
-        mayNotStand main (s .done) w ≡ true
-        → (end : ℕ) → IsRead main m l from (record { status = statusAfter (w .at) (wordsAt l next); seen = seen; count = count; words = words; end = end })
+    pub halts : mayNotStand main (s .done) w ≡ true → Halted main l from next (w .at)
     unfolding statusAfter prepend withWord statusOf standing firstThatMayNot
-    reads-wrong f end =
-        record {
-          status = by-rest (wordsAt l next) ∙ sym (ap (statusOf main) (s .whole ∙ ap (prepend (s .done)) e));
-          kept = λ g ws h. absurd (not-fine (wordsAt l next) g);
-        }
+    halts f = record { inside = g .inside; status = ap (statusOf main) (s .whole ∙ ap (prepend (s .done)) e) ∙ by-rest (wordsAt l next) }
       where
-        not-fine : (x : Words.Words) → statusAfter (w .at) x ≡ Fine → ⊥
-        not-fine (these ws) g = let never : _≡_ {A = ℕ} 0 1 = cc in omega arith
-        not-fine (badAt at) g = let never : _≡_ {A = ℕ} 0 1 = cc in omega arith
-
-        by-rest : (x : Words.Words) → statusAfter (w .at) x ≡ statusOf main (prepend (s .done) (withWord w x))
-        by-rest (these ws) = sym (ap standing (s .stands (w ∷ ws)) ∙ rw f)
+        by-rest : (x : Words.Words) → statusOf main (prepend (s .done) (withWord w x)) ≡ statusAfter (w .at) x
+        by-rest (these ws) = ap standing (s .stands (w ∷ ws)) ∙ rw f
         by-rest (badAt at) = refl
 
     -- ---- a word that may stand
 
-    module _ (f : mayNotStand main (s .done) w ≡ false) (g : Gone l i next) (n : Written (w .number)) where
+    module _ (n : Written (w .number)) (capital : isCapital (w .letter) ≡ true) (f : mayNotStand main (s .done) w ≡ false) where
       -- the causes of 4, none of which applies
       abbrev unknown : Bool
       unknown = not (isKnown (w .letter))
@@ -212,9 +235,8 @@ module _ {main : Bool} {m : Modes} {l : List ℕ} {from i : ℕ} {seen : Seen} {
       unfolding mayNotStand
       neither = either-left (unknown || again) as-code (either-left (unknown || again || as-code) as-misc f)
 
-      pub index-inside : indexOf (w .letter) < 13
-      index-inside =
-          ltb-true (indexOf (w .letter)) 13 (sym (known-index (w .letter)) ∙ not-false (isKnown (w .letter)) (either-left unknown again neither))
+      is-known : isKnown (w .letter) ≡ true
+      is-known = not-false (isKnown (w .letter)) (either-left unknown again neither)
 
       no-repeat : isG w ≡ false → any (hasLetter (w .letter)) (s .done) ≡ false
       unfolding repeats
@@ -232,7 +254,10 @@ module _ {main : Bool} {m : Modes} {l : List ℕ} {from i : ℕ} {seen : Seen} {
       whole-with : wordsAt l from ≡ prepend (s .done ++ w ∷ []) (wordsAt l next)
       whole-with = s .whole ∙ ap (prepend (s .done)) e ∙ prepend-word (s .done) w (wordsAt l next)
 
-      pub over-coded : (isG w || isMisc w) ≡ true → Sofar main m l from next (seenWith seen w) count words
+      inside-letters : placeOf (w .letter) < length (seen .letters)
+      inside-letters = omega (arith, s .sums .places, place-inside (w .letter) capital)
+
+      over-coded : (isG w || isMisc w) ≡ true → Sofar main m l from next (seenWith seen w) count words
       unfolding seenWith
       over-coded h =
           record {
@@ -241,58 +266,121 @@ module _ {main : Bool} {m : Modes} {l : List ℕ} {from i : ℕ} {seen : Seen} {
             whole = whole-with;
             block = g .block ∙ s .block;
             stands = stands-with;
-            sums = sums-with m (s .done) seen (s .sums) w index-inside once;
-            few = omega (arith, s .few, trues-set (seen .letters) (indexOf (w .letter)));
+            sums = sums-with m (s .done) seen (s .sums) w capital once;
+            few = omega (arith, s .few, stood-set (seen .letters) (placeOf (w .letter)) inside-letters known);
             places = s .places;
             kept = s .kept ∙ sym (valued-word (s .done) w ∙ rw h);
             written = s .written;
           }
 
-      -- a word with a value is new, so that there is a place for it
-      fresh : (isG w || isMisc w) ≡ false → getD (seen .letters) (indexOf (w .letter)) false ≡ false
-      fresh h =
-          s .sums .letters (indexOf (w .letter)) index-inside
-          ∙ ap (λ (x : ℕ). any (hasLetter x) (s .done)) (index-letter (w .letter) index-inside) ∙ no-repeat (either-left (isG w) (isMisc w) h)
-
-      pub room : (isG w || isMisc w) ≡ false → count < 13
-      room h =
-          omega (
-            arith,
-            s .few,
-            trues-new (seen .letters) (indexOf (w .letter)) (omega (arith, index-inside, s .sums .places)) (fresh h),
-            trues-most (set (seen .letters) (indexOf (w .letter)) true),
-            length-set (seen .letters) (indexOf (w .letter)) true,
-            s .sums .places,
-          )
-
-      pub over-valued : (isG w || isMisc w) ≡ false → Sofar main m l from next (seenWith seen w) (count + 1) (set words count w)
+      pub over-code :
+          (c : Code) → isG w ≡ true → c ≡ codeIn w
+          → Sofar main m l from next (record { letters = set (seen .letters) 6 true; groups = set (seen .groups) (groupOf c) true; misc = seen .misc; modes = switched (seen .modes) c }) count words
       unfolding seenWith
-      over-valued h =
+      over-code c h is =
+          let letter = eqb-true (w .letter) 71 h in
+          let six : placeOf (w .letter) ≡ 6 = ap placeOf letter in
+          rw is (rw (six, h, ne-eqb (w .letter) 77 (λ e. omega arith)) at (over-coded (rw h)))
+
+      pub over-misc :
+          (x : Misc) → isMisc w ≡ true → x ≡ miscIn w
+          → Sofar main m l from next (record { letters = set (seen .letters) 12 true; groups = seen .groups; misc = x; modes = seen .modes }) count words
+      unfolding seenWith
+      over-misc x h is =
+          let letter = eqb-true (w .letter) 77 h in
+          let twelve : placeOf (w .letter) ≡ 12 = ap placeOf letter in
+          let other : isG w ≡ false = ne-eqb (w .letter) 71 (λ e. omega arith) in
+          rw is (rw (twelve, h, other) at (over-coded (rw (other, h))))
+
+      module _ (h : (isG w || isMisc w) ≡ false) where
+        not-code : isG w ≡ false
+        not-code = either-left (isG w) (isMisc w) h
+
+        not-misc : isMisc w ≡ false
+        not-misc = either-right (isG w) (isMisc w) h
+
+        -- a word with a value is new, so that there is a place for it
+        one-more : stood known (seen .letters) + 1 ≤ stood known (set (seen .letters) (placeOf (w .letter)) true)
+        unfolding isKnown
+        one-more =
+            stood-new (seen .letters) (placeOf (w .letter)) inside-letters known (w .letter) is-known refl
+            (letter-stood (w .letter) capital ∙ no-repeat not-code)
+
+        pub room : count < 13
+        room = omega (arith, s .few, one-more, stood-most known (set (seen .letters) (placeOf (w .letter)) true))
+
+        pub over-valued :
+            Sofar main m l from next (record { letters = set (seen .letters) (placeOf (w .letter)) true; groups = seen .groups; misc = seen .misc; modes = seen .modes }) (count + 1) (set words count w)
+        unfolding seenWith
+        over-valued =
+            record {
+              done = s .done ++ w ∷ [];
+              inside = g .inside;
+              whole = whole-with;
+              block = g .block ∙ s .block;
+              stands = stands-with;
+              sums = rw (not-code, not-misc) at (sums-with m (s .done) seen (s .sums) w capital once);
+              few = omega (arith, s .few, one-more);
+              places = length-set words count w ∙ s .places;
+              kept =
+                  rw (add-one count)
+                  (take-suc-set words count w (omega (arith, room, s .places)) ∙ ap (_++ w ∷ []) (s .kept) ∙ sym (valued-word (s .done) w ∙ rw h));
+              written = λ j d k.
+                  (elim (ℕ-discrete j count) [
+                    | yes e ↦ rw (e, getD-set-same words count w d (omega (arith, room, s .places))) n
+                    | no x ↦ rw (getD-set-other words count j w d x) (s .written j d (omega (arith, x)))
+                  ]);
+            }
+
+-- ---- along the block
+
+module _ {main : Bool} {m : Modes} {l : List ℕ} {from i wrong : ℕ} {seen : Seen} {count : ℕ} {words : List Word} where
+  pub goes-on : Sofar main m l from i seen count words → Along false main m l from i wrong seen count words
+  goes-on s = record { inside = s .inside; going = λ e. s; halted = λ e. absurd (false≢true e) }
+
+  pub stops : Halted main l from i wrong → Along true main m l from i wrong seen count words
+  stops s = record { inside = s .inside; going = λ e. absurd (false≢true (sym e)); halted = λ e. s }
+
+module _ {stopped main : Bool} {m : Modes} {l : List ℕ} {from i wrong : ℕ} {seen : Seen} {count : ℕ} {words : List Word} (s : Along stopped main m l from i wrong seen count words) where
+  pub gap-along : (next : ℕ) → wordsAt l i ≡ wordsAt l next → Gone l i next → Along stopped main m l from next wrong seen count words
+  gap-along next e g =
+      record {
+        inside = g .inside;
+        going = λ f. over-gap (s .going f) next e g;
+        halted = λ f. record { inside = g .inside; status = s .halted f .status ∙ ap (statusAfter wrong) e };
+      }
+
+  pub word-halted : stopped ≡ true → (w : Word) (next : ℕ) → wordsAt l i ≡ withWord w (wordsAt l next) → Gone l i next → Along stopped main m l from next wrong seen count words
+  word-halted f w next e g =
+      record {
+        inside = g .inside;
+        going = λ h. absurd (false≢true (sym h ∙ f));
+        halted = λ h. record { inside = g .inside; status = s .halted f .status ∙ ap (statusAfter wrong) e ∙ status-word wrong w (wordsAt l next) };
+      }
+
+  pub end-along : noText (drop i l) ≡ true → IsRead main m l from (record { status = statusBy stopped wrong; seen = seen; count = count; words = words; end = i })
+  end-along e = go stopped (s .going) (s .halted)
+    where
+      go :
+          (t : Bool) → (t ≡ false → Sofar main m l from i seen count words) → (t ≡ true → Halted main l from i wrong)
+          → IsRead main m l from (record { status = statusBy t wrong; seen = seen; count = count; words = words; end = i })
+      go false f g = reads-end (f refl) e
+      go true f g =
           record {
-            done = s .done ++ w ∷ [];
-            inside = g .inside;
-            whole = whole-with;
-            block = g .block ∙ s .block;
-            stands = stands-with;
-            sums = sums-with m (s .done) seen (s .sums) w index-inside once;
-            few =
-                omega
-                (arith, s .few, trues-new (seen .letters) (indexOf (w .letter)) (omega (arith, index-inside, s .sums .places)) (fresh h));
-            places = length-set words count w ∙ s .places;
-            kept =
-                rw (add-one count)
-                (take-suc-set words count w (omega (arith, room h, s .places)) ∙ ap (_++ w ∷ []) (s .kept) ∙ sym (valued-word (s .done) w ∙ rw h));
-            written = λ j d k.
-                (elim (ℕ-discrete j count) [
-                  | yes e ↦ rw (e, getD-set-same words count w d (omega (arith, room h, s .places))) n
-                  | no x ↦ rw (getD-set-other words count j w d x) (s .written j d (omega (arith, x)))
-                ]);
+            status = sym (g refl .status ∙ status-end wrong l i e);
+            kept = λ h ws k. let never : _≡_ {A = ℕ} 0 1 = cc in absurd (omega arith);
           }
 
--- the modes at the beginning are those that nothing has changed yet
-module _ {main : Bool} {m : Modes} {l : List ℕ} {from : ℕ} (seen : Seen) (fresh′ : seen ≡ nothingSeen m) where
-  pub begins-so : (words : List Word) → from ≤ length l → length words ≡ 13 → Sofar main (seen .modes) l from from seen 0 words
-  begins-so words h p = rw fresh′ (begins main m l from words h p)
-
-  pub read-so : (r : Reading) → IsRead main (seen .modes) l from r → IsRead main m l from r
-  read-so r x = rw (ap (λ (y : Seen). y .modes) fresh′) at x
+  pub bad-along : wordsAt l i ≡ badAt i → IsRead main m l from (record { status = Unreadable i; seen = seen; count = count; words = words; end = i })
+  unfolding statusAfter
+  bad-along e =
+      record {
+        status = sym (go stopped (s .going) (s .halted));
+        kept = λ f ws g. let never : _≡_ {A = ℕ} 0 1 = cc in absurd (omega arith);
+      }
+    where
+      go :
+          (t : Bool) → (t ≡ false → Sofar main m l from i seen count words) → (t ≡ true → Halted main l from i wrong)
+          → statusOf main (wordsAt l from) ≡ Unreadable i
+      go false f g = status-bad (f refl) e
+      go true f g = g refl .status ∙ ap (statusAfter wrong) e

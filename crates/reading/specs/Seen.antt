@@ -1,28 +1,24 @@
 -- What the reader keeps of the words before a word, and that it is enough to tell whether the word may stand.
-use Prim.Native.Nat.{ℕ, suc, _<_}
+use Prim.Native.Nat.{ℕ, _+_, _-_, _<_}
 use mathlib.Core.Path.{_≡_}
 use mathlib.Core.Bool.{Bool, true, false, _&&_, _||_}
-use mathlib.Core.List.{List, [], _∷_}
+use mathlib.Core.List.{List}
 use lib.Dec.{eqb}
-use lib.ListN.{length, getD, set, replicate}
-use Rattle.terms.specs.Terms.{if_then_else_, any}
+use lib.ListN.{length, getD}
+use Rattle.terms.specs.Terms.{byte, any}
 use Rattle.codes.specs.declared.Misc.{Misc}
-use Rattle.codes.specs.declared.Misc.the-variants.{Other}
 use Rattle.codes.specs.declared.Code.{Code}
 use Rattle.codes.specs.Codes.{groupOf, clash, isNoM}
 use Rattle.words.specs.declared.Word.{Word}
 use Rattle.settings.specs.declared.Modes.{Modes}
-use Rattle.settings.specs.Settings.{switched}
-use Rattle.letters.specs.Letters.{known, isG, isMisc, codeIn, miscIn, standsAlone, wrongProgram, mayNotStand, miscOfBlock, modesIn}
+use Rattle.letters.specs.Letters.{isG, isMisc, codeIn, miscIn, standsAlone, wrongProgram, mayNotStand, miscOfBlock, modesIn}
 use Rattle.reading.specs.declared.Seen.{Seen}
+use Rattle.reading.specs.declared.Role.{Role}
+use Rattle.reading.specs.declared.Role.the-variants as role
 
--- the place of a letter among the known ones, past their end for any other
-unfoldable pub indexIn : List ℕ → ℕ → ℕ
-indexIn [] letter = 0
-indexIn (k ∷ ks) letter = if eqb letter k then 0 else suc (indexIn ks letter)
-
-abbrev pub indexOf : ℕ → ℕ
-indexOf letter = indexIn known letter
+-- the place of a capital letter in the alphabet
+abbrev pub placeOf : ℕ → ℕ
+placeOf letter = letter - byte "A"
 
 -- of a group, whether a word of it stands in a list; of a letter likewise
 abbrev pub hasLetter : ℕ → Word → Bool
@@ -34,36 +30,36 @@ hasGroup g e = isG e && eqb (groupOf (codeIn e)) g
 abbrev pub isAlone : Word → Bool
 isAlone e = isMisc e && standsAlone (miscIn e)
 
+-- what is kept of the codes among the words `done`
+pub record Coded (done : List Word) (groups : List Bool) (misc : Misc) : Type 0 where
+  pub kinds : length groups ≡ 8
+  pub each : (g : ℕ) → g < 8 → getD groups g false ≡ any (hasGroup g) done
+  pub alone : any isAlone done ≡ standsAlone misc
+
 -- what is kept of the words `done`, that began with the modes m
 pub record Sums (m : Modes) (done : List Word) (seen : Seen) : Type 0 where
-  pub places : length (seen .letters) ≡ 13
-  pub kinds : length (seen .groups) ≡ 8
-  pub letters : (k : ℕ) → k < 13 → getD (seen .letters) k false ≡ any (hasLetter (getD known k 0)) done
-  pub groups : (g : ℕ) → g < 8 → getD (seen .groups) g false ≡ any (hasGroup g) done
-  pub alone : any isAlone done ≡ standsAlone (seen .misc)
+  pub places : length (seen .letters) ≡ 26
+  pub letters : (k : ℕ) → k < 26 → getD (seen .letters) k false ≡ any (hasLetter (byte "A" + k)) done
+  pub coded : Coded done (seen .groups) (seen .misc)
   pub misc : seen .misc ≡ miscOfBlock done
   pub modes : seen .modes ≡ modesIn m done
 
-abbrev pub nothingSeen : Modes → Seen
-nothingSeen m = record { letters = replicate 13 false; groups = replicate 8 false; misc = Other; modes = m }
+-- what a role says of its word, after the words `done`
+abbrev pub Plays : Bool → List Word → Word → Role → Type 0
+Plays main done w role.MayNot = mayNotStand main done w ≡ true
+Plays main done w (role.Code c) = (mayNotStand main done w ≡ false) × (isG w ≡ true) × (c ≡ codeIn w)
+Plays main done w (role.Misc m) = (mayNotStand main done w ≡ false) × (isMisc w ≡ true) × (m ≡ miscIn w)
+Plays main done w role.Value = (mayNotStand main done w ≡ false) × ((isG w || isMisc w) ≡ false)
 
--- one word more
-unfoldable pub seenWith : Seen → Word → Seen
-seenWith seen w =
-    record {
-      letters = set (seen .letters) (indexOf (w .letter)) true;
-      groups = if isG w then set (seen .groups) (groupOf (codeIn w)) true else seen .groups;
-      misc = if isMisc w then miscIn w else seen .misc;
-      modes = if isG w then switched (seen .modes) (codeIn w) else seen .modes;
-    }
-
--- the answer about a word is the rule's, whatever the words were of which this much is kept
-pub record Tells (main : Bool) (seen : Seen) (w : Word) (r : Bool) : Type 0 where
-  pub is : (m : Modes) (done : List Word) → Sums m done seen → r ≡ mayNotStand main done w
-
-pub record TellsG (seen : Seen) (c : Code) (r : Bool) : Type 0 where
+-- the role is the rule's, whatever the words were of which this much is kept
+pub record Tells (main stood after : Bool) (groups : List Bool) (misc : Misc) (w : Word) (r : Role) : Type 0 where
   pub is :
-      (m : Modes) (done : List Word) → Sums m done seen
+      (done : List Word) → Coded done groups misc → stood ≡ any (hasLetter (w .letter)) done → after ≡ any isG done
+      → Plays main done w r
+
+pub record TellsG (groups : List Bool) (misc : Misc) (c : Code) (r : Bool) : Type 0 where
+  pub is :
+      (done : List Word) → Coded done groups misc
       → r ≡ (eqb (groupOf c) 0 || any (λ e. isG e && clash (codeIn e) c) done || any isAlone done)
 
 abbrev pub badMisc : Bool → Bool → Misc → Bool

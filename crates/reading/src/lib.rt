@@ -6,13 +6,15 @@ use settings::Modes;
 use words::Numbered;
 use words::Word;
 ghost use mathlib.Core.Path.{_≡_};
+ghost use mathlib.Core.Bool.{Bool, true, false};
+ghost use mathlib.Core.List.{List};
 ghost use Prim.Native.Nat.{_+_, _≤_, _<_};
 ghost use lib.ListN.{length, drop, getD};
 ghost use Rattle.lines.specs.Blocks.{textFrom};
-ghost use Rattle.words.specs.Words.{itemAt};
-ghost use Rattle.letters.specs.Letters.{codeIn, miscIn, standsAlone, wrongProgram};
-ghost use Rattle.reading.specs.Items.{placed, wordsAt, statusAfter};
-ghost use Rattle.reading.specs.Seen.{indexOf, Tells, TellsG, badMisc};
+ghost use Rattle.words.specs.Words.{isCapital, itemAt};
+ghost use Rattle.letters.specs.Letters.{isKnown, isG, isMisc, codeIn, miscIn, standsAlone, wrongProgram};
+ghost use Rattle.reading.specs.Items.{placed};
+ghost use Rattle.reading.specs.Seen.{placeOf, Tells, TellsG, badMisc};
 
 // What begins at a place of a block: a blank or a comment, or a word, each with the place after it; or nothing readable.
 pub enum Item {
@@ -29,13 +31,21 @@ pub enum Status {
     MayNot(usize),
 }
 
-// What is kept of the words that were read: which of the known letters and of the groups of codes stood, the M code, and
+// What is kept of the words that were read: which letters of the alphabet and which groups of codes stood, the M code, and
 // the modes that hold.
 pub struct Seen {
-    pub letters: [bool; 13],
+    pub letters: [bool; 26],
     pub groups: [bool; 8],
     pub misc: Misc,
     pub modes: Modes,
+}
+
+// What a word is after those that were read: it may not stand, or it is a code, an M code or a word with a value.
+pub enum Role {
+    MayNot,
+    Code(Code),
+    Misc(Misc),
+    Value,
 }
 
 // What the reading of a block answers. Where the status is fine, `words` holds the words with a value in their order, and
@@ -83,50 +93,34 @@ pub fn item_at(s: &[u8], i: usize) -> Item
     Item::Says(word, next + taken)
 }
 
-// What the rest of a block makes of a word that may not stand: an unreadable byte or number on its right goes first.
-pub fn status_after(s: &[u8], from: usize, wrong: usize) -> Status
-    requires { ⌜ from ≤ length (now s) ⌝ }
-    ensures { λ r. ⌜ r ≡ statusAfter wrong (wordsAt (now (s .entry)) from) ⌝ }
+fn is_known(b: u8) -> bool
+    ensures { λ r. ⌜ r ≡ isKnown b ⌝ }
 {
-    let mut i = from;
-    loop {
-        if lines::text_ends(s, i) {
-            return Status::MayNot(wrong);
-        }
-        match item_at(s, i) {
-            Item::Gap(next) => {
-                i = next;
-            }
-            Item::Says(_, next) => {
-                i = next;
-            }
-            Item::Unreadable => {
-                return Status::Unreadable(i);
-            }
-        }
+    match b {
+        b'F' => true,
+        b'G' => true,
+        b'I' => true,
+        b'J' => true,
+        b'K' => true,
+        b'M' => true,
+        b'N' => true,
+        b'P' => true,
+        b'R' => true,
+        b'S' => true,
+        b'X' => true,
+        b'Y' => true,
+        b'Z' => true,
+        _ => false,
     }
 }
 
-// The place of a letter among the known ones, in the order of the alphabet; 13 for any other byte.
-pub fn letter_index(b: u8) -> usize
-    ensures { λ r. ⌜ r ≡ indexOf b ⌝ }
+// The place of a capital letter in the alphabet, from 0. It is reckoned and not looked up, so that the letters that stood
+// stay in memory as they are.
+pub fn place_of(b: u8) -> usize
+    requires { ⌜ isCapital b ≡ true ⌝ }
+    ensures { λ r. ⌜ r ≡ placeOf b ⌝ }
 {
-    match b {
-        b'F' => 0,
-        b'G' => 1,
-        b'I' => 2,
-        b'J' => 3,
-        b'K' => 4,
-        b'M' => 5,
-        b'N' => 6,
-        b'P' => 7,
-        b'R' => 8,
-        b'S' => 9,
-        b'X' => 10,
-        b'Y' => 11,
-        b'Z' => 12,
-        _ => 13,
-    }
+    (b - b'A') as usize
 }
 
 // A code with a sign or a point is no code.
@@ -176,19 +170,17 @@ fn is_bad_misc(main: bool, after: bool, m: Misc) -> bool
     (n == 100) | is_wrong_program(main, m) | (stands_alone(m) & after)
 }
 
-// A G code that may not stand after what was read.
-fn is_bad_code(seen: Seen, c: Code) -> bool
-    ensures { λ r. ⌜ TellsG seen c r ⌝ }
+// A G code that may not stand after the groups and the M code that were read.
+fn is_bad_code(groups: [bool; 8], m: Misc, c: Code) -> bool
+    ensures { λ r. ⌜ TellsG groups m c r ⌝ }
 {
     let g = codes::group_of(c) as usize;
     if g == 0 {
         return true;
     }
-    let groups = seen.groups;
     if groups[g] {
         return true;
     }
-    let m = seen.misc;
     let alone = stands_alone(m);
     // G04 and group A do not stand together.
     if g == 1 {
@@ -200,23 +192,41 @@ fn is_bad_code(seen: Seen, c: Code) -> bool
     alone
 }
 
-// Whether a word may not stand after what was read.
-pub fn may_not_stand(main: bool, seen: Seen, w: Word) -> bool
-    ensures { λ r. ⌜ Tells main seen w r ⌝ }
+fn code_role(groups: [bool; 8], m: Misc, w: Word) -> Role
+    requires { ⌜ isG w ≡ true ⌝ }
+    ensures { λ r. ⌜ ((main stood after : Bool) → Tells main stood after groups m w r) ⌝ }
 {
-    let k = letter_index(w.letter);
-    if 13 <= k {
-        return true;
+    let c = code_in(w);
+    if is_bad_code(groups, m, c) {
+        return Role::MayNot;
     }
+    Role::Code(c)
+}
+
+// `after` tells that a G code stands before it. No other M code does.
+fn misc_role(main: bool, after: bool, w: Word) -> Role
+    requires { ⌜ isMisc w ≡ true ⌝ }
+    ensures { λ r. ⌜ ((groups : List Bool) (m : Misc) → Tells main false after groups m w r) ⌝ }
+{
+    let m = misc_in(w);
+    if is_bad_misc(main, after, m) {
+        return Role::MayNot;
+    }
+    Role::Misc(m)
+}
+
+// The role of a word after what was read: whether its letter and whether a G code stood, the groups and the M code.
+pub fn role_of(main: bool, stood: bool, after: bool, groups: [bool; 8], m: Misc, w: Word) -> Role
+    ensures { λ r. ⌜ Tells main stood after groups m w r ⌝ }
+{
     if w.letter == b'G' {
-        return is_bad_code(seen, code_in(w));
+        return code_role(groups, m, w);
     }
-    let letters = seen.letters;
-    if letters[k] {
-        return true;
+    if stood | !is_known(w.letter) {
+        return Role::MayNot;
     }
     if w.letter == b'M' {
-        return is_bad_misc(main, letters[1], misc_in(w));
+        return misc_role(main, after, w);
     }
-    false
+    Role::Value
 }

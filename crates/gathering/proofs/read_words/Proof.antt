@@ -1,126 +1,193 @@
-use Prim.Native.Nat.{_-_, _<_}
-use mathlib.Core.Path.{_≡_, refl, sym, _∙_}
-use mathlib.Core.Bool.{false}
+use Prim.Native.Nat.{ℕ, _-_, _<_}
+use mathlib.Core.Path.{_≡_, refl, sym, _∙_, ap, subst}
+use mathlib.Core.Bool.{true, false}
 use native.Mathlib.Omega.{arith}
 use borrow.Author.Needs.{needs}
-use lib.ListN.{length, drop}
+use lib.Dec.{lit<}
+use lib.ListN.{length, drop, getD}
 use Rattle.lines.specs.Blocks.{noText}
-use Rattle.words.specs.Words.{withWord}
+use Rattle.words.specs.Words.{isCapital, withWord}
 use Rattle.words.specs.Numbers.{Written}
 use Rattle.reading.specs.Items.{wordsAt}
+use Rattle.reading.specs.Seen.{Plays}
+use Rattle.reading.specs.declared.Role.{Role}
 use Rattle.gaps.proofs.Laws.{text-inside}
 use Rattle.reading.proofs.Items.{Gone, step-bad, step-gap, step-word}
-use Rattle.reading.proofs.Wording.{Sofar, begins-so, read-so, over-gap, over-coded, over-valued, room, index-inside, reads-end, reads-bad, reads-wrong}
+use Rattle.reading.proofs.Letters.{place-inside}
+use Rattle.reading.proofs.Seeing.{group-most}
+use Rattle.reading.proofs.Wording.{Sofar, Along, begins, goes-on, stops, halts, gap-along, word-halted, end-along, bad-along, letter-stood, over-code, over-misc, over-valued, room}
 use Rattle.gathering.proofs.read_words.Statement.{statement}
 use Rattle.gathering.proofs.read_words.Tie as tie
 
 abbrev Inv-loop : tie.InvT-loop
-Inv-loop s from main words₀ count₀ seen₀ i₀ words count seen i = Sofar main (seen₀ .modes) s from i seen count words
+Inv-loop s from main words₀ count₀ letters₀ groups₀ misc₀ modes₀ stopped₀ wrong₀ i₀ words count letters groups misc modes stopped wrong i =
+    Along stopped main modes₀ s from i wrong (record { letters = letters; groups = groups; misc = misc; modes = modes }) count words
 
 abbrev μ-loop : tie.MeasureT-loop
-μ-loop s from main words₀ count₀ seen₀ i₀ words count seen i = length s - i
+μ-loop s from main words₀ count₀ letters₀ groups₀ misc₀ modes₀ stopped₀ wrong₀ i₀ words count letters groups misc modes stopped wrong i =
+    length s - i
 
 no-word-requires : tie.Need-no-word-requires Inv-loop μ-loop
 no-word-requires c κs = search needs
 
-nothing-seen-requires : tie.Need-nothing-seen-requires Inv-loop μ-loop
-nothing-seen-requires c κs = search needs
-
 loop-holds : tie.Need-loop-holds Inv-loop μ-loop
-loop-holds c = begins-so (c .nothing-seen .result) (c .nothing-seen .ensures) _ (c .before .before .before .pre) refl
+loop-holds c = goes-on (begins _ _ _ _ _ (c .before .before .pre) refl)
 
 text-ends-requires : tie.Need-text-ends-requires Inv-loop μ-loop
 text-ends-requires c κs = c .loop .inv .inside
 
+status-of-requires : tie.Need-status-of-requires Inv-loop μ-loop
+status-of-requires c κs = search needs
+
 returns : tie.Need-returns Inv-loop μ-loop
-returns c =
-    let d = c .before .before in
-    read-so (d .before .nothing-seen .result) (d .before .nothing-seen .ensures) _ (reads-end (d .loop .inv) (sym (c .before .text-ends .ensures) ∙ c .if1 .taken))
+returns c = rw (c .status-of .ensures) (end-along (c .before .before .before .loop .inv) (sym (c .before .before .text-ends .ensures) ∙ c .before .if1 .taken))
 
 -- where the text goes on
-going : (c : tie.Else1 Inv-loop μ-loop) → noText (drop (c .before .before .loop .i) (c .before .before .before .before .before .before .args .s .now)) ≡ false
+going : (c : tie.Else1 Inv-loop μ-loop) → noText (drop (c .before .before .loop .i) (c .before .before .before .before .before .args .s .now)) ≡ false
 going c = sym (c .before .text-ends .ensures) ∙ c .if1 .left
 
--- the next word, and what follows it
-abbrev Stepped : tie.After-may-not-stand Inv-loop μ-loop → Type 0
-Stepped c =
-    (wordsAt (c .before .before .before .before .before .before .before .before .before .before .before .args .s .now) (c .before .before .before .before .before .before .before .loop .i) ≡ withWord (c .before .before .w .given .0 .0) (wordsAt (c .before .before .before .before .before .before .before .before .before .before .before .args .s .now) (c .before .before .w .given .0 .1 .0)))
-    × Gone (c .before .before .before .before .before .before .before .before .before .before .before .args .s .now) (c .before .before .before .before .before .before .before .loop .i) (c .before .before .w .given .0 .1 .0) × Written (c .before .before .w .given .0 .0 .number)
-
-stepped : (c : tie.After-may-not-stand Inv-loop μ-loop) → Stepped c
-stepped c =
-    step-word (c .before .before .before .before .before .before .before .before .before .before .before .args .s .now) (c .before .before .before .before .before .before .before .loop .i) (going (c .before .before .before .before .before)) (c .before .before .w .given .0 .0) (c .before .before .w .given .0 .1 .0)
-    (sym (c .before .before .before .before .item-at .ensures) ∙ c .before .before .w .given .1)
-
 item-at-requires : tie.Need-item-at-requires Inv-loop μ-loop
-item-at-requires c κs = text-inside (c .before .before .before .before .before .before .args .s .now) (c .before .before .loop .i) (going c)
+item-at-requires c κs = text-inside (c .before .before .before .before .before .args .s .now) (c .before .before .loop .i) (going c)
 
 enum-told : tie.Need-enum-told Inv-loop μ-loop
 enum-told c = search needs
 
 returns-2 : tie.Need-returns-2 Inv-loop μ-loop
 returns-2 c =
-    let d = c .before .before .before .before .before in
-    read-so (d .before .nothing-seen .result) (d .before .nothing-seen .ensures) _
-    (reads-bad (d .loop .inv)
-    (step-bad (c .before .before .before .before .before .before .before .before .before .args .s .now) (d .loop .i) (going (c .before .before .before)) (sym (c .before .before .item-at .ensures) ∙ c .enum-told .given .1)))
+    let e = c .before .before .before in
+    bad-along (e .before .before .loop .inv) (step-bad (e .before .before .before .before .before .args .s .now) (e .before .before .loop .i) (going e) (sym (c .before .before .item-at .ensures) ∙ c .enum-told .given .1))
 
 enum-known-next : tie.Need-enum-known-next Inv-loop μ-loop
 enum-known-next c = search needs
 
+-- the gap, and what follows it
+passed : (c : tie.After-known-told Inv-loop μ-loop) → (wordsAt (c .before .before .before .before .before .before .before .before .before .args .s .now) (c .before .before .before .before .before .before .loop .i) ≡ wordsAt (c .before .before .before .before .before .before .before .before .before .args .s .now) (c .before .next .given .0 .0)) × Gone (c .before .before .before .before .before .before .before .before .before .args .s .now) (c .before .before .before .before .before .before .loop .i) (c .before .next .given .0 .0)
+passed c =
+    let e = c .before .before .before .before in
+    step-gap (e .before .before .before .before .before .args .s .now) (e .before .before .loop .i) (going e) (c .before .next .given .0 .0) (sym (c .before .before .before .item-at .ensures) ∙ c .before .next .given .1)
+
 loop-less : tie.Need-loop-less Inv-loop μ-loop
-loop-less c =
-    let d = c .before .before .before .before .before .before in
-    let g = step-gap (c .before .before .before .before .before .before .before .before .before .before .args .s .now) (d .loop .i) (going (c .before .before .before .before)) (c .before .next .given .0 .0) (sym (c .before .before .before .item-at .ensures) ∙ c .before .next .given .1) in
-    omega (arith, g .1 .forward, g .1 .inside)
+loop-less c = let g = passed c .1 in omega (arith, g .forward, g .inside)
 
 loop-again : tie.Need-loop-again Inv-loop μ-loop
-loop-again c =
-    let d = c .before .before .before .before .before .before in
-    let g = step-gap (c .before .before .before .before .before .before .before .before .before .before .args .s .now) (d .loop .i) (going (c .before .before .before .before)) (c .before .next .given .0 .0) (sym (c .before .before .before .item-at .ensures) ∙ c .before .next .given .1) in
-    over-gap (d .loop .inv) (c .before .next .given .0 .0) (g .0) (g .1)
+loop-again c = gap-along (c .before .before .before .before .before .before .loop .inv) (c .before .next .given .0 .0) (passed c .0) (passed c .1)
 
 enum-known-w : tie.Need-enum-known-w Inv-loop μ-loop
 enum-known-w c = search needs
 
-may-not-stand-requires : tie.Need-may-not-stand-requires Inv-loop μ-loop
-may-not-stand-requires c κs = search needs
+-- the next word, and what follows it
+abbrev Stepped : tie.After-known-told2 Inv-loop μ-loop → Type 0
+Stepped c =
+    (wordsAt (c .before .before .before .before .before .before .before .before .before .args .s .now) (c .before .before .before .before .before .before .loop .i) ≡ withWord (c .before .w .given .0 .0) (wordsAt (c .before .before .before .before .before .before .before .before .before .args .s .now) (c .before .w .given .0 .1 .0)))
+    × Gone (c .before .before .before .before .before .before .before .before .before .args .s .now) (c .before .before .before .before .before .before .loop .i) (c .before .w .given .0 .1 .0) × Written (c .before .w .given .0 .0 .number) × (isCapital (c .before .w .given .0 .0 .letter) ≡ true)
 
-status-after-requires : tie.Need-status-after-requires Inv-loop μ-loop
-status-after-requires c κs = stepped (c .before) .1 .inside
-
-returns-3 : tie.Need-returns-3 Inv-loop μ-loop
-returns-3 c =
-    let e = c .before .before in
-    let d = c .before .before .before .before .before .before .before .before .before in
-    read-so (d .before .nothing-seen .result) (d .before .nothing-seen .ensures) _
-    (rw (c .status-after .ensures)
-    (reads-wrong (d .loop .inv) (e .before .before .w .given .0 .0) (e .before .before .w .given .0 .1 .0) (stepped e .0) (sym (c .before .before .may-not-stand .ensures .is _ (d .loop .inv .done) (d .loop .inv .sums)) ∙ c .before .if2 .taken) (d .loop .i)))
-
-with-word-requires : tie.Need-with-word-requires Inv-loop μ-loop
-with-word-requires c κs =
-    let e = c .before in
-    let d = c .before .before .before .before .before .before .before .before in
-    index-inside (d .loop .inv) (e .before .before .w .given .0 .0) (e .before .before .w .given .0 .1 .0) (stepped e .0) (sym (c .before .may-not-stand .ensures .is _ (d .loop .inv .done) (d .loop .inv .sums)) ∙ c .if2 .left) (stepped e .1) (stepped e .2)
-
-is-coded-requires : tie.Need-is-coded-requires Inv-loop μ-loop
-is-coded-requires c κs = search needs
+stepped : (c : tie.After-known-told2 Inv-loop μ-loop) → Stepped c
+stepped c =
+    let e = c .before .before .before .before in
+    step-word (e .before .before .before .before .before .args .s .now) (e .before .before .loop .i) (going e) (c .before .w .given .0 .0) (c .before .w .given .0 .1 .0) (sym (c .before .before .before .item-at .ensures) ∙ c .before .w .given .1)
 
 loop-less-2 : tie.Need-loop-less-2 Inv-loop μ-loop
-loop-less-2 c = let g = stepped (c .before .before .before .before) .1 in omega (arith, g .forward, g .inside)
+loop-less-2 c = let g = stepped (c .before) .1 in omega (arith, g .forward, g .inside)
 
 loop-again-2 : tie.Need-loop-again-2 Inv-loop μ-loop
-loop-again-2 c =
-    let e = c .before .before .before .before in
-    let d = c .before .before .before .before .before .before .before .before .before .before .before in
-    rw (c .before .before .with-word .ensures) (over-coded (d .loop .inv) (e .before .before .w .given .0 .0) (e .before .before .w .given .0 .1 .0) (stepped e .0) (sym (c .before .before .before .before .may-not-stand .ensures .is _ (d .loop .inv .done) (d .loop .inv .sums)) ∙ c .before .before .before .if2 .left) (stepped e .1) (stepped e .2) (sym (c .before .is-coded .ensures) ∙ c .if3 .taken))
+loop-again-2 c = word-halted (c .before .before .before .before .before .before .before .loop .inv) (c .if2 .taken) (c .before .before .w .given .0 .0) (c .before .before .w .given .0 .1 .0) (stepped (c .before) .0) (stepped (c .before) .1)
+
+place-of-requires : tie.Need-place-of-requires Inv-loop μ-loop
+place-of-requires c κs = stepped (c .before) .3
+
+array-read-role-of : tie.Need-array-read-role-of Inv-loop μ-loop
+array-read-role-of c = rw (c .place-of .ensures) (place-inside _ (stepped (c .before .before) .3))
+
+array-read-role-of-2 : tie.Need-array-read-role-of-2 Inv-loop μ-loop
+array-read-role-of-2 c = search needs
+
+role-of-requires : tie.Need-role-of-requires Inv-loop μ-loop
+role-of-requires c κs = search needs
+
+-- what has been read, no word of it being wrong
+abbrev Read : tie.After-role-of Inv-loop μ-loop → Type 0
+Read c =
+    Sofar (c .before .before .before .before .before .before .before .before .before .before .before .before .args .main) (c .before .before .before .before .before .before .before .before .before .before .before .before .args .before) (c .before .before .before .before .before .before .before .before .before .before .before .before .args .s .now) (c .before .before .before .before .before .before .before .before .before .before .before .before .args .from) (c .before .before .before .before .before .before .before .before .before .loop .i)
+    (record { letters = c .before .before .before .before .before .before .before .before .before .loop .letters; groups = c .before .before .before .before .before .before .before .before .before .loop .groups; misc = c .before .before .before .before .before .before .before .before .before .loop .misc; modes = c .before .before .before .before .before .before .before .before .before .loop .modes })
+    (c .before .before .before .before .before .before .before .before .before .loop .count) (c .before .before .before .before .before .before .before .before .before .loop .words)
+
+read : (c : tie.After-role-of Inv-loop μ-loop) → Read c
+read c = c .before .before .before .before .before .before .before .before .before .loop .inv .going (c .before .before .if2 .left)
+
+-- what the word's role says
+playing :
+    (c : tie.After-role-of Inv-loop μ-loop) (r : Role) → c .role-of .result ≡ r
+    → Plays (c .before .before .before .before .before .before .before .before .before .before .before .before .args .main) (read c .done) (c .before .before .before .before .w .given .0 .0) r
+playing c r is =
+    let told =
+    c .role-of .ensures .is (read c .done) (read c .sums .coded)
+    (ap (λ (k : ℕ). getD (c .before .before .before .before .before .before .before .before .before .loop .letters) k false) (c .before .place-of .ensures) ∙ letter-stood (read c) _ (stepped (c .before .before .before) .3))
+    (read c .sums .letters 6 (lit< tt)) in
+    subst (λ x. Plays (c .before .before .before .before .before .before .before .before .before .before .before .before .args .main) (read c .done) (c .before .before .before .before .w .given .0 .0) x) is told
+
+enum-told-2 : tie.Need-enum-told-2 Inv-loop μ-loop
+enum-told-2 c = search needs
+
+loop-less-3 : tie.Need-loop-less-3 Inv-loop μ-loop
+loop-less-3 c = let g = stepped (c .before .before .before .before .before) .1 in omega (arith, g .forward, g .inside)
+
+loop-again-3 : tie.Need-loop-again-3 Inv-loop μ-loop
+loop-again-3 c =
+    let step = stepped (c .before .before .before .before .before) in
+    stops (halts (read (c .before .before)) (c .before .before .before .before .before .before .w .given .0 .0) (c .before .before .before .before .before .before .w .given .0 .1 .0) (step .0) (step .1) (playing (c .before .before) _ (c .enum-told2 .given .1)))
+
+enum-known-c : tie.Need-enum-known-c Inv-loop μ-loop
+enum-known-c c = search needs
+
+group-of-requires : tie.Need-group-of-requires Inv-loop μ-loop
+group-of-requires c κs = search needs
+
+array-write-letters : tie.Need-array-write-letters Inv-loop μ-loop
+array-write-letters c = search needs
+
+array-write-groups : tie.Need-array-write-groups Inv-loop μ-loop
+array-write-groups c = rw (c .group-of .ensures) (group-most _)
+
+switched-requires : tie.Need-switched-requires Inv-loop μ-loop
+switched-requires c κs = search needs
+
+loop-less-4 : tie.Need-loop-less-4 Inv-loop μ-loop
+loop-less-4 c = let g = stepped (c .before .before .before .before .before .before .before .before) .1 in omega (arith, g .forward, g .inside)
+
+loop-again-4 : tie.Need-loop-again-4 Inv-loop μ-loop
+loop-again-4 c =
+    let step = stepped (c .before .before .before .before .before .before .before .before) in
+    let code = playing (c .before .before .before .before .before) _ (c .before .before .before .c .given .1) in
+    rw (c .before .before .before .before .before .before .before .if2 .left, c .before .group-of .ensures, c .switched .ensures)
+    (goes-on (over-code (read (c .before .before .before .before .before)) (c .before .before .before .before .before .before .before .before .before .w .given .0 .0) (c .before .before .before .before .before .before .before .before .before .w .given .0 .1 .0) (step .0) (step .1) (step .2) (step .3) (code .0) (c .before .before .before .c .given .0 .0) (code .1) (code .2)))
+
+enum-known-m : tie.Need-enum-known-m Inv-loop μ-loop
+enum-known-m c = search needs
+
+array-write-letters-2 : tie.Need-array-write-letters-2 Inv-loop μ-loop
+array-write-letters-2 c = search needs
+
+loop-less-5 : tie.Need-loop-less-5 Inv-loop μ-loop
+loop-less-5 c = let g = stepped (c .before .before .before .before .before .before) .1 in omega (arith, g .forward, g .inside)
+
+loop-again-5 : tie.Need-loop-again-5 Inv-loop μ-loop
+loop-again-5 c =
+    let step = stepped (c .before .before .before .before .before .before) in
+    let misc = playing (c .before .before .before) _ (c .before .m .given .1) in
+    rw (c .before .before .before .before .before .if2 .left) (goes-on (over-misc (read (c .before .before .before)) (c .before .before .before .before .before .before .before .w .given .0 .0) (c .before .before .before .before .before .before .before .w .given .0 .1 .0) (step .0) (step .1) (step .2) (step .3) (misc .0) (c .before .m .given .0 .0) (misc .1) (misc .2)))
+
+enum-told-3 : tie.Need-enum-told-3 Inv-loop μ-loop
+enum-told-3 c = search needs
+
+array-write-letters-3 : tie.Need-array-write-letters-3 Inv-loop μ-loop
+array-write-letters-3 c = rw (c .before .before .before .place-of .ensures) (place-inside _ (stepped (c .before .before .before .before .before) .3))
 
 -- a word with a value has a place
-placed : (c : tie.Else3 Inv-loop μ-loop) → c .before .before .before .before .before .before .before .before .before .before .before .loop .count < 13
+placed : (c : tie.After-enum-told3 Inv-loop μ-loop) → c .before .before .before .before .before .before .before .before .before .before .before .loop .count < 13
 placed c =
-    let e = c .before .before .before .before in
-    let d = c .before .before .before .before .before .before .before .before .before .before .before in
-    room (d .loop .inv) (e .before .before .w .given .0 .0) (e .before .before .w .given .0 .1 .0) (stepped e .0) (sym (c .before .before .before .before .may-not-stand .ensures .is _ (d .loop .inv .done) (d .loop .inv .sums)) ∙ c .before .before .before .if2 .left) (stepped e .1) (stepped e .2) (sym (c .before .is-coded .ensures) ∙ c .if3 .left)
+    let step = stepped (c .before .before .before .before .before) in
+    let value = playing (c .before .before) _ (c .enum-told3 .given .1) in
+    room (read (c .before .before)) (c .before .before .before .before .before .before .w .given .0 .0) (c .before .before .before .before .before .before .w .given .0 .1 .0) (step .0) (step .1) (step .2) (step .3) (value .0) (value .1)
 
 mul-words : tie.Need-mul-words Inv-loop μ-loop
 mul-words c = omega (arith, placed c)
@@ -131,14 +198,15 @@ array-set-from-words c = placed c
 add-count : tie.Need-add-count Inv-loop μ-loop
 add-count c = omega (arith, placed c)
 
-loop-less-3 : tie.Need-loop-less-3 Inv-loop μ-loop
-loop-less-3 c = let g = stepped (c .before .before .before .before) .1 in omega (arith, g .forward, g .inside)
+loop-less-6 : tie.Need-loop-less-6 Inv-loop μ-loop
+loop-less-6 c = let g = stepped (c .before .before .before .before .before) .1 in omega (arith, g .forward, g .inside)
 
-loop-again-3 : tie.Need-loop-again-3 Inv-loop μ-loop
-loop-again-3 c =
-    let e = c .before .before .before .before in
-    let d = c .before .before .before .before .before .before .before .before .before .before .before in
-    rw (c .before .before .with-word .ensures) (over-valued (d .loop .inv) (e .before .before .w .given .0 .0) (e .before .before .w .given .0 .1 .0) (stepped e .0) (sym (c .before .before .before .before .may-not-stand .ensures .is _ (d .loop .inv .done) (d .loop .inv .sums)) ∙ c .before .before .before .if2 .left) (stepped e .1) (stepped e .2) (sym (c .before .is-coded .ensures) ∙ c .if3 .left))
+loop-again-6 : tie.Need-loop-again-6 Inv-loop μ-loop
+loop-again-6 c =
+    let step = stepped (c .before .before .before .before .before) in
+    let value = playing (c .before .before) _ (c .enum-told3 .given .1) in
+    rw (c .before .before .before .before .if2 .left, c .before .before .before .place-of .ensures)
+    (goes-on (over-valued (read (c .before .before)) (c .before .before .before .before .before .before .w .given .0 .0) (c .before .before .before .before .before .before .w .given .0 .1 .0) (step .0) (step .1) (step .2) (step .3) (value .0) (value .1)))
 
 pub read-words-spec : {M : Type 1} → statement M
 read-words-spec =
@@ -147,9 +215,9 @@ read-words-spec =
     Inv-loop
     μ-loop
     no-word-requires
-    nothing-seen-requires
     loop-holds
     text-ends-requires
+    status-of-requires
     returns
     item-at-requires
     enum-told
@@ -158,15 +226,30 @@ read-words-spec =
     loop-less
     loop-again
     enum-known-w
-    may-not-stand-requires
-    status-after-requires
-    returns-3
-    with-word-requires
-    is-coded-requires
     loop-less-2
     loop-again-2
+    place-of-requires
+    array-read-role-of
+    array-read-role-of-2
+    role-of-requires
+    enum-told-2
+    loop-less-3
+    loop-again-3
+    enum-known-c
+    group-of-requires
+    array-write-letters
+    array-write-groups
+    switched-requires
+    loop-less-4
+    loop-again-4
+    enum-known-m
+    array-write-letters-2
+    loop-less-5
+    loop-again-5
+    enum-told-3
+    array-write-letters-3
     mul-words
     array-set-from-words
     add-count
-    loop-less-3
-    loop-again-3)
+    loop-less-6
+    loop-again-6)

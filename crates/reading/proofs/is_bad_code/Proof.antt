@@ -11,13 +11,21 @@ group-of-requires : tie.Need-group-of-requires
 group-of-requires c κs = search needs
 
 returns : tie.Need-returns
-returns c = let a = c .before .before .args in record { is = λ m done s. told-unknown m done (a .seen) s (a .c) (sym (c .before .group-of .ensures) ∙ c .if1 .taken) }
+returns c =
+    let a = c .before .before .args in
+    record { is = λ done s. told-unknown done (a .t1) (a .m) s (a .c) (sym (c .before .group-of .ensures) ∙ c .if1 .taken) }
 
 array-read-if2 : tie.Need-array-read-if2
-array-read-if2 c = rw (c .before .before .group-of .ensures) (group-most (c .before .before .before .args .c))
+array-read-if2 c = rw (c .before .group-of .ensures) (group-most (c .before .before .args .c))
 
 returns-2 : tie.Need-returns-2
-returns-2 c = let a = c .before .before .before .before .args in record { is = λ m done s. told-group m done (a .seen) s (a .c) (ap (λ (g : ℕ). getD (c .before .before .before .before .args .seen .groups) g false) (sym (c .before .before .before .group-of .ensures)) ∙ c .if2 .taken) }
+returns-2 c =
+    let a = c .before .before .before .args in
+    record {
+      is = λ done s.
+          told-group done (a .t1) (a .m) s (a .c)
+          (ap (λ (g : ℕ). getD (c .before .before .before .args .t1) g false) (sym (c .before .before .group-of .ensures)) ∙ c .if2 .taken);
+    }
 
 stands-alone-requires : tie.Need-stands-alone-requires
 stands-alone-requires c κs = search needs
@@ -27,24 +35,35 @@ array-read-result c = search needs
 
 returns-3 : tie.Need-returns-3
 returns-3 c =
-    let a = c .before .before .before .before .before .before .args in
-    record { is = λ m done s. told-one m done (a .seen) s (a .c) _ (c .before .stands-alone .ensures) (ap (λ (g : ℕ). getD (c .before .before .before .before .before .before .args .seen .groups) g false) (sym (c .before .before .before .before .before .group-of .ensures)) ∙ c .before .before .if2 .left) (sym (c .before .before .before .before .before .group-of .ensures) ∙ c .if3 .taken) }
+    let a = c .before .before .before .before .before .args in
+    let is = c .before .before .before .before .group-of .ensures in
+    record {
+      is = λ done s.
+          told-one done (a .t1) (a .m) s (a .c) _ (c .before .stands-alone .ensures)
+          (ap (λ (g : ℕ). getD (c .before .before .before .before .before .args .t1) g false) (sym is) ∙ c .before .before .if2 .left) (sym is ∙ c .if3 .taken);
+    }
 
 array-read-result-2 : tie.Need-array-read-result-2
 array-read-result-2 c = search needs
 
 returns-4 : tie.Need-returns-4
 returns-4 c =
-    let a = c .before .before .before .before .before .before .before .args in
-    record { is = λ m done s. told-seven m done (a .seen) s (a .c) _ (c .before .before .stands-alone .ensures) (ap (λ (g : ℕ). getD (c .before .before .before .before .before .before .before .args .seen .groups) g false) (sym (c .before .before .before .before .before .before .group-of .ensures)) ∙ c .before .before .before .if2 .left) (sym (c .before .before .before .before .before .before .group-of .ensures) ∙ c .if4 .taken) }
+    let a = c .before .before .before .before .before .before .args in
+    let is = c .before .before .before .before .before .group-of .ensures in
+    record {
+      is = λ done s.
+          told-seven done (a .t1) (a .m) s (a .c) _ (c .before .before .stands-alone .ensures)
+          (ap (λ (g : ℕ). getD (c .before .before .before .before .before .before .args .t1) g false) (sym is) ∙ c .before .before .before .if2 .left) (sym is ∙ c .if4 .taken);
+    }
 
 returns-5 : tie.Need-returns-5
 returns-5 c =
-    let a = c .before .before .before .before .before .before .before .args in
-    let is = c .before .before .before .before .before .before .group-of .ensures in
+    let a = c .before .before .before .before .before .before .args in
+    let is = c .before .before .before .before .before .group-of .ensures in
     record {
-      is = λ m done s.
-          told-rest m done (a .seen) s (a .c) _ (c .before .before .stands-alone .ensures) (λ e. c .before .before .before .before .before .if1 .left (is ∙ e)) (ap (λ (g : ℕ). getD (c .before .before .before .before .before .before .before .args .seen .groups) g false) (sym (c .before .before .before .before .before .before .group-of .ensures)) ∙ c .before .before .before .if2 .left)
+      is = λ done s.
+          told-rest done (a .t1) (a .m) s (a .c) _ (c .before .before .stands-alone .ensures) (λ e. c .before .before .before .before .if1 .left (is ∙ e))
+          (ap (λ (g : ℕ). getD (c .before .before .before .before .before .before .args .t1) g false) (sym is) ∙ c .before .before .before .if2 .left)
           (λ e. absurd (c .before .if3 .left (is ∙ e))) (λ e. absurd (c .if4 .left (is ∙ e)));
     }
 
