@@ -62,9 +62,9 @@ fn put_block(
     requires { ⌜ ThreePuts offset first motion last d origin from v ⌝ }
     ensures { λ next. ⌜ Wrote (now (list .entry)) at (Cycles.movedBytes offset (threeRecords first motion last d origin from v)) (now (list .exit)) next ⌝ }
 {
-    let spun = plans::put_plan(list, at, offset, first, d, origin, from, v);
+    let spun = plans::put_brief(list, at, offset, first);
     let moved = plans::put_plan(list, spun, offset, motion, d, origin, from, v);
-    plans::put_plan(list, moved, offset, last, d, origin, from, v)
+    plans::put_brief(list, moved, offset, last)
 }
 
 // Makes a block whose path stays, where there is room for all its records.

@@ -2,6 +2,8 @@
 use mathlib.Core.Path.{_≡_, refl, sym, _∙_}
 use mathlib.Core.Bool.{Bool, true, false, _||_}
 use mathlib.Core.List.{List, [], _∷_}
+use denote.Enum.Declared.{tagOf}
+use types.Run.{OneOf, miss}
 use Rattle.codes.specs.declared.Cycle.{Cycle}
 use Rattle.codes.specs.declared.Distance.{Distance}
 use Rattle.codes.specs.declared.Motion.the-variants.{Off, G00, G01, G02, G03, Drilling}
@@ -20,7 +22,8 @@ use Rattle.cycles.specs.Cycles.{holeOf, levelsHold, passes}
 use Rattle.blocks.specs.Motions.{Moves, none, one, endStands, centreStands, arcStands, arcFor, arcMoves, cycleDone, cycleMoves, motionOf, movesOf}
 use Rattle.moves.specs.declared.Plan.{Plan}
 use Rattle.moves.specs.declared.Plan.the-variants.{Rest, Single, Passes}
-use Rattle.moves.specs.Plans.{planRecords, pathHolds, planHolds, HoleFrom, RecordFrom, Plans}
+use Rattle.moves.proofs.Plan.{the-type}
+use Rattle.moves.specs.Plans.{planRecords, briefRecords, pathHolds, planHolds, HoleFrom, RecordFrom, Plans}
 
 -- the records of a plan by its kind
 module _ {p : Plan} (d : Distance) (origin from : Point) (v : Values) where
@@ -35,6 +38,16 @@ module _ {p : Plan} (d : Distance) (origin from : Point) (v : Values) where
   pub records-passes : {h : Hole} → p ≡ Passes h → planRecords p d origin from v ≡ passes h d origin from v
   unfolding planRecords
   records-passes e = rw e
+
+pub brief-single : {p : Plan} {r : Record} → p ≡ Single r → briefRecords p ≡ r ∷ []
+unfolding briefRecords
+brief-single e = rw e
+
+pub brief-none : (p : Plan) → OneOf (0 ∷ 2 ∷ []) (tagOf the-type p) → briefRecords p ≡ []
+unfolding briefRecords
+brief-none Rest h = refl
+brief-none (Single r) h = absurd (miss (0 ∷ 2 ∷ []) 1 tt h)
+brief-none (Passes h) g = refl
 
 module _ {code : BlockCode} {s : State} {origin : Point} {v : Values} {moves : Moves} where
   plans-rest : moves ≡ none → Plans code moves s origin v Rest

@@ -27,6 +27,12 @@ planRecords Rest d origin from v = []
 planRecords (Single r) d origin from v = r ∷ []
 planRecords (Passes h) d origin from v = passes h d origin from v
 
+-- the records of a plan besides passes, which go by nothing else
+unfoldable pub briefRecords : Plan → List Record
+briefRecords Rest = []
+briefRecords (Single r) = r ∷ []
+briefRecords (Passes h) = []
+
 -- whether the geometry of a path that begins at a point holds, and that of a plan
 unfoldable pub pathHolds : Point → Path → Bool
 pathHolds from (straight p) = true

@@ -17,7 +17,7 @@ ghost use lib.ListN.{length};
 ghost use Rattle.records.specs.Layout.{roomOf};
 ghost use Rattle.arcs.specs.Bounds as Arcs;
 ghost use Rattle.cycles.specs.Ways.{wayOf};
-ghost use Rattle.moves.specs.Plans.{planRecords, pathHolds, planHolds};
+ghost use Rattle.moves.specs.Plans.{planRecords, briefRecords, pathHolds, planHolds};
 ghost use Rattle.moves.specs.Needs.{Round, PlanRound, PlanLoose, PlanReady, PlanCounts, Amount, PlanPuts};
 ghost use Rattle.records.specs.Writing.{Wrote};
 ghost use Rattle.cycles.specs.Writing.{movedBytes, Ready};
@@ -108,6 +108,17 @@ fn put_record(list: &mut [u8], at: usize, offset: Point, r: Record) -> usize
     ensures { λ next. ⌜ Wrote (now (list .entry)) at (movedBytes offset (r ∷ [])) (now (list .exit)) next ⌝ }
 {
     storing::put(list, at, records::displaced(offset, r))
+}
+
+// Writes the record of a plan that has no passes. It needs no values, so that none are copied for it.
+pub fn put_brief(list: &mut [u8], at: usize, offset: Point, p: Plan) -> usize
+    requires { ⌜ Ready (now list) at offset (briefRecords p) ⌝ }
+    ensures { λ next. ⌜ Wrote (now (list .entry)) at (movedBytes offset (briefRecords p)) (now (list .exit)) next ⌝ }
+{
+    match p {
+        Plan::Single(r) => put_record(list, at, offset, r),
+        _ => at,
+    }
 }
 
 pub fn put_plan(

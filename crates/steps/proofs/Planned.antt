@@ -220,9 +220,9 @@ module _ {bed : Bed} {s : State} {b : Said} {control : Control} {w : State} {ori
       pub three-put : ThreePuts (bed .offset) first plan last (w .modes .distance) origin (w .at) (b .values)
       three-put =
           record {
-            firstly = f .puts (bed .offset) (w .modes .distance) origin (w .at) (b .values);
+            firstly = f .records (w .modes .distance) origin (w .at) (b .values) ∙ sym (f .brief);
             then = plan-puts;
-            lastly = l .puts (bed .offset) (w .modes .distance) origin (w .at) (b .values);
+            lastly = l .records (w .modes .distance) origin (w .at) (b .values) ∙ sym (l .brief);
           }
 
       pub three-counts : (PlanCounts (b .values) first) × (PlanCounts (b .values) plan) × (PlanCounts (b .values) last)

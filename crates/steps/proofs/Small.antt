@@ -32,7 +32,7 @@ use Rattle.programs.specs.Openings.{known}
 use Rattle.programs.specs.Answers.{foundAs}
 use Rattle.moves.specs.declared.Plan.{Plan}
 use Rattle.moves.specs.declared.Plan.the-variants.{Rest, Single}
-use Rattle.moves.specs.Plans.{planRecords}
+use Rattle.moves.specs.Plans.{planRecords, briefRecords}
 use Rattle.blocks.specs.declared.Said.{Said}
 use Rattle.blocks.specs.declared.Control.{Control}
 use Rattle.blocks.specs.declared.Control.the-variants.{On, Call, Back, Stop}
@@ -105,12 +105,12 @@ module _ {control : Control} {n : ℕ} (e : control ≡ Call n) (subs : List Pro
 -- ---- plans of at most one record
 
 brief-rest : {rs : List Record} → rs ≡ [] → Brief rs Rest
-unfolding planRecords
-brief-rest e = record { records = λ d origin from v. sym e; counts = λ v. tt; puts = λ by d origin from v. tt }
+unfolding planRecords briefRecords
+brief-rest e = record { records = λ d origin from v. sym e; brief = sym e; counts = λ v. tt }
 
 brief-one : {rs : List Record} (r : Record) → rs ≡ r ∷ [] → Brief rs (Single r)
-unfolding planRecords
-brief-one r e = record { records = λ d origin from v. sym e; counts = λ v. tt; puts = λ by d origin from v. tt }
+unfolding planRecords briefRecords
+brief-one r e = record { records = λ d origin from v. sym e; brief = sym e; counts = λ v. tt }
 
 module _ (s : State) (b : Said) {n : ℕ} (is : n ≡ miscNumber (b .misc)) where
   abbrev speaks : Bool

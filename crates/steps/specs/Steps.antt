@@ -23,7 +23,7 @@ use Rattle.reading.specs.Seen.{Sums}
 use Rattle.programs.specs.declared.Programs.{Programs}
 use Rattle.programs.specs.Found.{Ready}
 use Rattle.moves.specs.declared.Plan.{Plan}
-use Rattle.moves.specs.Plans.{planRecords, Plans}
+use Rattle.moves.specs.Plans.{planRecords, briefRecords, Plans}
 use Rattle.moves.specs.Needs.{PlanCounts, PlanPuts}
 use Rattle.blocks.specs.declared.Said.{Said}
 use Rattle.blocks.specs.declared.Control.{Control}
@@ -55,8 +55,8 @@ pub record Heard (bed : Bed) (s : State) (programs : Programs) (read : Reading) 
 -- a plan of at most one record, in which nothing moves
 pub record Brief (rs : List Record) (p : Plan) : Type 0 where
   pub records : (d : Distance) (origin from : Point) (v : Values) → planRecords p d origin from v ≡ rs
+  pub brief : briefRecords p ≡ rs
   pub counts : (v : Values) → PlanCounts v p
-  pub puts : (by : Point) (d : Distance) (origin from : Point) (v : Values) → PlanPuts by d origin from v p
 
 -- the settings that a block works with, its tool at a point and its spindle as the M code leaves it
 unfoldable pub settledAt : State → Misc → Point → State
@@ -76,7 +76,8 @@ abbrev pub threeRecords : Plan → Plan → Plan → Distance → Point → Poin
 threeRecords first motion last d origin from v =
     planRecords first d origin from v ++ planRecords motion d origin from v ++ planRecords last d origin from v
 
+-- what writing them asks: only the motion has passes
 pub record ThreePuts (by : Point) (first motion last : Plan) (d : Distance) (origin from : Point) (v : Values) : Type 0 where
-  pub firstly : PlanPuts by d origin from v first
+  pub firstly : planRecords first d origin from v ≡ briefRecords first
   pub then : PlanPuts by d origin from v motion
-  pub lastly : PlanPuts by d origin from v last
+  pub lastly : planRecords last d origin from v ≡ briefRecords last
