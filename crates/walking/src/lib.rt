@@ -57,7 +57,8 @@ fn execute(
     }
 }
 
-// The block at a place: skipped unread, or executed, a slash before its words left out.
+// The block at a place: skipped unread, or executed, a slash before its words left out. `execute` is called at one place,
+// so that it is compiled into the walk.
 fn do_block(s: &[u8], list: &mut [u8], task: Task, left: usize, here: Place, p: Progress) -> Act
     requires { ⌜ here .byte < length (now s) ⌝ }
     requires { ⌜ Sound (now s) task ⌝ }
@@ -68,14 +69,13 @@ fn do_block(s: &[u8], list: &mut [u8], task: Task, left: usize, here: Place, p: 
         (subsOf (task .programs)) here (here .byte + lengthFrom (drop (here .byte) (now (s .entry)))) p (now (list .entry)) (now (list .exit)) r ⌝ }
 {
     let at = here.byte;
-    if !lines::begins_with(s, at, b'/') {
-        return execute(s, list, task, left, here, at, p);
+    let slashed = lines::begins_with(s, at, b'/');
+    if slashed & task.skips {
+        let next = progress::progress_past(p);
+        return Act::Goes(next, lines::next_block(s, at));
     }
-    if !task.skips {
-        return execute(s, list, task, left, here, at + 1, p);
-    }
-    let next = progress::progress_past(p);
-    Act::Goes(next, lines::next_block(s, at))
+    let from = if slashed { at + 1 } else { at };
+    execute(s, list, task, left, here, from, p)
 }
 
 // Walks a program's blocks from its first one on, with so many levels left for calls.

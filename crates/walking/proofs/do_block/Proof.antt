@@ -1,31 +1,42 @@
 -- `walking::do_block` meets its contract. Assumes nothing.
 use mathlib.Core.Path.{sym, _∙_}
+use mathlib.Core.Logic.{⊎-elim}
+use native.Mathlib.Omega.{arith}
 use borrow.Author.Needs.{needs}
-use borrow.Author.Tests.{not-true, not-false}
 use lib.ListN.{length}
+use Rattle.terms.proofs.Laws.{both-left, both-right}
 use Rattle.progress.proofs.Executing.{acts-plain, acts-slashed, acts-skipped}
 use Rattle.walking.proofs.do_block.Statement.{statement}
 use Rattle.walking.proofs.do_block.Tie as tie
 
 returns : tie.Need-returns
 returns c =
-    let a = c .before .before .before .before .before .before .before .before .args in
-    acts-plain (a .s .now) (a .task) (a .left) (length (a .list .now)) (a .here .block) (a .here .byte) (a .p) (a .here)
-    (sym (c .before .before .before .before .before .begins-with .ensures) ∙ not-true _ (c .before .before .before .before .if1 .taken)) (c .before .before .execute .ensures)
+    let start = c .before .before .before .before in
+    let a = start .before .before .before .args in
+    let slash = start .begins-with .result in
+    let both = c .before .before .if1 .taken in
+    acts-skipped (a .s .now) (a .task) (a .left) (length (a .list .now)) (a .here .block) (a .here .byte) (a .p) (a .here) (a .list .now)
+    (sym (start .begins-with .ensures) ∙ both-left slash (a .task .skips) both) (both-right slash (a .task .skips) both)
+    (c .before .progress-past .ensures) (c .next-block .ensures)
+
+execute-requires : tie.Need-execute-requires
+execute-requires c κs = (⊎-elim (λ w. omega arith) (λ w. omega arith) (c .before .if2 .came), search needs)
 
 returns-2 : tie.Need-returns-2
 returns-2 c =
-    let a = c .before .before .before .before .before .before .before .before .before .before .args in
+    let run = c .before .before in
+    let fork = run .before .before in
+    let start = fork .before .before .before in
+    let a = start .before .before .before .args in
+    let slash = sym (start .begins-with .ensures) in
+    ⊎-elim
+    (λ w.
     acts-slashed (a .s .now) (a .task) (a .left) (length (a .list .now)) (a .here .block) (a .here .byte) (a .p) (a .here)
-    (sym (c .before .before .before .before .before .before .before .begins-with .ensures) ∙ not-false _ (c .before .before .before .before .before .before .if1 .left)) (not-true _ (c .before .before .before .before .if2 .taken))
-    (c .before .before .execute2 .ensures)
-
-returns-3 : tie.Need-returns-3
-returns-3 c =
-    let a = c .before .before .before .before .before .before .before .before .args in
-    acts-skipped (a .s .now) (a .task) (a .left) (length (a .list .now)) (a .here .block) (a .here .byte) (a .p) (a .here) (a .list .now)
-    (sym (c .before .before .before .before .before .begins-with .ensures) ∙ not-false _ (c .before .before .before .before .if1 .left)) (not-false _ (c .before .before .if2 .left))
-    (c .before .progress-past .ensures) (c .next-block .ensures)
+    (slash ∙ w .0 .taken) (rw (w .0 .taken) at (fork .before .if1 .left)) (rw (w .1) at (run .execute .ensures)))
+    (λ w.
+    acts-plain (a .s .now) (a .task) (a .left) (length (a .list .now)) (a .here .block) (a .here .byte) (a .p) (a .here)
+    (slash ∙ w .0 .left) (rw (w .1) at (run .execute .ensures)))
+    (fork .if2 .came)
 
 pub do-block-spec : {M : Type 1} → statement M
 do-block-spec =
@@ -33,12 +44,9 @@ do-block-spec =
     (tie.spec
     (λ c κs. search needs)
     (λ c κs. search needs)
-    (λ c. search needs)
+    (λ c κs. search needs)
     returns
     (λ c. search needs)
-    (λ c κs. search needs)
+    execute-requires
     (λ c. search needs)
-    returns-2
-    (λ c κs. search needs)
-    (λ c κs. search needs)
-    returns-3)
+    returns-2)
