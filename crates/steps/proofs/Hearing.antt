@@ -33,11 +33,11 @@ module _ (bed : Bed) (s : State) (read : Reading) (ws : List Word) (says : Says 
 
   named-is : getD (read .seen .groups) 1 false ≡ namesGroupA ws
   unfolding namesGroupA isGroupA
-  named-is = says .seen .groups 1 (omega arith)
+  named-is = says .seen .coded .each 1 (omega arith)
 
   dwells-is : getD (read .seen .groups) 7 false ≡ namesG04 ws
   unfolding namesG04 isG04
-  dwells-is = says .seen .groups 7 (omega arith)
+  dwells-is = says .seen .coded .each 7 (omega arith)
 
   module _ {code : BlockCode} (is : code ≡ codeUnder (read .seen .misc) (getD (read .seen .groups) 7 false) (read .seen .modes .motion)) where
     code-is : code ≡ blockCode (modesIn (s .modes) ws) ws
