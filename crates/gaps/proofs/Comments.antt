@@ -13,9 +13,8 @@ use lib.Seq.{drop-drop}
 use Rattle.terms.specs.Terms.{if_then_else_, byte}
 use Rattle.terms.proofs.Laws.{either-left, either-right}
 use Rattle.lines.specs.Blocks.{beginsWith, endsAt, textFrom, noText, lengthFrom, blocksAfter, blocksOf, isPercent}
-use Rattle.words.specs.Numbers.{signOf, signLength, run, isNumeral, numberBy, numberIn}
+use Rattle.words.specs.Numbers.{isFigure, signOf, signLength, run, isNumeral, numberBy, numberIn}
 use Rattle.words.specs.Words.{isBlank, isCapital, oneMore, closing, gap, unreadable, commentItem, wordItem, itemAt, Words, withWord, itemThen, wordsAfter, wordsOf}
-use Rattle.words.specs.Reading.{isFigure}
 use Rattle.words.specs.declared.Sign.{Sign}
 use Rattle.words.specs.declared.Sign.the-variants.{Plain, Plus, Minus}
 use Rattle.words.specs.declared.Number.{Number}

@@ -1,134 +1,81 @@
 // Reading a number as it is written, each byte once.
-use words::Figures;
 use words::Number;
 use words::Numbered;
 use words::Sign;
-use words::Step;
 ghost use mathlib.Core.Path.{_≡_};
-ghost use Prim.Native.Nat.{_+_, _≤_, _<_};
-ghost use mathlib.Core.Bool.{not};
-ghost use mathlib.Core.List.{[]};
-ghost use lib.ListN.{length};
+ghost use Prim.Native.Nat.{_+_, _≤_};
+ghost use mathlib.Core.List.{[], _∷_};
+ghost use lib.ListN.{length, drop};
 ghost use lib.Seq.{slice};
-ghost use Rattle.terms.specs.Terms.{byte};
-ghost use Rattle.words.specs.Numbers.{numberIn};
-ghost use Rattle.words.specs.Reading.{numberFrom, begun, Few, Goes};
+ghost use Rattle.words.specs.Numbers.{isFigure, signOf, signLength, run, numberBy, numberIn};
 
-// The figures after a sign, before the first of them.
-fn none_after(sign: Sign) -> Figures
-    ensures { λ r. ⌜ r ≡ begun sign ⌝ }
+// The sign of a number that begins with this byte.
+fn sign_of(b: u8) -> Sign
+    ensures { λ r. ⌜ r ≡ signOf (b ∷ []) ⌝ }
 {
-    let used = match sign {
+    match b {
+        b'+' => Sign::Plus,
+        b'-' => Sign::Minus,
+        _ => Sign::Plain,
+    }
+}
+
+// How many bytes the sign takes.
+fn sign_length(sign: Sign) -> usize
+    ensures { λ r. ⌜ r ≡ signLength sign ⌝ }
+{
+    match sign {
         Sign::Plain => 0,
         Sign::Plus => 1,
         Sign::Minus => 1,
-    };
-    Figures {
-        number: Number {
-            sign,
-            point: false,
-            digits: 0,
-            decimals: 0,
-        },
-        count: 0,
-        used,
     }
 }
 
-// The number of the figures that were passed, where no more follow. Ten digits are never passed, nor two points, so a
-// number without digits is all that is left to refuse.
-fn ended(f: Figures) -> Numbered
-    requires { ⌜ Few f ⌝ }
-    ensures { λ r. ⌜ r ≡ numberFrom f [] ⌝ }
+// The number that begins at `at` with this sign. A second point makes it unreadable, whatever follows, and so does a tenth
+// digit: the reader stops there, so that the value always fits. What was passed is kept in plain variables, since a struct
+// that changes at each byte costs more.
+fn read_figures(s: &[u8], at: usize, end: usize, sign: Sign) -> Numbered
+    requires { ⌜ (at + signLength sign ≤ end) × (end ≤ length (now s)) ⌝ }
+    ensures { λ r. ⌜ r ≡ numberBy sign (run isFigure (drop (signLength sign) (slice at end (now (s .entry))))) ⌝ }
 {
-    let n = f.number;
-    if f.count == 0 {
-        Numbered::Unreadable
-    } else {
-        Numbered::Is(n, f.used)
-    }
-}
-
-// A second point makes the number unreadable, whatever follows.
-fn with_point(f: Figures) -> Step
-    requires { ⌜ Few f ⌝ }
-    ensures { λ r. ⌜ Goes (numberFrom f) (byte ".") r ⌝ }
-{
-    let mut n = f.number;
-    if n.point {
-        return Step::Done(Numbered::Unreadable);
-    }
-    n.point = true;
-    Step::More(Figures {
-        number: n,
-        count: f.count,
-        used: f.used + 1,
-    })
-}
-
-// So does a tenth digit. The reader stops there, so that the value always fits.
-fn with_digit(f: Figures, d: u64) -> Step
-    requires { ⌜ (Few f) × (d ≤ 9) ⌝ }
-    ensures { λ r. ⌜ Goes (numberFrom f) (byte "0" + d) r ⌝ }
-{
-    if f.count == 9 {
-        return Step::Done(Numbered::Unreadable);
-    }
-    let mut n = f.number;
-    n.digits = n.digits * 10 + d;
-    if n.point {
-        n.decimals = n.decimals + 1;
-    }
-    Step::More(Figures {
-        number: n,
-        count: f.count + 1,
-        used: f.used + 1,
-    })
-}
-
-// What a byte after the first leads to.
-fn next_step(f: Figures, b: u8) -> Step
-    requires { ⌜ Few f ⌝ }
-    ensures { λ r. ⌜ Goes (numberFrom f) b r ⌝ }
-{
-    match b {
-        b'.' => with_point(f),
-        b'0'..=b'9' => with_digit(f, (b - b'0') as u64),
-        _ => Step::Done(ended(f)),
-    }
-}
-
-// The first byte may be a sign, and no other.
-fn first_step(b: u8) -> Step
-    ensures { λ r. ⌜ Goes numberIn b r ⌝ }
-{
-    match b {
-        b'+' => Step::More(none_after(Sign::Plus)),
-        b'-' => Step::More(none_after(Sign::Minus)),
-        _ => next_step(none_after(Sign::Plain), b),
-    }
-}
-
-// The number that the figures already passed and the bytes from `from` on make.
-fn read_figures(s: &[u8], from: usize, end: usize, f: Figures) -> Numbered
-    requires { ⌜ (from ≤ end) × (end ≤ length (now s)) ⌝ }
-    requires { ⌜ Few f ⌝ }
-    ensures { λ r. ⌜ r ≡ numberFrom f (slice from end (now (s .entry))) ⌝ }
-{
-    let mut passed = f;
-    let mut i = from;
+    let mut i = at + sign_length(sign);
+    let mut digits: u64 = 0;
+    let mut decimals: u64 = 0;
+    let mut count: u64 = 0;
+    let mut point = false;
     while i < end {
-        match next_step(passed, s[i]) {
-            Step::More(next) => {
-                passed = next;
+        let b = s[i];
+        match b {
+            b'.' => {
+                if point {
+                    return Numbered::Unreadable;
+                }
+                point = true;
             }
-            Step::Done(r) => {
-                return r;
+            b'0'..=b'9' => {
+                if count == 9 {
+                    return Numbered::Unreadable;
+                }
+                digits = digits * 10 + (b - b'0') as u64;
+                count += 1;
+                if point {
+                    decimals += 1;
+                }
             }
+            _ => break,
         }
         i += 1;
     }
-    ended(passed)
+    if count == 0 {
+        return Numbered::Unreadable;
+    }
+    let number = Number {
+        digits,
+        decimals,
+        sign,
+        point,
+    };
+    Numbered::Is(number, i - at)
 }
 
 // The number that the bytes from `at` to `end` begin with. Each byte is read once, up to the first that is not the number's.
@@ -139,8 +86,5 @@ pub fn read_number(s: &[u8], at: usize, end: usize) -> Numbered
     if at == end {
         return Numbered::Unreadable;
     }
-    match first_step(s[at]) {
-        Step::More(f) => read_figures(s, at + 1, end, f),
-        Step::Done(r) => r,
-    }
+    read_figures(s, at, end, sign_of(s[at]))
 }

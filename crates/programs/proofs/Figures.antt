@@ -12,7 +12,7 @@ use Rattle.terms.specs.Terms.{if_then_else_}
 use Rattle.lines.specs.Blocks.{beginsWith, textFrom}
 use Rattle.lines.proofs.Lines.{at-place}
 use Rattle.words.specs.Numbers.{isDigit, run, digitsAfter}
-use Rattle.words.proofs.Reading.{ten-more}
+use Rattle.words.proofs.Numbers.{ten-more}
 use Rattle.programs.specs.Found.{figuresOf, IsDigits}
 
 pub digit-is : (b : ℕ) → 48 ≤ b → b ≤ 57 → isDigit b ≡ true

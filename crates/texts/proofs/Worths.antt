@@ -13,7 +13,7 @@ use borrow.Author.Tests.{le-leb, lt-leb, eq-eqb, ne-eqb}
 use Rattle.terms.specs.Terms.{if_then_else_, all, fromTo}
 use Rattle.words.specs.Numbers.{isDigit, signOf, signLength, digitsAfter}
 use Rattle.words.specs.Values.{signed}
-use Rattle.words.proofs.Reading.{ten-more}
+use Rattle.words.proofs.Numbers.{ten-more}
 use Rattle.words.specs.declared.Sign.{Sign}
 use Rattle.words.specs.declared.Sign.the-variants.{Plain, Plus, Minus}
 use Rattle.texts.specs.Figures.{digitsIn, largest, fitted, worthBy, worthOf}

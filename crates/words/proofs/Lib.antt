@@ -2,5 +2,4 @@ pub mod Table
 pub mod Bounds
 pub mod Opened
 pub mod Numbers
-pub mod Reading
 pub mod Worth

@@ -2,22 +2,56 @@
 -- Assumes nothing.
 use Prim.Native.Nat.{ℕ, _+_, _-_, _*_, _^_, _≤_, _<_}
 use mathlib.Core.Path.{_≡_, refl, sym, _∙_}
-use mathlib.Core.Bool.{Bool, true, false, _&&_}
+use mathlib.Core.Bool.{Bool, true, false, _&&_, and-false}
 use mathlib.Core.List.{List, [], _∷_, _++_}
-use native.Mathlib.Nat.{add-zero}
+use native.Mathlib.Nat.{add-zero, pow-suc, pow-le-pow-right}
+use native.Mathlib.Numerals.{add-one}
 use native.Mathlib.Omega.{arith}
 use lib.Dec.{leb, eqb}
 use lib.ListN.{length, drop, length-drop}
-use borrow.Author.Tests.{leb-true, eqb-false}
+use borrow.Author.Tests.{lt-leb, leb-true, eqb-false}
 use Rattle.terms.specs.Terms.{if_then_else_, byte, fromTo}
 use Rattle.terms.proofs.Laws.{both-left, both-right}
-use Rattle.words.specs.Numbers.{isDigit, isPoint, signOf, signLength, run, count, digitsAfter, decimalsOf, numberBy, numberIn, Written}
-use Rattle.words.specs.Reading.{isFigure, made}
+use Rattle.words.specs.Numbers.{isDigit, isPoint, isFigure, signOf, signLength, run, count, digitsAfter, decimalsOf, isNumeral, numberBy, numberIn, Written}
 use Rattle.words.specs.declared.Sign.{Sign}
 use Rattle.words.specs.declared.Sign.the-variants.{Plain, Plus, Minus}
 use Rattle.words.specs.declared.Number.{Number}
+use Rattle.words.specs.declared.Numbered.{Numbered}
 use Rattle.words.specs.declared.Numbered.the-variants.{Is, Unreadable}
-use Rattle.words.proofs.Reading.{number-made, too-many-digits, ten-more, below-ten}
+
+-- ---- what a number is made of
+
+-- a number by how many digits and points it has, the value of its digits, its decimals and its bytes
+unfoldable pub made : Sign → (digits points value decimals used : ℕ) → Numbered
+made sign digits points value decimals used =
+    if fromTo 1 9 digits && leb points 1
+    then Is (record { sign = sign; point = eqb points 1; digits = value; decimals = decimals }) used
+    else Unreadable
+
+pub number-made :
+    (sign : Sign) (figures : List ℕ)
+    → numberBy sign figures
+    ≡ made sign (count isDigit figures) (count isPoint figures) (digitsAfter 0 figures) (decimalsOf figures)
+    (signLength sign + length figures)
+unfolding numberBy isNumeral made
+number-made sign figures = refl
+
+-- the tenth digit, and the second point
+pub too-many-digits : (sign : Sign) (a b c d e : ℕ) → 9 < a → made sign a b c d e ≡ Unreadable
+unfolding made
+too-many-digits sign a b c d e h = rw (lt-leb a 9 h, and-false (leb 1 a))
+
+pub too-many-points : (sign : Sign) (a b c d e : ℕ) → 1 < b → made sign a b c d e ≡ Unreadable
+unfolding made
+too-many-points sign a b c d e h = rw (lt-leb b 1 h, and-false (fromTo 1 9 a))
+
+-- ---- the value of few digits
+
+pub ten-more : (m d k : ℕ) → d ≤ 9 → m < 10 ^ k → m * 10 + d < 10 ^ (k + 1)
+ten-more m d k small h = rw (add-one k, pow-suc 10 k) (omega arith)
+
+pub below-ten : {m : ℕ} (k : ℕ) → k ≤ 9 → m < 10 ^ k → m < 1000000000
+below-ten k h l = let most : 10 ^ k ≤ 10 ^ 9 = pow-le-pow-right (omega arith) h in omega arith
 
 -- ---- figures
 
@@ -35,15 +69,16 @@ run-short test (b ∷ bs) = by (test b) (run-short test bs)
     by true h = omega arith
     by false h = omega arith
 
+pub sign-most : (sign : Sign) → signLength sign ≤ 1
+unfolding signLength
+sign-most Plain = omega arith
+sign-most Plus = omega arith
+sign-most Minus = omega arith
+
 sign-short : (bs : List ℕ) → signLength (signOf bs) ≤ length bs
 unfolding signOf signLength
 sign-short [] = omega arith
-sign-short (b ∷ bs) = omega (arith, one-byte (signOf (b ∷ bs)))
-  where
-    one-byte : (sign : Sign) → signLength sign ≤ 1
-    one-byte Plain = omega arith
-    one-byte Plus = omega arith
-    one-byte Minus = omega arith
+sign-short (b ∷ bs) = omega (arith, sign-most (signOf (b ∷ bs)))
 
 count-append : (test : ℕ → Bool) (as′ bs : List ℕ) → count test (as′ ++ bs) ≡ count test as′ + count test bs
 unfolding count

@@ -3,7 +3,6 @@ use Rattle.terms.proofs.Opened.{opened as terms-opened}
 use Rattle.lengths.proofs.Opened.{opened as lengths-opened}
 use Rattle.codes.proofs.Opened.{opened as codes-opened}
 use Rattle.words.specs.Numbers.{signOf, signLength, run, count, digitsAfter, decimalsOf, isNumeral, numberBy, numberIn}
-use Rattle.words.specs.Reading.{made, numberAfter, onward, FewOn}
 use Rattle.words.specs.Values.{unsigned, isPlain, signed, decimalsFit, stepsOf, placesOf, unitsOf, lengthOf, isLength, dwellOf, isDwell, countOf, checked, valueOf}
 use Rattle.words.specs.Words.{oneMore, closing, commentItem, wordItem, itemAt, withWord, itemThen, wordsAfter}
 
@@ -21,10 +20,6 @@ unfolding
     isNumeral
     numberBy
     numberIn
-    made
-    numberAfter
-    onward
-    FewOn
     unsigned
     isPlain
     signed

@@ -19,6 +19,9 @@ isDigit b = fromTo (byte "0") (byte "9") b
 abbrev pub isPoint : ℕ → Bool
 isPoint b = eqb b (byte ".")
 
+abbrev pub isFigure : ℕ → Bool
+isFigure b = isDigit b || isPoint b
+
 -- the sign that the bytes begin with, and how many bytes it takes
 unfoldable pub signOf : List ℕ → Sign
 signOf [] = Plain
@@ -67,7 +70,7 @@ numberBy sign figures =
 
 -- the number that the bytes begin with. "no digit, a tenth digit or a second point is 15."
 unfoldable pub numberIn : List ℕ → Numbered
-numberIn bs = numberBy (signOf bs) (run (λ b. isDigit b || isPoint b) (drop (signLength (signOf bs)) bs))
+numberIn bs = numberBy (signOf bs) (run isFigure (drop (signLength (signOf bs)) bs))
 
 -- what holds of every number that is read (numberIn-written, in proofs/)
 pub record Written (n : Number) : Type 0 where

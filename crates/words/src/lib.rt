@@ -79,20 +79,6 @@ pub struct Values {
     pub s: Given,
 }
 
-// The figures that the number reader has passed: the number that they make, how many digits they are, and how many bytes
-// they take, the sign among them.
-pub struct Figures {
-    pub number: Number,
-    pub count: u64,
-    pub used: usize,
-}
-
-// What a byte leads to: it is one of the figures, or the number ends before it.
-pub enum Step {
-    More(Figures),
-    Done(Numbered),
-}
-
 // Ten to the k. No unit has more than four decimals.
 fn power_of_ten(k: u64) -> u64
     requires { ⌜ k ≤ 4 ⌝ }

@@ -1,73 +1,112 @@
--- `numbers::read_figures` meets its contract. What is left gives the same: the figures passed and the bytes from i on make the
--- number that those at the start and all bytes make. Assumes nothing.
-use Prim.Native.Nat.{_-_, _≤_}
-use mathlib.Core.Path.{_≡_, sym, _∙_}
+-- `numbers::read_figures` meets its contract. What is left gives the same: the figures passed, by the variables, and the bytes
+-- from i on make the number. Assumes nothing.
+use Prim.Native.Nat.{_-_}
+use mathlib.Core.Path.{_≡_}
+use mathlib.Core.List.{[]}
+use mathlib.Core.Logic.{⊎-elim}
+use native.Mathlib.Nat.{add-zero}
 use native.Mathlib.Omega.{arith}
 use borrow.Author.Needs.{needs}
+use lib.ListN.{drop}
 use lib.Seq.{slice}
-use Rattle.words.specs.Reading.{numberFrom, Few}
-use Rattle.words.proofs.Reading.{goes-on, comes-out, at-end}
+use Rattle.words.specs.Numbers.{isFigure, signLength, run, numberBy}
+use Rattle.words.proofs.Numbers.{below-ten}
+use Rattle.numbers.proofs.Figures.{Passed, none-passed, point-passed, second-point, digit-passed, tenth-digit, none-left, none-here, low-byte, high-byte, no-number, some-number}
 use Rattle.numbers.proofs.read_figures.Statement.{statement}
 use Rattle.numbers.proofs.read_figures.Tie as tie
+use Rattle.numbers.proofs.read_figures.Reads as reads
+use Rattle.numbers.proofs.read_figures.Lts as lts
+use Rattle.numbers.proofs.sign_length.Reads as sign-length-reads
 
 abbrev Inv-loop : tie.InvT-loop
-Inv-loop s from end passed₀ i₀ passed i =
-    (i ≤ end) × (Few passed) × (numberFrom passed₀ (slice from end s) ≡ numberFrom passed (slice i end s))
+Inv-loop s at end sign i₀ digits₀ decimals₀ count₀ point₀ i digits decimals count point =
+    Passed (numberBy sign (run isFigure (drop (signLength sign) (slice at end s)))) s at end sign i digits decimals count point
 
 abbrev μ-loop : tie.MeasureT-loop
-μ-loop s from end passed₀ i₀ passed i = end - i
+μ-loop s at end sign i₀ digits₀ decimals₀ count₀ point₀ i digits decimals count point = end - i
+
+sign-length-requires : tie.Need-sign-length-requires Inv-loop μ-loop
+sign-length-requires c κs = search needs
+
+add-i : tie.Need-add-i Inv-loop μ-loop
+add-i c = omega arith
 
 loop-holds : tie.Need-loop-holds Inv-loop μ-loop
-loop-holds c = search needs
+loop-holds c =
+    let start = c .before .before in
+    none-passed (start .args .s .now) (start .args .at) (start .args .end) (c .sign-length .result) (start .args .sign)
+    (c .sign-length .ensures) (start .pre .0) (start .pre .1)
 
-shared-slice-read-next-step : tie.Need-shared-slice-read-next-step Inv-loop μ-loop
-shared-slice-read-next-step c = search needs
-
-next-step-requires : tie.Need-next-step-requires Inv-loop μ-loop
-next-step-requires c κs = c .before .before .loop .inv .1
-
-enum-known-next : tie.Need-enum-known-next Inv-loop μ-loop
-enum-known-next c = search needs
-
-enum-known-r : tie.Need-enum-known-r Inv-loop μ-loop
-enum-known-r c = search needs
+shared-slice-read-b : tie.Need-shared-slice-read-b Inv-loop μ-loop
+shared-slice-read-b c = omega arith
 
 returns : tie.Need-returns Inv-loop μ-loop
 returns c =
-    let start = c .before .before .before .before .before .before .before .before in
-    let head = c .before .before .before .before .before .before in
-    let step = c .before .before .before .next-step in
-    comes-out (numberFrom (head .loop .passed)) (start .args .s .now) (head .loop .i) (start .args .end) (step .result)
-    (c .before .before .before .before .before .loop-test .taken) (start .pre .0 .1) (step .ensures) _ (c .before .r .given .1)
-    ∙ sym (head .loop .inv .2)
-
-add-i : tie.Need-add-i Inv-loop μ-loop
-add-i c = search needs
-
-loop-less : tie.Need-loop-less Inv-loop μ-loop
-loop-less c = search needs
-
-loop-again : tie.Need-loop-again Inv-loop μ-loop
-loop-again c =
-    let start = c .before .before .before .before .before .before .before .before in
-    let head = c .before .before .before .before .before .before in
-    let step = c .before .before .before .next-step in
-    let on =
-    goes-on (numberFrom (head .loop .passed)) (start .args .s .now) (head .loop .i) (start .args .end) (step .result)
-    (c .before .before .before .before .before .loop-test .taken) (start .pre .0 .1) (step .ensures) _ (c .before .next .given .1)
-    in
-    (omega arith, on .0, head .loop .inv .2 ∙ on .1)
-
-ended-requires : tie.Need-ended-requires Inv-loop μ-loop
-ended-requires c κs = c .before .loop .inv .1
+    let test = c .before .before .before in
+    second-point (test .before .loop .inv) (test .loop-test .taken) (c .before .match .keys1) (c .if1 .taken)
 
 returns-2 : tie.Need-returns-2 Inv-loop μ-loop
 returns-2 c =
-    let start = c .before .before .before .before in
-    let head = c .before .before in
-    c .ended .ensures
-    ∙ at-end (numberFrom (head .loop .passed)) (start .args .s .now) (head .loop .i) (start .args .end) (omega arith)
-    ∙ sym (head .loop .inv .2)
+    let test = c .before .before .before .before .before in
+    tenth-digit (test .before .loop .inv) (test .loop-test .taken) (c .before .before .if2 .left) (omega arith) (omega arith)
+
+mul-digits : tie.Need-mul-digits Inv-loop μ-loop
+mul-digits c =
+    let p = c .before .before .before .before .before .before .loop .inv in
+    omega (arith, below-ten _ (p .nine) (p .small))
+
+cast-digits : tie.Need-cast-digits Inv-loop μ-loop
+cast-digits c = omega arith
+
+add-digits : tie.Need-add-digits Inv-loop μ-loop
+add-digits c =
+    let p = c .before .before .before .before .before .before .loop .inv in
+    omega (arith, below-ten _ (p .nine) (p .small))
+
+add-count : tie.Need-add-count Inv-loop μ-loop
+add-count c = omega arith
+
+add-decimals : tie.Need-add-decimals Inv-loop μ-loop
+add-decimals c = omega arith
+
+add-i-2 : tie.Need-add-i-2 Inv-loop μ-loop
+add-i-2 c = omega arith
+
+loop-less : tie.Need-loop-less Inv-loop μ-loop
+loop-less c = omega arith
+
+loop-again : tie.Need-loop-again Inv-loop μ-loop
+loop-again c =
+    let p = c .before .before .before .loop .inv in
+    let h = c .before .before .loop-test .taken in
+    ⊎-elim
+    (λ w. rw (w .2, w .3, w .4, w .5) (point-passed p h (w .0 .keys1) (w .1 .left)))
+    (⊎-elim
+    (λ w. rw (w .5, w .7, w .8) (digit-passed p h (w .1 .left) (omega arith) _ (omega arith) (rw (w .6, w .4 .taken))))
+    (λ w. rw (w .5, w .7, w .8) (digit-passed p h (w .1 .left) (omega arith) _ (omega arith) (rw (w .6, w .4 .left, add-zero)))))
+    (c .match .came)
+
+-- at the end, and at a byte that is no figure
+none-more :
+    (c : lts.Left-loop (sign-length-reads.Asked, sign-length-reads.Learnt) reads.Pre reads.Post Inv-loop μ-loop)
+    → run isFigure (slice (c .before .loop .i) (c .before .before .before .before .args .end) (c .before .before .before .before .args .s .now)) ≡ []
+none-more c =
+    let p = c .before .loop .inv in
+    ⊎-elim
+    (λ w. none-left p (w .left))
+    (⊎-elim
+    (λ w. none-here p (w .0 .taken) (low-byte _ (w .2 .rest .1) (w .3 .taken)))
+    (λ w. none-here p (w .0 .taken) (high-byte _ (w .2 .rest .1) (w .4 .left))))
+    (c .loop-test .came)
+
+returns-3 : tie.Need-returns-3 Inv-loop μ-loop
+returns-3 c = no-number (c .before .before .loop .inv) (none-more (c .before)) (c .if6 .taken)
+
+sub-t12 : tie.Need-sub-t12 Inv-loop μ-loop
+sub-t12 c = c .before .before .loop .inv .after
+
+returns-4 : tie.Need-returns-4 Inv-loop μ-loop
+returns-4 c = some-number (c .before .before .loop .inv) (none-more (c .before)) (c .if6 .left)
 
 pub read-figures-spec : {M : Type 1} → statement M
 read-figures-spec =
@@ -75,14 +114,20 @@ read-figures-spec =
     (tie.spec
     Inv-loop
     μ-loop
-    loop-holds
-    shared-slice-read-next-step
-    next-step-requires
-    enum-known-next
-    enum-known-r
-    returns
+    sign-length-requires
     add-i
+    loop-holds
+    shared-slice-read-b
+    returns
+    returns-2
+    mul-digits
+    cast-digits
+    add-digits
+    add-count
+    add-decimals
+    add-i-2
     loop-less
     loop-again
-    ended-requires
-    returns-2)
+    returns-3
+    sub-t12
+    returns-4)

@@ -1,12 +1,12 @@
--- `numbers::none_after` meets its contract, sign by sign. Assumes nothing.
+-- `numbers::sign_length` meets its contract, sign by sign. Assumes nothing.
 use borrow.Author.Needs.{needs}
 use Rattle.words.specs.Numbers.{signLength}
-use Rattle.numbers.proofs.none_after.Statement.{statement}
-use Rattle.numbers.proofs.none_after.Tie as tie
+use Rattle.numbers.proofs.sign_length.Statement.{statement}
+use Rattle.numbers.proofs.sign_length.Tie as tie
 
-pub none-after-spec : {M : Type 1} → statement M
+pub sign-length-spec : {M : Type 1} → statement M
 unfolding signLength
-none-after-spec =
+sign-length-spec =
     tie.close
     (tie.spec
     (λ c. search needs)
