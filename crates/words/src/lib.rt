@@ -19,12 +19,13 @@ pub enum Sign {
     Minus,
 }
 
-// A number as it is written: its digits as one whole number, and how many of them stand after the point.
+// A number as it is written: its digits as one whole number, and how many of them stand after the point. The large fields
+// come first, here and in a word, so that less padding is copied with the rest.
 pub struct Number {
-    pub sign: Sign,
-    pub point: bool,
     pub digits: u64,
     pub decimals: u64,
+    pub sign: Sign,
+    pub point: bool,
 }
 
 // What the number reader finds: a number and how many bytes it takes, or nothing that is a number.
@@ -35,9 +36,9 @@ pub enum Numbered {
 
 // A word and the place of its letter, a byte of the data.
 pub struct Word {
-    pub letter: u8,
-    pub number: Number,
     pub at: usize,
+    pub number: Number,
+    pub letter: u8,
 }
 
 // What a letter means in a block, which decides the form and the limits of its number.
