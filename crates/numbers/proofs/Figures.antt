@@ -15,7 +15,7 @@ use Rattle.words.specs.Numbers.{isDigit, isPoint, isFigure, signOf, signLength,
 use Rattle.words.specs.declared.Sign.{Sign}
 use Rattle.words.specs.declared.Numbered.{Numbered}
 use Rattle.words.specs.declared.Numbered.the-variants.{Is, Unreadable}
-use Rattle.words.proofs.Numbers.{made, number-made, too-many-digits, too-many-points, ten-more}
+use Rattle.words.proofs.Numbers.{sign-first, made, number-made, too-many-digits, too-many-points, ten-more}
 
 -- ---- the sign
 
@@ -23,12 +23,11 @@ pub no-byte : (s : List ℕ) (at end : ℕ) → at ≡ end → Unreadable ≡ nu
 unfolding numberIn signOf signLength run numberBy isNumeral count
 no-byte s at end e = rw (e, slice-empty end s)
 
--- the first byte tells the sign
 pub by-sign :
     (s : List ℕ) (at end : ℕ) (sign : Sign) (r : Numbered) → at < end → end ≤ length s → sign ≡ signOf (getD s at 0 ∷ [])
     → r ≡ numberBy sign (run isFigure (drop (signLength sign) (slice at end s))) → r ≡ numberIn (slice at end s)
-unfolding numberIn signOf
-by-sign s at end sign r h k e f = rw f (rw (e, slice-cons at end s 0 h k))
+unfolding numberIn
+by-sign s at end sign r h k e f = rw (f, e, sign-first s at end h k)
 
 -- ---- one byte
 

@@ -10,7 +10,7 @@ ghost use lib.Seq.{slice};
 ghost use Rattle.words.specs.Numbers.{isFigure, signOf, signLength, run, numberBy, numberIn};
 
 // The sign of a number that begins with this byte.
-fn sign_of(b: u8) -> Sign
+pub fn sign_of(b: u8) -> Sign
     ensures { λ r. ⌜ r ≡ signOf (b ∷ []) ⌝ }
 {
     match b {
@@ -21,7 +21,7 @@ fn sign_of(b: u8) -> Sign
 }
 
 // How many bytes the sign takes.
-fn sign_length(sign: Sign) -> usize
+pub fn sign_length(sign: Sign) -> usize
     ensures { λ r. ⌜ r ≡ signLength sign ⌝ }
 {
     match sign {

@@ -1,19 +1,19 @@
 -- What a word is worth as a number, digit by digit. Assumes nothing.
 use Prim.Native.Nat.{ℕ, suc, _+_, _-_, _*_, _^_, _≤_, _<_}
-use mathlib.Core.Path.{_≡_, refl, sym, ap, _∙_}
-use mathlib.Core.Bool.{Bool, true, false, _&&_, and-false}
+use mathlib.Core.Path.{_≡_, sym, ap, _∙_}
+use mathlib.Core.Bool.{Bool, true, false, and-false}
 use mathlib.Core.List.{List, [], _∷_}
 use native.Mathlib.Omega.{arith}
 use native.Mathlib.Nat.{pow-le-pow-right}
 use native.Mathlib.Numerals.{add-one}
 use lib.Dec.{leb}
-use lib.ListN.{length, take, drop, getD}
+use lib.ListN.{length, take, getD}
 use lib.Seq.{slice, slice-cons, slice-empty, length-slice, drop-drop}
-use borrow.Author.Tests.{le-leb, lt-leb, eq-eqb, ne-eqb}
-use Rattle.terms.specs.Terms.{if_then_else_, all, fromTo}
+use borrow.Author.Tests.{le-leb, lt-leb}
+use Rattle.terms.specs.Terms.{if_then_else_, all}
 use Rattle.words.specs.Numbers.{isDigit, signOf, signLength, digitsAfter}
 use Rattle.words.specs.Values.{signed}
-use Rattle.words.proofs.Numbers.{ten-more}
+use Rattle.words.proofs.Numbers.{sign-first, ten-more}
 use Rattle.words.specs.declared.Sign.{Sign}
 use Rattle.words.specs.declared.Sign.the-variants.{Plain, Plus, Minus}
 use Rattle.texts.specs.Figures.{digitsIn, largest, fitted, worthBy, worthOf}
@@ -109,34 +109,15 @@ module _ (s : List ℕ) (from end : ℕ) (k : end ≤ length s) where
         let e : i ≡ end = omega (arith, t .high) in
         sym (t .left ∙ rw (e, slice-empty end s))
 
--- ---- signs
-
-pub sign-most : (sign : Sign) → signLength sign ≤ 1
-unfolding signLength
-sign-most Plain = omega arith
-sign-most Plus = omega arith
-sign-most Minus = omega arith
-
-module _ (s : List ℕ) (from end : ℕ) (h : from < end) (k : end ≤ length s) where
-  pub sign-plus : getD s from 0 ≡ 43 → Plus ≡ signOf (slice from end s)
-  unfolding signOf
-  sign-plus e = rw (slice-cons from end s 0 h k) (rw e)
-
-  pub sign-minus : getD s from 0 ≡ 45 → Minus ≡ signOf (slice from end s)
-  unfolding signOf
-  sign-minus e = rw (slice-cons from end s 0 h k) (rw e)
-
-  pub sign-plain : (getD s from 0 ≡ 43 → ⊥) → (getD s from 0 ≡ 45 → ⊥) → Plain ≡ signOf (slice from end s)
-  unfolding signOf
-  sign-plain e f = rw (slice-cons from end s 0 h k) (rw (ne-eqb (getD s from 0) 43 e, ne-eqb (getD s from 0) 45 f))
-
 -- ---- a word's worth, by its sign and its digits
 
 pub worth-is :
-    (s : List ℕ) (from end n : ℕ) (sign : Sign) (d : Digits) → sign ≡ signOf (slice from end s) → n ≡ signLength sign
-    → d ≡ digitsIn (slice (from + n) end s) → worthBy sign d ≡ worthOf (slice from end s)
+    (s : List ℕ) (from end n : ℕ) (sign : Sign) (d : Digits) → from < end → end ≤ length s
+    → sign ≡ signOf (getD s from 0 ∷ []) → n ≡ signLength sign → d ≡ digitsIn (slice (from + n) end s)
+    → worthBy sign d ≡ worthOf (slice from end s)
 unfolding worthOf
-worth-is s from end n sign d e f g = rw (g, f, e, ← drop-drop (signLength (signOf (slice from end s))) from (take end s))
+worth-is s from end n sign d h k e f g =
+    rw (g, f, e, sign-first s from end h k, ← drop-drop (signLength (signOf (slice from end s))) from (take end s))
 
 pub worth-none : (sign : Sign) (d : Digits) → d ≡ Others → Unfit NoNumber ≡ worthBy sign d
 unfolding worthBy

@@ -5,7 +5,6 @@ ghost use mathlib.Core.Path.{_≡_};
 ghost use Prim.Native.Nat.{_+_, _^_, _≤_, _<_};
 ghost use lib.ListN.{length};
 ghost use lib.Seq.{slice};
-ghost use Rattle.words.specs.Numbers.{signOf, signLength};
 ghost use Rattle.words.specs.declared.Sign.the-variants.{Plain, Minus};
 ghost use Rattle.texts.specs.Texts.{isBlank, spaceOf, next, inWord, wordAt, sameBytes};
 ghost use Rattle.texts.specs.Figures.{digitsIn, fitted, worthOf};
@@ -113,31 +112,6 @@ pub fn is_word(s: &[u8], from: usize, end: usize, name: &[u8]) -> bool
     true
 }
 
-// The sign that a word begins with.
-fn sign_at(s: &[u8], from: usize, end: usize) -> Sign
-    requires { ⌜ (from < end) × (end ≤ length (now s)) ⌝ }
-    ensures { λ r. ⌜ r ≡ signOf (slice from end (now (s .entry))) ⌝ }
-{
-    let b = s[from];
-    if b == b'+' {
-        return Sign::Plus;
-    }
-    if b == b'-' {
-        return Sign::Minus;
-    }
-    Sign::Plain
-}
-
-fn sign_length(sign: Sign) -> usize
-    ensures { λ r. ⌜ r ≡ signLength sign ⌝ }
-{
-    match sign {
-        Sign::Plain => 0,
-        Sign::Plus => 1,
-        Sign::Minus => 1,
-    }
-}
-
 // Nineteen digits are below 2 ^ 64, so that their value is counted without a test at each.
 pub fn digits_at(s: &[u8], from: usize, end: usize) -> Digits
     requires { ⌜ (from ≤ end) × (end ≤ length (now s)) ⌝ }
@@ -193,8 +167,8 @@ pub fn worth_at(s: &[u8], from: usize, end: usize) -> Worth
     requires { ⌜ (from < end) × (end ≤ length (now s)) ⌝ }
     ensures { λ r. ⌜ r ≡ worthOf (slice from end (now (s .entry))) ⌝ }
 {
-    let sign = sign_at(s, from, end);
-    let Digits::Are(n) = digits_at(s, from + sign_length(sign), end) else {
+    let sign = numbers::sign_of(s[from]);
+    let Digits::Are(n) = digits_at(s, from + numbers::sign_length(sign), end) else {
         return Worth::Unfit(Wrong::NoNumber);
     };
     match sign {

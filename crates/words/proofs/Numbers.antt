@@ -8,7 +8,8 @@ use native.Mathlib.Nat.{add-zero, pow-suc, pow-le-pow-right}
 use native.Mathlib.Numerals.{add-one}
 use native.Mathlib.Omega.{arith}
 use lib.Dec.{leb, eqb}
-use lib.ListN.{length, drop, length-drop}
+use lib.ListN.{length, drop, getD, length-drop}
+use lib.Seq.{slice, slice-cons}
 use borrow.Author.Tests.{lt-leb, leb-true, eqb-false}
 use Rattle.terms.specs.Terms.{if_then_else_, byte, fromTo}
 use Rattle.terms.proofs.Laws.{both-left, both-right}
@@ -74,6 +75,12 @@ unfolding signLength
 sign-most Plain = omega arith
 sign-most Plus = omega arith
 sign-most Minus = omega arith
+
+-- the first byte tells the sign
+pub sign-first :
+    (s : List ℕ) (at end : ℕ) → at < end → end ≤ length s → signOf (getD s at 0 ∷ []) ≡ signOf (slice at end s)
+unfolding signOf
+sign-first s at end h k = rw (slice-cons at end s 0 h k)
 
 sign-short : (bs : List ℕ) → signLength (signOf bs) ≤ length bs
 unfolding signOf signLength

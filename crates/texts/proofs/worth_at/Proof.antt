@@ -1,24 +1,67 @@
 -- `texts::worth_at` meets its contract: the sign, the digits after it, and the value of both. Assumes nothing.
-use borrow.Author.Needs.{needs}
-use mathlib.Core.Path.{_≡_, refl, sym, ap, _∙_}
+use mathlib.Core.Path.{_≡_, _∙_}
 use native.Mathlib.Omega.{arith}
-use Rattle.texts.proofs.Worths.{sign-most, worth-is, worth-none, worth-plain, worth-plus, worth-minus}
+use borrow.Author.Needs.{needs}
+use lib.Seq.{slice}
+use Rattle.words.proofs.Numbers.{sign-most}
+use Rattle.texts.specs.Figures.{worthBy, worthOf}
+use Rattle.texts.proofs.Worths.{worth-is, worth-none, worth-plain, worth-plus, worth-minus}
 use Rattle.texts.proofs.worth_at.Statement.{statement}
 use Rattle.texts.proofs.worth_at.Tie as tie
+use Rattle.texts.proofs.worth_at.Reads as reads
+use Rattle.texts.proofs.worth_at.Lts as lts
+use Rattle.numbers.proofs.sign_length.Reads as sign-length-reads
+use Rattle.numbers.proofs.sign_of.Reads as sign-of-reads
+use Rattle.texts.proofs.digits_at.Reads as digits-at-reads
+use Rattle.texts.proofs.negative.Reads as negative-reads
+use Rattle.texts.proofs.positive.Reads as positive-reads
 
-sign-at-requires : tie.Need-sign-at-requires
-sign-at-requires c κs = search needs
+abbrev calls : lts.Claims
+calls = (
+  sign-of-reads.Asked,
+  sign-of-reads.Learnt,
+  sign-length-reads.Asked,
+  sign-length-reads.Learnt,
+  digits-at-reads.Asked,
+  digits-at-reads.Learnt,
+  positive-reads.Asked,
+  positive-reads.Learnt,
+  negative-reads.Asked,
+  negative-reads.Learnt,
+)
+
+-- sign and digits make the worth
+by-parts :
+    (c : lts.After-digits-at calls reads.Pre reads.Post)
+    → let start = c .before .before .before .before .before in
+    worthBy (c .before .before .sign-of .result) (c .digits-at .result)
+    ≡ worthOf (slice (start .args .from) (start .args .end) (start .args .s .now))
+by-parts c =
+    let start = c .before .before .before .before .before in
+    worth-is (start .args .s .now) (start .args .from) (start .args .end) (c .before .sign-length .result)
+    (c .before .before .sign-of .result)
+    (c .digits-at .result)
+    (start .pre .0)
+    (start .pre .1)
+    (c .before .before .sign-of .ensures)
+    (c .before .sign-length .ensures)
+    (c .digits-at .ensures)
+
+shared-slice-read-sign-of : tie.Need-shared-slice-read-sign-of
+shared-slice-read-sign-of c = search needs
+
+sign-of-requires : tie.Need-sign-of-requires
+sign-of-requires c κs = search needs
 
 sign-length-requires : tie.Need-sign-length-requires
 sign-length-requires c κs = search needs
 
 add-digits-at : tie.Need-add-digits-at
-add-digits-at c =
-    omega (arith, sign-most (c .before .sign-at .result))
+add-digits-at c = omega (arith, sign-most (c .before .sign-of .result))
 
 digits-at-requires : tie.Need-digits-at-requires
 digits-at-requires c κs =
-    (omega (arith, sign-most (c .before .sign-at .result)), c .before .before .before .pre .1)
+    (omega (arith, sign-most (c .before .sign-of .result)), c .before .before .before .before .pre .1)
 
 enum-known-n : tie.Need-enum-known-n
 enum-known-n c = search needs
@@ -29,7 +72,7 @@ enum-told c = search needs
 returns : tie.Need-returns
 returns c =
     let d = c .before .before in
-    worth-none (d .before .before .sign-at .result) (d .digits-at .result) (c .enum-told .given .1) ∙ worth-is (d .before .before .before .before .args .s .now) (d .before .before .before .before .args .from) (d .before .before .before .before .args .end) (d .before .sign-length .result) (d .before .before .sign-at .result) (d .digits-at .result) (d .before .before .sign-at .ensures) (d .before .sign-length .ensures) (d .digits-at .ensures)
+    worth-none (d .before .before .sign-of .result) (d .digits-at .result) (c .enum-told .given .1) ∙ by-parts d
 
 enum-told-2 : tie.Need-enum-told-2
 enum-told-2 c = search needs
@@ -51,24 +94,25 @@ negative-requires c κs = search needs
 
 returns-2 : tie.Need-returns-2
 returns-2 c =
-    let d = c .before .before .before .before .before .before in
-    worth-plain (c .before .enum-told2 .given .1) (c .before .before .before .before .n .given .1) (c .positive .ensures) ∙ worth-is (d .before .before .before .before .args .s .now) (d .before .before .before .before .args .from) (d .before .before .before .before .args .end) (d .before .sign-length .result) (d .before .before .sign-at .result) (d .digits-at .result) (d .before .before .sign-at .ensures) (d .before .sign-length .ensures) (d .digits-at .ensures)
+    worth-plain (c .before .enum-told2 .given .1) (c .before .before .before .before .n .given .1) (c .positive .ensures)
+    ∙ by-parts (c .before .before .before .before .before .before)
 
 returns-3 : tie.Need-returns-3
 returns-3 c =
-    let d = c .before .before .before .before .before .before in
-    worth-plus (c .before .enum-told3 .given .1) (c .before .before .before .before .n .given .1) (c .positive2 .ensures) ∙ worth-is (d .before .before .before .before .args .s .now) (d .before .before .before .before .args .from) (d .before .before .before .before .args .end) (d .before .sign-length .result) (d .before .before .sign-at .result) (d .digits-at .result) (d .before .before .sign-at .ensures) (d .before .sign-length .ensures) (d .digits-at .ensures)
+    worth-plus (c .before .enum-told3 .given .1) (c .before .before .before .before .n .given .1) (c .positive2 .ensures)
+    ∙ by-parts (c .before .before .before .before .before .before)
 
 returns-4 : tie.Need-returns-4
 returns-4 c =
-    let d = c .before .before .before .before .before .before in
-    worth-minus (c .before .enum-told4 .given .1) (c .before .before .before .before .n .given .1) (c .negative .ensures) ∙ worth-is (d .before .before .before .before .args .s .now) (d .before .before .before .before .args .from) (d .before .before .before .before .args .end) (d .before .sign-length .result) (d .before .before .sign-at .result) (d .digits-at .result) (d .before .before .sign-at .ensures) (d .before .sign-length .ensures) (d .digits-at .ensures)
+    worth-minus (c .before .enum-told4 .given .1) (c .before .before .before .before .n .given .1) (c .negative .ensures)
+    ∙ by-parts (c .before .before .before .before .before .before)
 
 pub worth-at-spec : {M : Type 1} → statement M
 worth-at-spec =
     tie.close
     (tie.spec
-    sign-at-requires
+    shared-slice-read-sign-of
+    sign-of-requires
     sign-length-requires
     add-digits-at
     digits-at-requires
