@@ -34,7 +34,7 @@ fn run_times(times: u64, bytes: &[u8], list: &mut [u8]) -> usize {
     let mut records: usize = 0;
     let mut left = times;
     while 0 < left {
-        records = printing::count_of(interpreter::run(setup_t::setup(), bytes, list));
+        records = refusals::count_of(interpreter::run(setup_t::setup(), bytes, list));
         left -= 1;
     }
     records

@@ -12,16 +12,8 @@ use refusals::Answer;
 
 // A run's listing: the records that its answer counts in the list, then the answer.
 pub fn show_run(list: &[u8], answer: Answer) {
-    show_records(list, count_of(answer));
+    show_records(list, refusals::count_of(answer));
     show_answer(answer);
-}
-
-pub fn count_of(answer: Answer) -> usize {
-    match answer {
-        Answer::Done(count) => count,
-        Answer::Unfinished(count) => count,
-        Answer::Refused(_, _, count) => count,
-    }
 }
 
 // The first records of a list, as many as it is told. What stands after them is not read.

@@ -1,6 +1,5 @@
 -- One name that opens every rule of this layer and of those below it, for a claim that holds by computation.
 use Rattle.runs.proofs.Opened.{opened as runs-opened}
-use Rattle.promises.specs.ReadBack.{countIn}
 use Rattle.promises.specs.Duplicates.{withBlock, openingsIn, openingsOf, percentBegins, mainOpens, mostOpenings, allDifferent}
 
 unfoldable pub opened : Unit {0}
@@ -13,5 +12,4 @@ unfolding
     mainOpens
     mostOpenings
     allDifferent
-    countIn
 opened = tt

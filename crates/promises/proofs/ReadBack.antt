@@ -10,6 +10,7 @@ use lib.ListN.{length, length-map}
 use lib.Seq.{sets}
 use Rattle.terms.specs.Terms.{if_then_else_}
 use Rattle.refusals.specs.declared.Refusal.the-variants.{BadSetup, DataTooLong}
+use Rattle.refusals.specs.Answers.{countOf}
 use Rattle.setup.specs.declared.Setup.{Setup}
 use Rattle.setup.specs.Limits.{validSetup}
 use Rattle.setup.specs.Frame.{offset, bedOf}
@@ -24,11 +25,11 @@ use Rattle.runs.specs.Walk.{How, ended, returned, unfinished, just}
 use Rattle.runs.specs.Walk as Walk
 use Rattle.runs.specs.Run.{nowhere, outcome, recordsOf, answerBy, answerOf}
 use Rattle.runs.specs.declared.Budget.{Budget}
-use Rattle.promises.specs.ReadBack.{countIn, ReadsBack}
+use Rattle.promises.specs.ReadBack.{ReadsBack}
 use Rattle.promises.proofs.Listing.{fine-outcome}
 
-count-by : (how : How) (n : ℕ) → countIn (answerBy how n) ≡ n
-unfolding countIn answerBy
+count-by : (how : How) (n : ℕ) → countOf (answerBy how n) ≡ n
+unfolding answerBy
 count-by ended n = refl
 count-by (returned g) n = refl
 count-by unfinished n = refl
@@ -57,6 +58,13 @@ read-back s six bytes room budget =
     let moving = recordMoved (offset s) in
     rw (← length-map (o .made) moving)
     (reads-back (map moving (o .made)) (o .how) room (fine .short) (omega (arith, moved-room (offset s) (o .made), fine .fits)))
+
+-- The numbers of these records are ones that four bytes hold.
+pub records-short :
+    (s : Setup) → length (s .origins) ≡ 6 → (bytes : List ℕ) (room : ℕ) (budget : Budget)
+    → ListShort (recordsOf s bytes room budget)
+unfolding recordsOf bedOf
+records-short s six bytes room budget = fine-outcome s six bytes room budget .short
 
 -- A setup that breaks a limit gives no records.
 pub no-records : (s : Setup) (bytes : List ℕ) (room : ℕ) (budget : Budget) → validSetup s ≡ false → recordsOf s bytes room budget ≡ []

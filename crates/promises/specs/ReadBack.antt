@@ -10,20 +10,14 @@ use Rattle.records.specs.declared.Listed.the-variants.{End}
 use Rattle.records.specs.Layout.{listBytes}
 use Rattle.records.specs.Reading.{trail, after, readAll}
 use Rattle.refusals.specs.declared.Answer.{Answer}
-use Rattle.refusals.specs.declared.Answer.the-variants.{Done, Unfinished, Refused}
-
--- the count of records that an answer names
-unfoldable pub countIn : Answer → ℕ
-countIn (Done n) = n
-countIn (Unfinished n) = n
-countIn (Refused refusal place n) = n
+use Rattle.refusals.specs.Answers.{countOf}
 
 -- the records and the answer of a run for a list of so many bytes
 pub record ReadsBack (rs : List Record) (answer : Answer) (room : ℕ) : Type 0 where
   -- reading from the first byte on gives the records and then the end, however long the reading goes on
   pub list : (n : ℕ) → readAll (length rs + n) (listBytes rs) 0 ≡ trail rs End
   -- "the records written so far": as many as stand there
-  pub count : countIn answer ≡ length rs
+  pub count : countOf answer ≡ length rs
   pub fits : length (listBytes rs) ≤ room
   -- the same of a buffer over whose beginning they were written: the records, and then what the reader says after them
   pub buffer :

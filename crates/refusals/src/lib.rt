@@ -1,6 +1,7 @@
 // The sixteen refusals of document 01's table, in its order, the place that a refusal names, and what a run answers.
 ghost use mathlib.Core.Path.{_≡_};
 ghost use Rattle.refusals.specs.Numbers.{numberOf};
+ghost use Rattle.refusals.specs.Answers.{countOf};
 
 pub enum Refusal {
     BadParameter,
@@ -55,5 +56,16 @@ pub fn number(r: Refusal) -> u64
         Refusal::NoEnd => 14,
         Refusal::Unreadable => 15,
         Refusal::CentreTooFar => 16,
+    }
+}
+
+// The count of records that an answer names.
+pub fn count_of(answer: Answer) -> usize
+    ensures { λ n. ⌜ n ≡ countOf answer ⌝ }
+{
+    match answer {
+        Answer::Done(count) => count,
+        Answer::Unfinished(count) => count,
+        Answer::Refused(_, _, count) => count,
     }
 }
