@@ -6,6 +6,7 @@ pub use options::options_of;
 ghost use mathlib.Core.Path.{_≡_};
 ghost use Prim.Native.Nat.{_+_, _≤_};
 ghost use lib.ListN.{length, drop};
+ghost use Rattle.texts.specs.Texts.{sameBytes};
 ghost use Rattle.commands.specs.Words.{countIn, wordIn, afterWord, afterWords, wordOf};
 
 // How many words there are.
@@ -72,6 +73,8 @@ pub fn word(line: &[u8], k: usize) -> &[u8]
 }
 
 // Whether a word is this one.
-pub fn is(given: &[u8], name: &[u8]) -> bool {
+pub fn is(given: &[u8], name: &[u8]) -> bool
+    ensures { λ r. ⌜ r ≡ sameBytes (now (given .entry)) (now (name .entry)) ⌝ }
+{
     texts::is_word(given, 0, given.len(), name)
 }
