@@ -6,6 +6,10 @@ use setup::Setup;
 use setups::Reading;
 use telling::begin_line;
 use texts::Wrong;
+ghost use mathlib.Core.Path.{_≡_};
+ghost use mathlib.Core.Bool.{false};
+ghost use Rattle.setups.specs.Setups.{setupIn};
+ghost use Rattle.setup_files.specs.Knowing.{noneWrong, knownBy, lineOf};
 
 // A setup is of use only where all is fine. Else a line has said what is wrong.
 pub struct Known {
@@ -17,22 +21,53 @@ pub struct Known {
 pub fn setup_in(path: &[u8], err: i32) -> Known {
     let mut text = io::large_buffer();
     let got = files::read_whole(path, &mut text, err);
-    let n = got.count;
-    let read = setups::read_setup(&text[..n]);
-    let setup = read.setup;
-    if !got.fine {
-        return Known { fine: false, setup };
+    if got.fine {
+        let n = got.count;
+        return known_from(path, &text[..n], err);
     }
+    unknown()
+}
+
+// No setup at all, of a file that could not be read.
+fn unknown() -> Known
+    ensures { λ r. ⌜ r .fine ≡ false ⌝ }
+{
+    let read = setups::read_setup(b"");
+    let setup = read.setup;
+    Known { fine: false, setup }
+}
+
+// The setup that a file's text gives. If it gives none, a line says what is wrong with it.
+fn known_from(path: &[u8], text: &[u8], err: i32) -> Known
+    ensures { λ r. ⌜ r ≡ knownBy (setupIn (now (text .entry))) ⌝ }
+{
+    let read = setups::read_setup(text);
+    let setup = read.setup;
     Known {
-        fine: is_read(path, &text[..n], read, err),
+        fine: is_read(path, text, read, err),
         setup,
     }
 }
 
+fn none_wrong(wrong: Wrong) -> bool
+    ensures { λ r. ⌜ r ≡ noneWrong wrong ⌝ }
+{
+    match wrong {
+        Wrong::Nothing => true,
+        Wrong::NoNumber => false,
+        Wrong::TooLarge => false,
+        Wrong::OtherName => false,
+        Wrong::TooFew => false,
+        Wrong::TooMuch => false,
+    }
+}
+
 // Whether a setup was read; if not, a line says what is wrong with its text, and in which line of it.
-fn is_read(path: &[u8], text: &[u8], read: Reading, err: i32) -> bool {
+fn is_read(path: &[u8], text: &[u8], read: Reading, err: i32) -> bool
+    ensures { λ r. ⌜ r ≡ noneWrong (read .wrong) ⌝ }
+{
     let wrong = read.wrong;
-    if let Wrong::Nothing = wrong {
+    if none_wrong(wrong) {
         return true;
     }
     begin_line(err, path);
@@ -43,7 +78,9 @@ fn is_read(path: &[u8], text: &[u8], read: Reading, err: i32) -> bool {
 }
 
 // The number of the line that a place lies in, the first being 1.
-fn line_of(text: &[u8], at: usize) -> u64 {
+fn line_of(text: &[u8], at: usize) -> u64
+    ensures { λ r. ⌜ r ≡ lineOf (now (text .entry)) at ⌝ }
+{
     let mut number: u64 = 1;
     let mut i = 0;
     while i < text.len() {

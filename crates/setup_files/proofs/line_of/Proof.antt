@@ -1,23 +1,29 @@
--- `setup_files::line_of` meets its contract: no more lines than bytes are passed. Assumes nothing.
+-- `setup_files::line_of` meets its contract. What is left gives the same. Assumes nothing.
 use borrow.Author.Needs.{needs}
 use Prim.Native.Nat.{_≤_, _-_, _+_}
+use mathlib.Core.Path.{_≡_}
 use mathlib.Core.Logic.{⊎-elim}
 use native.Mathlib.Omega.{arith}
 use lib.ListN.{length}
+use Rattle.setup_files.specs.Knowing.{lineOf}
+use Rattle.setup_files.proofs.Counting.{ending, all-ending, none-past, none-more, one-ends, goes-on}
 use Rattle.setup_files.proofs.line_of.Statement.{statement}
 use Rattle.setup_files.proofs.line_of.Tie as tie
 
 abbrev Inv-loop : tie.InvT-loop
-Inv-loop text at number₀ i₀ number i = (i ≤ length text) × (number ≤ i + 1)
+Inv-loop text at number₀ i₀ number i =
+    (i ≤ length text) × (number ≤ i + 1) × (lineOf text at ≡ number + ending text at i)
 
 abbrev μ-loop : tie.MeasureT-loop
 μ-loop text at number₀ i₀ number i = length text - i
 
 loop-holds : tie.Need-loop-holds Inv-loop μ-loop
-loop-holds c = search needs
+loop-holds c = let a = c .args in omega (arith, all-ending (a .text .now) (a .at))
 
 returns : tie.Need-returns Inv-loop μ-loop
-returns c = search needs
+returns c =
+    let a = c .before .before .before .args in
+    omega (arith, none-past (a .text .now) (a .at) (c .before .before .loop .i) (c .if1 .taken))
 
 shared-slice-read-if2 : tie.Need-shared-slice-read-if2 Inv-loop μ-loop
 shared-slice-read-if2 c = search needs
@@ -32,10 +38,18 @@ loop-less : tie.Need-loop-less Inv-loop μ-loop
 loop-less c = search needs
 
 loop-again : tie.Need-loop-again Inv-loop μ-loop
-loop-again c = ⊎-elim (λ w. omega arith) (λ w. omega arith) (c .if2 .came)
+loop-again c =
+    let d = c .before .before .before .before in
+    let a = d .before .args in
+    ⊎-elim
+    (λ w. omega (arith, one-ends (a .text .now) (a .at) (d .loop .i) (omega arith) (omega arith) (w .0 .taken)))
+    (λ w. omega (arith, goes-on (a .text .now) (a .at) (d .loop .i) (omega arith) (omega arith) (w .0 .left)))
+    (c .if2 .came)
 
 returns-2 : tie.Need-returns-2 Inv-loop μ-loop
-returns-2 c = search needs
+returns-2 c =
+    let a = c .before .before .args in
+    omega (arith, none-more (a .text .now) (a .at) (c .before .loop .i) (omega arith))
 
 pub line-of-spec : {M : Type 1} → statement M
 line-of-spec =

@@ -1,0 +1,27 @@
+-- What a setup file's text is worth to a command, and the line of a place in it.
+use Prim.Native.Nat.{ℕ, _+_}
+use mathlib.Core.Bool.{Bool, true, false}
+use mathlib.Core.List.{List}
+use lib.ListN.{take}
+use Rattle.lines.specs.Blocks.{isLf}
+use Rattle.words.specs.Numbers.{count}
+use Rattle.texts.specs.declared.Wrong.{Wrong}
+use Rattle.texts.specs.declared.Wrong.the-variants.{Nothing, NoNumber, TooLarge, OtherName, TooFew, TooMuch}
+use Rattle.setups.specs.declared.Reading.{Reading}
+use Rattle.setup_files.specs.declared.Known.{Known}
+
+abbrev pub noneWrong : Wrong → Bool
+noneWrong Nothing = true
+noneWrong NoNumber = false
+noneWrong TooLarge = false
+noneWrong OtherName = false
+noneWrong TooFew = false
+noneWrong TooMuch = false
+
+-- the setup that was read, fine just where nothing is wrong
+unfoldable pub knownBy : Reading → Known
+knownBy read = record { fine = noneWrong (read .wrong); setup = read .setup }
+
+-- the number of the line that a place lies in: 1, and one more for each LF before the place
+unfoldable pub lineOf : List ℕ → ℕ → ℕ
+lineOf text at = 1 + count isLf (take at text)
