@@ -3,6 +3,7 @@ use buffers::list_room;
 use buffers::picture_room;
 use commands::is;
 use commands::word;
+use files::is_part;
 use pictures::Drawn;
 use setup::Setup;
 use setup_files::setup_in;
@@ -20,6 +21,14 @@ pub fn plot(line: &[u8], count: usize, err: i32) {
             err,
             picture,
             b"is read by this command, so that the picture cannot be written there",
+        );
+        return;
+    }
+    if is_part(word(line, 1), picture) | is_part(word(line, 2), picture) {
+        complain(
+            err,
+            picture,
+            b"is first written with .part after its name, and this command reads that file",
         );
         return;
     }

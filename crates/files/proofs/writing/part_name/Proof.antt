@@ -1,18 +1,22 @@
 -- `files::writing::part_name` meets its contract: the ending fits after a path that is short enough. Assumes nothing.
 use borrow.Author.Needs.{needs}
 use native.Mathlib.Omega.{arith}
-use Rattle.io.proofs.Counting.{counts}
+use Rattle.files.proofs.Naming.{no-room, named}
 use Rattle.files.proofs.writing.part_name.Statement.{statement}
 use Rattle.files.proofs.writing.part_name.Tie as tie
 
 returns : tie.Need-returns
-returns c = search needs
+returns c =
+    let a = c .before .before .before .args in
+    no-room (a .path .now) (a .name .now) (omega arith)
 
 sub-if2 : tie.Need-sub-if2
 sub-if2 c = search needs
 
 returns-2 : tie.Need-returns-2
-returns-2 c = search needs
+returns-2 c =
+    let a = c .before .before .before .before .args in
+    no-room (a .path .now) (a .name .now) (omega arith)
 
 put-requires : tie.Need-put-requires
 put-requires c κs = search needs
@@ -27,7 +31,12 @@ same-length : tie.Need-same-length
 same-length c = search needs
 
 returns-3 : tie.Need-returns-3
-returns-3 c = let d = c .before .before .put2 in counts (d .result) (d .last .0) (omega arith)
+returns-3 c =
+    let second = c .before .before in
+    let first = second .before .before .before .before .before in
+    let fits = first .before .before in
+    let a = fits .before .before .before .before .args in
+    named (a .path .now) (a .name .now) (omega (arith, fits .if2 .left, fits .before .if1 .left)) (first .put .ensures) (second .put2 .ensures)
 
 pub part-name-spec : {M : Type 1} → statement M
 part-name-spec =
