@@ -1,11 +1,14 @@
 // The options of a run: how many blocks, and the room for records.
-ghost use Prim.Native.Nat.{_≤_, _<_};
+ghost use mathlib.Core.Path.{_≡_};
+ghost use Prim.Native.Nat.{_<_};
+ghost use Rattle.texts.specs.Figures.{digitsIn};
+ghost use Rattle.commands.specs.Options.{noOptions, wrongOptions, withBlocks, withRoom, optionAt, optionsOf};
 use crate::is;
 use crate::word;
 use telling::complain;
 use texts::Digits;
 
-// All blocks are run where it is whole, and else the first so many.
+// All blocks are run where it is whole, and else the first so many. It is roomy where no room was given.
 pub struct Options {
     pub fine: bool,
     pub whole: bool,
@@ -15,7 +18,7 @@ pub struct Options {
 }
 
 fn no_options() -> Options
-    ensures { λ r. ⌜ r .room ≤ 1048576 ⌝ }
+    ensures { λ r. ⌜ r ≡ noOptions ⌝ }
 {
     Options {
         fine: true,
@@ -27,7 +30,7 @@ fn no_options() -> Options
 }
 
 fn wrong(err: i32, name: &[u8], what: &[u8]) -> Options
-    ensures { λ r. ⌜ r .room ≤ 1048576 ⌝ }
+    ensures { λ r. ⌜ r ≡ wrongOptions ⌝ }
 {
     complain(err, name, what);
     Options {
@@ -41,11 +44,14 @@ fn wrong(err: i32, name: &[u8], what: &[u8]) -> Options
 
 // The options of a command of so many words, which begin at its fifth. Where one is wrong, a line says so.
 pub fn options_of(line: &[u8], count: usize, err: i32) -> Options
-    ensures { λ r. ⌜ r .room ≤ 1048576 ⌝ }
+    ensures { λ r. ⌜ r ≡ optionsOf (now (line .entry)) count ⌝ }
 {
     let none = no_options();
     if count <= 4 {
         return none;
+    }
+    if 8 < count {
+        return wrong(err, word(line, 8), b"is too much: nothing may stand here");
     }
     let first = with_option(line, 4, none, err);
     if count <= 6 {
@@ -54,16 +60,13 @@ pub fn options_of(line: &[u8], count: usize, err: i32) -> Options
     if !first.fine {
         return first;
     }
-    if count <= 8 {
-        return with_option(line, 6, first, err);
-    }
-    wrong(err, word(line, 8), b"is too much: nothing may stand here")
+    with_option(line, 6, first, err)
 }
 
 // The option at a place among the words, and its number after it.
 fn with_option(line: &[u8], k: usize, options: Options, err: i32) -> Options
-    requires { ⌜ (k < 8) × (options .room ≤ 1048576) ⌝ }
-    ensures { λ r. ⌜ r .room ≤ 1048576 ⌝ }
+    requires { ⌜ k < 8 ⌝ }
+    ensures { λ r. ⌜ r ≡ optionAt k (now (line .entry)) options ⌝ }
 {
     let name = word(line, k);
     let number = word(line, k + 1);
@@ -77,8 +80,7 @@ fn with_option(line: &[u8], k: usize, options: Options, err: i32) -> Options
 }
 
 fn with_blocks(number: &[u8], options: Options, err: i32) -> Options
-    requires { ⌜ options .room ≤ 1048576 ⌝ }
-    ensures { λ r. ⌜ r .room ≤ 1048576 ⌝ }
+    ensures { λ r. ⌜ r ≡ withBlocks options (digitsIn (now (number .entry))) ⌝ }
 {
     if !options.whole {
         return wrong(err, b"--blocks", b"is given twice");
@@ -100,8 +102,7 @@ fn with_blocks(number: &[u8], options: Options, err: i32) -> Options
 }
 
 fn with_room(number: &[u8], options: Options, err: i32) -> Options
-    requires { ⌜ options .room ≤ 1048576 ⌝ }
-    ensures { λ r. ⌜ r .room ≤ 1048576 ⌝ }
+    ensures { λ r. ⌜ r ≡ withRoom options (digitsIn (now (number .entry))) ⌝ }
 {
     if !options.roomy {
         return wrong(err, b"--room", b"is given twice");

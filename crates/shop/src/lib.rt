@@ -10,6 +10,8 @@ use plots::plot;
 use running::run;
 use setup_files::setup_in;
 use telling::complain;
+ghost use mathlib.Core.Path.{_≡_};
+ghost use Rattle.shop.specs.Asking.{askedBy};
 
 // What the first word asks for.
 pub enum Asked {
@@ -49,7 +51,9 @@ fn help() {
     );
 }
 
-fn asked_by(given: &[u8]) -> Asked {
+fn asked_by(given: &[u8]) -> Asked
+    ensures { λ r. ⌜ r ≡ askedBy (now (given .entry)) ⌝ }
+{
     if is(given, b"run") {
         return Asked::Run;
     }

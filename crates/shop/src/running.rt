@@ -1,16 +1,15 @@
 // The run of a data set under a setup, from files to a file.
+ghost use mathlib.Core.Path.{_≡_};
 ghost use Prim.Native.Nat.{_≤_};
-ghost use lib.ListN.{length};
-ghost use Rattle.io.specs.Counts.{Counts};
-use answers::Answer;
+ghost use Rattle.shop.specs.Asking.{isRead, partIsRead, mayWrite};
 use answers::show_answer;
 use buffers::list_room;
 use commands::Options;
 use commands::is;
 use commands::options_of;
 use commands::word;
-use records::Listed;
-use refusals::count_of;
+use files::is_part;
+use lists::make_list;
 use setup::Setup;
 use setup_files::setup_in;
 use telling::complain;
@@ -28,25 +27,58 @@ pub fn run(line: &[u8], count: usize, err: i32) {
     if !options.fine {
         return;
     }
+    if may_write(line, err) {
+        run_setup(line, options, err);
+    }
+}
+
+// Whether no file that the run reads would be written over; if one would, a line says so.
+fn may_write(line: &[u8], err: i32) -> bool
+    ensures { λ r. ⌜ r ≡ mayWrite (now (line .entry)) ⌝ }
+{
     if is_read(line) {
         complain(
             err,
             word(line, 3),
             b"is read by this run, so that the list cannot be written there",
         );
-        return;
+        return false;
     }
+    if part_is_read(line) {
+        complain(
+            err,
+            word(line, 3),
+            b"is first written with .part after its name, and this run reads that file",
+        );
+        return false;
+    }
+    true
+}
+
+// Whether the list has the name of a file that the run reads.
+fn is_read(line: &[u8]) -> bool
+    ensures { λ r. ⌜ r ≡ isRead (now (line .entry)) ⌝ }
+{
+    let list = word(line, 3);
+    is(list, word(line, 1)) | is(list, word(line, 2))
+}
+
+// The same of the file beside the list.
+fn part_is_read(line: &[u8]) -> bool
+    ensures { λ r. ⌜ r ≡ partIsRead (now (line .entry)) ⌝ }
+{
+    let list = word(line, 3);
+    is_part(word(line, 1), list) | is_part(word(line, 2), list)
+}
+
+fn run_setup(line: &[u8], options: Options, err: i32)
+    requires { ⌜ options .room ≤ 1048576 ⌝ }
+{
     let known = setup_in(word(line, 1), err);
     if known.fine {
         let setup = known.setup;
         run_file(setup, word(line, 2), word(line, 3), options, err);
     }
-}
-
-// Whether the list has the name of a file that the run reads.
-fn is_read(line: &[u8]) -> bool {
-    let list = word(line, 3);
-    is(list, word(line, 1)) | is(list, word(line, 2))
 }
 
 // The buffer holds one byte more than data may have, so that longer data is refused and not cut.
@@ -65,41 +97,10 @@ fn run_data(setup: Setup, data: &[u8], path: &[u8], options: Options, err: i32)
     requires { ⌜ options .room ≤ 1048576 ⌝ }
 {
     let mut list = list_room();
-    let answer = answer_in(setup, data, &mut list, options);
-    if write_records(path, &list, count_of(answer), err) {
+    let made = make_list(setup, data, &mut list, options);
+    let end = made.end;
+    if files::write_whole(path, &list[..end], err) {
+        let answer = made.answer;
         show_answer(data, answer);
     }
-}
-
-// Runs the data with a part of the list as its room.
-fn answer_in(setup: Setup, data: &[u8], list: &mut [u8], options: Options) -> Answer
-    requires { ⌜ options .room ≤ length (now list) ⌝ }
-{
-    let room = options.room;
-    if options.whole {
-        return interpreter::run(setup, data, &mut list[..room]);
-    }
-    interpreter::run_blocks(setup, data, &mut list[..room], options.blocks)
-}
-
-// Where the first records of a list end, as many as it is told.
-fn records_end(list: &[u8], count: usize) -> usize
-    ensures { λ r. ⌜ Counts r (now (list .entry)) ⌝ }
-{
-    let mut at: usize = 0;
-    let mut left = count;
-    while 0 < left {
-        let Listed::Next(_, next) = loading::read(list, at) else {
-            return at;
-        };
-        at = next;
-        left -= 1;
-    }
-    at
-}
-
-// The first records of a list into a file. Answers whether they are there; where not, a line says why.
-fn write_records(path: &[u8], list: &[u8], count: usize, err: i32) -> bool {
-    let end = records_end(list, count);
-    files::write_whole(path, &list[..end], err)
 }

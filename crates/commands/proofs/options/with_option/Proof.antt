@@ -1,0 +1,57 @@
+-- `commands::options::with_option` meets its contract: the name says which number it is. Assumes nothing.
+use borrow.Author.Needs.{needs}
+use mathlib.Core.Path.{sym, _∙_}
+use Rattle.commands.proofs.Choosing.{option-blocks, option-room, option-other}
+use Rattle.commands.proofs.options.with_option.Statement.{statement}
+use Rattle.commands.proofs.options.with_option.Tie as tie
+
+returns : tie.Need-returns
+returns c =
+    let i = c .before .before in
+    let w = i .before .before in
+    let a = w .before .before .before .args in
+    c .with-blocks .ensures
+    ∙ sym
+    (option-blocks (a .k) (a .line .now) (a .options) (w .before .word .ensures) (w .word2 .ensures) (sym (i .is .ensures) ∙ c .before .if1 .taken))
+
+returns-2 : tie.Need-returns-2
+returns-2 c =
+    let j = c .before .before in
+    let e = j .before .before in
+    let i = e .before in
+    let w = i .before .before in
+    let a = w .before .before .before .args in
+    c .with-room .ensures
+    ∙ sym
+    (option-room (a .k) (a .line .now) (a .options) (w .before .word .ensures) (w .word2 .ensures) (sym (i .is .ensures) ∙ e .if1 .left) (sym (j .is2 .ensures) ∙ c .before .if2 .taken))
+
+returns-3 : tie.Need-returns-3
+returns-3 c =
+    let f = c .before .before in
+    let j = f .before in
+    let e = j .before .before in
+    let i = e .before in
+    let w = i .before .before in
+    let a = w .before .before .before .args in
+    c .wrong .ensures
+    ∙ sym
+    (option-other (a .k) (a .line .now) (a .options) (w .before .word .ensures) (sym (i .is .ensures) ∙ e .if1 .left) (sym (j .is2 .ensures) ∙ f .if2 .left))
+
+pub with-option-spec : {M : Type 1} → statement M
+with-option-spec =
+    tie.close
+    (tie.spec
+    (λ c κs. search needs)
+    (λ c. search needs)
+    (λ c κs. search needs)
+    (λ c. search needs)
+    (λ c κs. search needs)
+    (λ c κs. search needs)
+    returns
+    (λ c. search needs)
+    (λ c κs. search needs)
+    (λ c κs. search needs)
+    returns-2
+    (λ c. search needs)
+    (λ c κs. search needs)
+    returns-3)

@@ -1,0 +1,60 @@
+-- `commands::options::with_room` meets its contract. Assumes nothing.
+use borrow.Author.Needs.{needs}
+use mathlib.Core.Path.{sym, _∙_}
+use Rattle.texts.specs.Figures.{digitsIn}
+use Rattle.commands.proofs.Choosing.{digits-known, room-twice, room-none, room-above, room-is}
+use Rattle.commands.proofs.options.with_room.Statement.{statement}
+use Rattle.commands.proofs.options.with_room.Tie as tie
+
+returns : tie.Need-returns
+returns c =
+    let t = c .before .before .before in
+    let a = t .before .before .before .args in
+    c .wrong .ensures ∙ sym (room-twice (a .options) (digitsIn (a .number .now)) (t .if1 .taken))
+
+returns-2 : tie.Need-returns-2
+returns-2 c =
+    let told = c .before .before .before in
+    let d = told .before .before in
+    let a = d .before .before .before .before .args in
+    c .wrong2 .ensures
+    ∙ sym (room-none (a .options) (digits-known (a .number .now) (d .digits-at .ensures) (told .enum-told .given .1)))
+
+returns-3 : tie.Need-returns-3
+returns-3 c =
+    let t = c .before .before .before in
+    let n = t .before .before in
+    let d = n .before .before in
+    let a = d .before .before .before .before .args in
+    c .wrong3 .ensures
+    ∙ sym
+    (room-above (a .options) (digits-known (a .number .now) (d .digits-at .ensures) (n .n .given .1)) (d .before .if1 .left) (t .if2 .taken))
+
+returns-4 : tie.Need-returns-4
+returns-4 c =
+    let n = c .before .before in
+    let d = n .before .before in
+    let a = d .before .before .before .before .args in
+    sym
+    (room-is (a .options) (digits-known (a .number .now) (d .digits-at .ensures) (n .n .given .1)) (d .before .if1 .left) (c .if2 .left))
+
+pub with-room-spec : {M : Type 1} → statement M
+with-room-spec =
+    tie.close
+    (tie.spec
+    (λ c. search needs)
+    (λ c. search needs)
+    (λ c κs. search needs)
+    returns
+    (λ c κs. search needs)
+    (λ c. search needs)
+    (λ c. search needs)
+    (λ c. search needs)
+    (λ c. search needs)
+    (λ c κs. search needs)
+    returns-2
+    (λ c. search needs)
+    (λ c. search needs)
+    (λ c κs. search needs)
+    returns-3
+    returns-4)

@@ -1,0 +1,44 @@
+-- The list that a run leaves for a file, by the rules of the run.
+use Prim.Native.Nat.{ℕ, zero, suc, _≤_}
+use mathlib.Core.Path.{_≡_}
+use mathlib.Core.List.{List, _++_}
+use lib.ListN.{length, take, drop}
+use Rattle.terms.specs.Terms.{if_then_else_}
+use Rattle.setup.specs.declared.Setup.{Setup}
+use Rattle.records.specs.declared.Listed.{Listed}
+use Rattle.records.specs.declared.Listed.the-variants.{Next, End, Faulty}
+use Rattle.records.specs.declared.Record.{Record}
+use Rattle.records.specs.Layout.{listBytes}
+use Rattle.records.specs.Reading.{readAt}
+use Rattle.commands.specs.declared.options.Options.{Options}
+use Rattle.runs.specs.Run.{answerOf, recordsOf}
+use Rattle.runs.specs.declared.Budget.{Budget}
+use Rattle.runs.specs.declared.Budget.the-variants.{Whole, First}
+use Rattle.lists.specs.declared.Made.{Made}
+
+-- "N: only the first N blocks"
+unfoldable pub budgetOf : Options → Budget
+budgetOf o = if o .whole then Whole else First (o .blocks)
+
+-- the records of a run with these options
+abbrev pub madeBy : Setup → List ℕ → Options → List Record
+madeBy s bytes o = recordsOf s bytes (o .room) (budgetOf o)
+
+-- where the reader stands after so many records from a place on, or where it finds none any more
+unfoldable pub endBy : Listed → ℕ → (ℕ → ℕ) → ℕ
+endBy (Next r next) at go = go next
+endBy End at go = at
+endBy (Faulty fault place) at go = at
+
+unfoldable pub endAfter : ℕ → List ℕ → ℕ → ℕ
+endAfter zero l at = at
+endAfter (suc n) l at = endBy (readAt l at) at (endAfter n l)
+
+-- What such a run owes: its answer; its records from the first byte of the buffer on, within the room, and every byte after
+-- them as it was; and where they end, so that the bytes before it are the records'.
+pub record Makes (s : Setup) (bytes : List ℕ) (o : Options) (was is : List ℕ) (m : Made) : Type 0 where
+  pub answer : m .answer ≡ answerOf s bytes (o .room) (budgetOf o)
+  pub buffer : is ≡ listBytes (madeBy s bytes o) ++ drop (length (listBytes (madeBy s bytes o))) was
+  pub end : m .end ≡ length (listBytes (madeBy s bytes o))
+  pub fits : m .end ≤ o .room
+  pub file : take (m .end) is ≡ listBytes (madeBy s bytes o)

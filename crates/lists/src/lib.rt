@@ -1,0 +1,61 @@
+// The list that a run leaves for a file: the run with a part of a buffer as its room, and where its records end there.
+use commands::Options;
+use records::Listed;
+use refusals::Answer;
+use refusals::count_of;
+use setup::Setup;
+ghost use mathlib.Core.Path.{_≡_};
+ghost use Prim.Native.Nat.{_≤_};
+ghost use lib.ListN.{length};
+ghost use Rattle.interpreter.specs.Owing.{Owes};
+ghost use Rattle.lists.specs.Lists.{budgetOf, endAfter, Makes};
+
+// The answer of a run, and where its records end in the buffer.
+pub struct Made {
+    pub answer: Answer,
+    pub end: usize,
+}
+
+// Runs as many blocks as the options say.
+fn answer_in(setup: Setup, bytes: &[u8], list: &mut [u8], options: Options) -> Answer
+    ensures { λ r. ⌜ Owes setup (now (bytes .entry)) (budgetOf options) (now (list .entry)) (now (list .exit)) r ⌝ }
+{
+    if options.whole {
+        return interpreter::run(setup, bytes, list);
+    }
+    interpreter::run_blocks(setup, bytes, list, options.blocks)
+}
+
+// Where the first records of a list end, as many as it is told.
+fn records_end(list: &[u8], count: usize) -> usize
+    ensures { λ r. ⌜ r ≡ endAfter count (now (list .entry)) 0 ⌝ }
+{
+    let mut at: usize = 0;
+    let mut left = count;
+    while 0 < left {
+        match loading::read(list, at) {
+            Listed::Next(_, next) => {
+                at = next;
+            }
+            Listed::End => {
+                return at;
+            }
+            Listed::Faulty(_, _) => {
+                return at;
+            }
+        }
+        left -= 1;
+    }
+    at
+}
+
+// Runs the data into a buffer. What stands before the end are the records, and nothing else.
+pub fn make_list(setup: Setup, bytes: &[u8], list: &mut [u8], options: Options) -> Made
+    requires { ⌜ options .room ≤ length (now list) ⌝ }
+    ensures { λ r. ⌜ Makes setup (now (bytes .entry)) options (now (list .entry)) (now (list .exit)) r ⌝ }
+{
+    let room = options.room;
+    let answer = answer_in(setup, bytes, &mut list[..room], options);
+    let end = records_end(list, count_of(answer));
+    Made { answer, end }
+}

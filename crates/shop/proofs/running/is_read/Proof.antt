@@ -1,0 +1,23 @@
+-- `shop::running::is_read` meets its contract. Assumes nothing.
+use borrow.Author.Needs.{needs}
+use Rattle.shop.specs.Asking.{isRead}
+use Rattle.shop.proofs.running.is_read.Statement.{statement}
+use Rattle.shop.proofs.running.is_read.Tie as tie
+
+returns : tie.Need-returns
+unfolding isRead
+returns c =
+    let i = c .before .before in
+    rw
+    (i .is .ensures, c .is2 .ensures, i .before .before .word .ensures, i .before .word2 .ensures, c .before .word3 .ensures)
+
+pub is-read-spec : {M : Type 1} → statement M
+is-read-spec =
+    tie.close
+    (tie.spec
+    (λ c κs. search needs)
+    (λ c κs. search needs)
+    (λ c κs. search needs)
+    (λ c κs. search needs)
+    (λ c κs. search needs)
+    returns)
