@@ -1,7 +1,7 @@
 -- The options of a run, as the help tells them: "[--blocks N] [--room R]". "N: only the first N blocks; R: at most R bytes
 -- of records, 1048576 where it is not given". Each may be given once, in either order.
 use Prim.Native.Nat.{ℕ, _+_}
-use mathlib.Core.Bool.{Bool, true, false, not, _&&_, _||_}
+use mathlib.Core.Bool.{true, false, _&&_}
 use mathlib.Core.List.{List}
 use lib.Dec.{leb}
 use Rattle.terms.specs.Terms.{if_then_else_, bytes}

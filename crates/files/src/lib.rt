@@ -5,5 +5,4 @@ mod writing;
 pub use reading::Got;
 pub use reading::read_start;
 pub use reading::read_whole;
-pub use writing::is_part;
 pub use writing::write_whole;

@@ -3,7 +3,7 @@ use buffers::list_room;
 use buffers::picture_room;
 use commands::is;
 use commands::word;
-use files::is_part;
+use parts::is_part;
 use pictures::Drawn;
 use setup::Setup;
 use setup_files::setup_in;

@@ -1,6 +1,6 @@
 -- What a setup file's text is worth to a command, and the line of a place in it.
 use Prim.Native.Nat.{ℕ, _+_}
-use mathlib.Core.Bool.{Bool, true, false}
+use mathlib.Core.Bool.{Bool, true, false, _&&_}
 use mathlib.Core.List.{List}
 use lib.ListN.{take}
 use Rattle.lines.specs.Blocks.{isLf}
@@ -18,9 +18,9 @@ noneWrong OtherName = false
 noneWrong TooFew = false
 noneWrong TooMuch = false
 
--- the setup that was read, fine just where nothing is wrong
-unfoldable pub knownBy : Reading → Known
-knownBy read = record { fine = noneWrong (read .wrong); setup = read .setup }
+-- the setup that was read, fine just where all of the text was there and nothing is wrong with it
+unfoldable pub knownBy : Bool → Reading → Known
+knownBy whole read = record { fine = whole && noneWrong (read .wrong); setup = read .setup }
 
 -- the number of the line that a place lies in: 1, and one more for each LF before the place
 unfoldable pub lineOf : List ℕ → ℕ → ℕ

@@ -3,11 +3,9 @@ mod limits;
 
 pub use limits::show_fault;
 use setup::Setup;
-use setups::Reading;
 use telling::begin_line;
 use texts::Wrong;
 ghost use mathlib.Core.Path.{_≡_};
-ghost use mathlib.Core.Bool.{false};
 ghost use Rattle.setups.specs.Setups.{setupIn};
 ghost use Rattle.setup_files.specs.Knowing.{noneWrong, knownBy, lineOf};
 
@@ -21,30 +19,22 @@ pub struct Known {
 pub fn setup_in(path: &[u8], err: i32) -> Known {
     let mut text = io::large_buffer();
     let got = files::read_whole(path, &mut text, err);
-    if got.fine {
-        let n = got.count;
-        return known_from(path, &text[..n], err);
-    }
-    unknown()
+    let n = got.count;
+    known_from(path, &text[..n], got.fine, err)
 }
 
-// No setup at all, of a file that could not be read.
-fn unknown() -> Known
-    ensures { λ r. ⌜ r .fine ≡ false ⌝ }
-{
-    let read = setups::read_setup(b"");
-    let setup = read.setup;
-    Known { fine: false, setup }
-}
-
-// The setup that a file's text gives. If it gives none, a line says what is wrong with it.
-fn known_from(path: &[u8], text: &[u8], err: i32) -> Known
-    ensures { λ r. ⌜ r ≡ knownBy (setupIn (now (text .entry))) ⌝ }
+// The setup that a file's text gives, where all of it was read. If it gives none, a line says what is wrong with it.
+fn known_from(path: &[u8], text: &[u8], whole: bool, err: i32) -> Known
+    ensures { λ r. ⌜ r ≡ knownBy whole (setupIn (now (text .entry))) ⌝ }
 {
     let read = setups::read_setup(text);
     let setup = read.setup;
+    if !whole {
+        return Known { fine: false, setup };
+    }
+    let wrong = read.wrong;
     Known {
-        fine: is_read(path, text, read, err),
+        fine: is_read(path, text, wrong, read.at, err),
         setup,
     }
 }
@@ -62,17 +52,16 @@ fn none_wrong(wrong: Wrong) -> bool
     }
 }
 
-// Whether a setup was read; if not, a line says what is wrong with its text, and in which line of it.
-fn is_read(path: &[u8], text: &[u8], read: Reading, err: i32) -> bool
-    ensures { λ r. ⌜ r ≡ noneWrong (read .wrong) ⌝ }
+// Whether nothing is wrong with a text; if something is, a line says what, and in which line of the text.
+fn is_read(path: &[u8], text: &[u8], wrong: Wrong, at: usize, err: i32) -> bool
+    ensures { λ r. ⌜ r ≡ noneWrong wrong ⌝ }
 {
-    let wrong = read.wrong;
     if none_wrong(wrong) {
         return true;
     }
     begin_line(err, path);
     io::write_all(err, b"line ");
-    io::print_decimal(err, line_of(text, read.at));
+    io::print_decimal(err, line_of(text, at));
     show_wrong(err, wrong);
     false
 }

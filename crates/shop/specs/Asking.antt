@@ -4,7 +4,7 @@ use mathlib.Core.Bool.{Bool, not, _||_}
 use mathlib.Core.List.{List}
 use Rattle.terms.specs.Terms.{if_then_else_, bytes}
 use Rattle.texts.specs.Texts.{sameBytes}
-use Rattle.files.specs.Parts.{partOf}
+use Rattle.parts.specs.Parts.{partOf}
 use Rattle.commands.specs.Words.{wordOf}
 use Rattle.shop.specs.declared.Asked.{Asked}
 use Rattle.shop.specs.declared.Asked.the-variants.{Run, Show, Plot, Check, Other}

@@ -1,12 +1,22 @@
 -- `setup_files::known_from` meets its contract. Assumes nothing.
 use borrow.Author.Needs.{needs}
+use borrow.Author.Tests.{not-true, not-false}
 use Rattle.setup_files.specs.Knowing.{knownBy}
 use Rattle.setup_files.proofs.known_from.Statement.{statement}
 use Rattle.setup_files.proofs.known_from.Tie as tie
 
 returns : tie.Need-returns
 unfolding knownBy
-returns c = rw (c .is-read .ensures, c .before .before .read-setup .ensures)
+returns c =
+    let read = c .before .before in
+    rw (not-true (read .before .before .before .args .whole) (c .if1 .taken), read .read-setup .ensures)
+
+returns-2 : tie.Need-returns-2
+unfolding knownBy
+returns-2 c =
+    let left = c .before in
+    let read = left .before .before in
+    rw (not-false (read .before .before .before .args .whole) (left .if1 .left), c .is-read .ensures, read .read-setup .ensures)
 
 pub known-from-spec : {M : Type 1} → statement M
-known-from-spec = tie.close (tie.spec (λ c κs. search needs) (λ c κs. search needs) returns)
+known-from-spec = tie.close (tie.spec (λ c κs. search needs) returns (λ c κs. search needs) returns-2)

@@ -13,7 +13,7 @@ use Rattle.io.proofs.Counting.{counts}
 use Rattle.terms.specs.Terms.{bytes}
 use Rattle.texts.specs.Texts.{sameBytes}
 use Rattle.texts.proofs.Places.{same-lengths}
-use Rattle.files.specs.Parts.{partOf, partIn, Puts, Names}
+use Rattle.parts.specs.Parts.{partOf, partIn, Puts, Names}
 
 -- ---- the name compared
 

@@ -1,9 +1,9 @@
--- `files::writing::part_name` meets its contract: the ending fits after a path that is short enough. Assumes nothing.
+-- `parts::part_name` meets its contract: the ending fits after a path that is short enough. Assumes nothing.
 use borrow.Author.Needs.{needs}
 use native.Mathlib.Omega.{arith}
-use Rattle.files.proofs.Naming.{no-room, named}
-use Rattle.files.proofs.writing.part_name.Statement.{statement}
-use Rattle.files.proofs.writing.part_name.Tie as tie
+use Rattle.parts.proofs.Naming.{no-room, named}
+use Rattle.parts.proofs.part_name.Statement.{statement}
+use Rattle.parts.proofs.part_name.Tie as tie
 
 returns : tie.Need-returns
 returns c =

@@ -1,13 +1,13 @@
--- `files::writing::put` meets its contract: each turn copies one byte more. Assumes nothing.
+-- `parts::put` meets its contract: each turn copies one byte more. Assumes nothing.
 use borrow.Author.Needs.{needs}
 use Prim.Native.Nat.{ℕ, _≤_, _-_}
 use mathlib.Core.Path.{_≡_, ap, _∙_}
 use native.Mathlib.Omega.{arith}
 use lib.ListN.{length}
 use lib.Seq.{paste, paste-zero}
-use Rattle.files.proofs.Naming.{copied-more}
-use Rattle.files.proofs.writing.put.Statement.{statement}
-use Rattle.files.proofs.writing.put.Tie as tie
+use Rattle.parts.proofs.Naming.{copied-more}
+use Rattle.parts.proofs.put.Statement.{statement}
+use Rattle.parts.proofs.put.Tie as tie
 
 abbrev Inv-loop : tie.InvT-loop
 Inv-loop name₀ at text i₀ name i = (i ≤ length text) × (length name ≡ length name₀) × (name ≡ paste name₀ at text i)

@@ -1,9 +1,9 @@
--- `files::writing::is_part` meets its contract: the path, and what stands after it. Assumes nothing.
+-- `parts::is_part` meets its contract: the path, and what stands after it. Assumes nothing.
 use borrow.Author.Needs.{needs}
-use mathlib.Core.Path.{sym, _∙_}
-use Rattle.files.proofs.Naming.{part-short, part-same}
-use Rattle.files.proofs.writing.is_part.Statement.{statement}
-use Rattle.files.proofs.writing.is_part.Tie as tie
+use mathlib.Core.Path.{sym}
+use Rattle.parts.proofs.Naming.{part-short, part-same}
+use Rattle.parts.proofs.is_part.Statement.{statement}
+use Rattle.parts.proofs.is_part.Tie as tie
 
 returns : tie.Need-returns
 returns c =
