@@ -28,7 +28,7 @@ pub fn run(line: &[u8], count: usize, err: i32) {
         return;
     }
     if may_write(line, err) {
-        run_setup(line, options, err);
+        run_files(line, options, err);
     }
 }
 
@@ -71,25 +71,20 @@ fn part_is_read(line: &[u8]) -> bool
     is_part(word(line, 1), list) | is_part(word(line, 2), list)
 }
 
-fn run_setup(line: &[u8], options: Options, err: i32)
+// The buffer holds one byte more than data may have, so that longer data is refused and not cut.
+fn run_files(line: &[u8], options: Options, err: i32)
     requires { ⌜ options .room ≤ 1048576 ⌝ }
 {
     let known = setup_in(word(line, 1), err);
-    if known.fine {
-        let setup = known.setup;
-        run_file(setup, word(line, 2), word(line, 3), options, err);
+    if !known.fine {
+        return;
     }
-}
-
-// The buffer holds one byte more than data may have, so that longer data is refused and not cut.
-fn run_file(setup: Setup, path: &[u8], list: &[u8], options: Options, err: i32)
-    requires { ⌜ options .room ≤ 1048576 ⌝ }
-{
     let mut data = io::large_buffer();
-    let got = files::read_start(path, &mut data, err);
+    let got = files::read_start(word(line, 2), &mut data, err);
     if got.fine {
         let n = got.count;
-        run_data(setup, &data[..n], list, options, err);
+        let setup = known.setup;
+        run_data(setup, &data[..n], word(line, 3), options, err);
     }
 }
 

@@ -7,8 +7,8 @@ use Rattle.commands.proofs.Choosing.{room-fits}
 use Rattle.shop.proofs.running.run.Statement.{statement}
 use Rattle.shop.proofs.running.run.Tie as tie
 
-run-setup-requires : tie.Need-run-setup-requires
-run-setup-requires c κs =
+run-files-requires : tie.Need-run-files-requires
+run-files-requires c κs =
     let o = c .before .before .before .before in
     let a = o .before .before .before .args in
     omega (arith, ap (λ (x : Options). x .room) (o .options-of .ensures), room-fits (a .line .now) (a .count))
@@ -24,6 +24,6 @@ run-spec =
     (λ c κs. search needs)
     (λ c. search needs)
     (λ c κs. search needs)
-    run-setup-requires
+    run-files-requires
     (λ c. search needs)
     (λ c. search needs))
