@@ -13,7 +13,7 @@ use borrow.Author.Tests.{leb-true}
 use Rattle.terms.proofs.Laws.{both-left, both-right}
 use Rattle.lines.specs.Blocks.{lengthFrom, beginsWith}
 use Rattle.lines.proofs.Lines.{length-bound, begins-end}
-use Rattle.texts.specs.Texts.{next, wordAt}
+use Rattle.texts.specs.Texts.{noneWrong, next, wordAt}
 use Rattle.texts.specs.Figures.{digitsIn}
 use Rattle.texts.specs.declared.Digits.{Digits}
 use Rattle.texts.specs.declared.Digits.the-variants.{Others}
@@ -21,7 +21,7 @@ use Rattle.texts.proofs.Places.{standing, nothing-there}
 use Rattle.setup.specs.declared.Setup.{Setup}
 use Rattle.setups.specs.declared.Reading.{Reading}
 use Rattle.setups.specs.Setups.{setupIn}
-use Rattle.headers.specs.Cases.{countAt, sizeOf, isSound, lineFrom, caseAt}
+use Rattle.headers.specs.Cases.{countAt, sizeOf, lineFrom, caseAt}
 use Rattle.headers.specs.declared.Counted.{Counted}
 use Rattle.headers.specs.declared.Case.{Case}
 
@@ -65,7 +65,7 @@ module _
         → room ≡ sizeOf (second .count)
         → size ≡ sizeOf (third .count)
         → end ≡ min (from + size) (length input)
-        → sound ≡ isSound (read .wrong)
+        → sound ≡ noneWrong (read .wrong)
         → lf ≡ beginsWith 10 (drop end input)
         → record { setup = read .setup; blocks = first .count; room = room; from = from; end = end; stands = sound && leb room most && lf }
         ≡ caseAt input at most
@@ -107,7 +107,7 @@ stands-inside : (input : List ℕ) (at most : ℕ) → caseAt input at most .sta
 unfolding caseAt
 stands-inside input at most h =
     let line = at + lengthFrom (drop at input) in
-    fits-inside input at _ _ _ most (isSound (setupIn (lineFrom (drop line input)) .wrong)) _ _ h (omega arith)
+    fits-inside input at _ _ _ most (noneWrong (setupIn (lineFrom (drop line input)) .wrong)) _ _ h (omega arith)
 
 pub case-inside : (input : List ℕ) (at most : ℕ) {c : Case} → c ≡ caseAt input at most → c .stands ≡ true → Inside at (length input) most c
 case-inside input at most e h = rw e (stands-inside input at most (sym (ap (λ (c : Case). c .stands) e) ∙ h))

@@ -8,12 +8,10 @@ use lib.Dec.{leb}
 use lib.ListN.{length, take, drop}
 use Rattle.terms.specs.Terms.{byte}
 use Rattle.lines.specs.Blocks.{lengthFrom, beginsWith}
-use Rattle.texts.specs.Texts.{next, wordAt}
+use Rattle.texts.specs.Texts.{noneWrong, next, wordAt}
 use Rattle.texts.specs.Figures.{digitsIn}
 use Rattle.texts.specs.declared.Digits.{Digits}
 use Rattle.texts.specs.declared.Digits.the-variants.{Are, Others}
-use Rattle.texts.specs.declared.Wrong.{Wrong}
-use Rattle.texts.specs.declared.Wrong.the-variants.{Nothing, NoNumber, TooLarge, OtherName, TooFew, TooMuch}
 use Rattle.setups.specs.Setups.{setupIn}
 use Rattle.headers.specs.declared.Counted.{Counted}
 use Rattle.headers.specs.declared.Case.{Case}
@@ -29,15 +27,6 @@ countAt text at =
 abbrev pub sizeOf : Digits → ℕ
 sizeOf (Are n) = n
 sizeOf Others = 2 ^ 64 - 1
-
--- the setup was read
-abbrev pub isSound : Wrong → Bool
-isSound Nothing = true
-isSound NoNumber = false
-isSound TooLarge = false
-isSound OtherName = false
-isSound TooFew = false
-isSound TooMuch = false
 
 -- the line that the bytes begin with, its end among it
 abbrev pub lineFrom : List ℕ → List ℕ
@@ -61,5 +50,5 @@ caseAt input at most =
       room = sizeOf (room .count);
       from = from;
       end = end;
-      stands = isSound (read .wrong) && leb (sizeOf (room .count)) most && beginsWith (byte "\n") (drop end input);
+      stands = noneWrong (read .wrong) && leb (sizeOf (room .count)) most && beginsWith (byte "\n") (drop end input);
     }

@@ -3,12 +3,11 @@
 // the setup's 35 numbers, the data's bytes as they are, and a line's end.
 use setup::Setup;
 use texts::Digits;
-use texts::Wrong;
 ghost use mathlib.Core.Path.{_≡_};
 ghost use Prim.Native.Nat.{_+_, _≤_, min};
 ghost use lib.ListN.{length, drop};
 ghost use Rattle.lines.specs.Blocks.{beginsWith};
-ghost use Rattle.headers.specs.Cases.{countAt, sizeOf, isSound, caseAt};
+ghost use Rattle.headers.specs.Cases.{countAt, sizeOf, caseAt};
 
 // A word as a count, and the place after it.
 pub struct Counted {
@@ -51,19 +50,6 @@ fn size_of(count: Digits) -> u64
     match count {
         Digits::Are(n) => n,
         Digits::Others => 18_446_744_073_709_551_615,
-    }
-}
-
-fn is_sound(wrong: Wrong) -> bool
-    ensures { λ r. ⌜ r ≡ isSound wrong ⌝ }
-{
-    match wrong {
-        Wrong::Nothing => true,
-        Wrong::NoNumber => false,
-        Wrong::TooLarge => false,
-        Wrong::OtherName => false,
-        Wrong::TooFew => false,
-        Wrong::TooMuch => false,
     }
 }
 
@@ -113,6 +99,6 @@ pub fn case_at(input: &[u8], at: usize, most: usize) -> Case
         room,
         from,
         end,
-        stands: is_sound(wrong) & (room <= most as u64) & is_line_end(input, end),
+        stands: texts::none_wrong(wrong) & (room <= most as u64) & is_line_end(input, end),
     }
 }

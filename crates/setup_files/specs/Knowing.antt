@@ -1,22 +1,13 @@
 -- What a setup file's text is worth to a command, and the line of a place in it.
 use Prim.Native.Nat.{ℕ, _+_}
-use mathlib.Core.Bool.{Bool, true, false, _&&_}
+use mathlib.Core.Bool.{Bool, _&&_}
 use mathlib.Core.List.{List}
 use lib.ListN.{take}
 use Rattle.lines.specs.Blocks.{isLf}
 use Rattle.words.specs.Numbers.{count}
-use Rattle.texts.specs.declared.Wrong.{Wrong}
-use Rattle.texts.specs.declared.Wrong.the-variants.{Nothing, NoNumber, TooLarge, OtherName, TooFew, TooMuch}
+use Rattle.texts.specs.Texts.{noneWrong}
 use Rattle.setups.specs.declared.Reading.{Reading}
 use Rattle.setup_files.specs.declared.Known.{Known}
-
-abbrev pub noneWrong : Wrong → Bool
-noneWrong Nothing = true
-noneWrong NoNumber = false
-noneWrong TooLarge = false
-noneWrong OtherName = false
-noneWrong TooFew = false
-noneWrong TooMuch = false
 
 -- the setup that was read, fine just where all of the text was there and nothing is wrong with it
 unfoldable pub knownBy : Bool → Reading → Known

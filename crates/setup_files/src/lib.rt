@@ -5,9 +5,11 @@ pub use limits::show_fault;
 use setup::Setup;
 use telling::begin_line;
 use texts::Wrong;
+use texts::none_wrong;
 ghost use mathlib.Core.Path.{_≡_};
+ghost use Rattle.texts.specs.Texts.{noneWrong};
 ghost use Rattle.setups.specs.Setups.{setupIn};
-ghost use Rattle.setup_files.specs.Knowing.{noneWrong, knownBy, lineOf};
+ghost use Rattle.setup_files.specs.Knowing.{knownBy, lineOf};
 
 // A setup is of use only where all is fine. Else a line has said what is wrong.
 pub struct Known {
@@ -36,19 +38,6 @@ fn known_from(path: &[u8], text: &[u8], whole: bool, err: i32) -> Known
     Known {
         fine: is_read(path, text, wrong, read.at, err),
         setup,
-    }
-}
-
-fn none_wrong(wrong: Wrong) -> bool
-    ensures { λ r. ⌜ r ≡ noneWrong wrong ⌝ }
-{
-    match wrong {
-        Wrong::Nothing => true,
-        Wrong::NoNumber => false,
-        Wrong::TooLarge => false,
-        Wrong::OtherName => false,
-        Wrong::TooFew => false,
-        Wrong::TooMuch => false,
     }
 }
 

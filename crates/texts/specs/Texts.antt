@@ -6,8 +6,18 @@ use lib.Dec.{eqb}
 use lib.ListN.{drop}
 use Rattle.terms.specs.Terms.{if_then_else_, byte, fromTo}
 use Rattle.words.specs.Numbers.{run}
+use Rattle.texts.specs.declared.Wrong.{Wrong}
+use Rattle.texts.specs.declared.Wrong.the-variants.{Nothing, NoNumber, TooLarge, OtherName, TooFew, TooMuch}
 use Rattle.texts.specs.declared.Space.{Space}
 use Rattle.texts.specs.declared.Space.the-variants.{Gap, Word}
+
+abbrev pub noneWrong : Wrong → Bool
+noneWrong Nothing = true
+noneWrong NoNumber = false
+noneWrong TooLarge = false
+noneWrong OtherName = false
+noneWrong TooFew = false
+noneWrong TooMuch = false
 
 -- blanks, tabs, CR and LF separate words
 abbrev pub isBlank : ℕ → Bool

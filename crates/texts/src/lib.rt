@@ -6,7 +6,7 @@ ghost use Prim.Native.Nat.{_+_, _^_, _≤_, _<_};
 ghost use lib.ListN.{length};
 ghost use lib.Seq.{slice};
 ghost use Rattle.words.specs.declared.Sign.the-variants.{Plain, Minus};
-ghost use Rattle.texts.specs.Texts.{isBlank, spaceOf, next, inWord, wordAt, sameBytes};
+ghost use Rattle.texts.specs.Texts.{noneWrong, isBlank, spaceOf, next, inWord, wordAt, sameBytes};
 ghost use Rattle.texts.specs.Figures.{digitsIn, fitted, worthOf};
 
 // What is wrong with a setup file.
@@ -35,6 +35,19 @@ pub enum Digits {
 pub enum Worth {
     Fit(Len),
     Unfit(Wrong),
+}
+
+pub fn none_wrong(wrong: Wrong) -> bool
+    ensures { λ r. ⌜ r ≡ noneWrong wrong ⌝ }
+{
+    match wrong {
+        Wrong::Nothing => true,
+        Wrong::NoNumber => false,
+        Wrong::TooLarge => false,
+        Wrong::OtherName => false,
+        Wrong::TooFew => false,
+        Wrong::TooMuch => false,
+    }
 }
 
 fn is_blank(b: u8) -> bool

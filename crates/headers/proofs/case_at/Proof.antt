@@ -58,8 +58,8 @@ end-after-requires c κs =
     let a = d .before .before .before in
     data-inside (a .args .input .now) (a .args .at) (d .before .next-block .ensures) (d .next-block2 .ensures) (a .pre)
 
-is-sound-requires : tie.Need-is-sound-requires
-is-sound-requires c κs = search needs
+none-wrong-requires : tie.Need-none-wrong-requires
+none-wrong-requires c κs = search needs
 
 is-line-end-requires : tie.Need-is-line-end-requires
 is-line-end-requires c κs = search needs
@@ -71,7 +71,7 @@ returns c =
     let read = words .before .before in
     let from = read .before .before in
     let a = from .before .before .before .args in
-    case-is (a .input .now) (a .at) (from .before .next-block .ensures) (from .next-block2 .ensures) (a .most) (read .read-setup .ensures) (words .count-at .ensures) (size .before .before .before .count-at2 .ensures) (size .before .before .count-at3 .ensures) (size .before .size-of .ensures) (size .size-of2 .ensures) (c .before .before .before .end-after .ensures) (c .before .is-sound .ensures) (c .is-line-end .ensures)
+    case-is (a .input .now) (a .at) (from .before .next-block .ensures) (from .next-block2 .ensures) (a .most) (read .read-setup .ensures) (words .count-at .ensures) (size .before .before .before .count-at2 .ensures) (size .before .before .count-at3 .ensures) (size .before .size-of .ensures) (size .size-of2 .ensures) (c .before .before .before .end-after .ensures) (c .before .none-wrong .ensures) (c .is-line-end .ensures)
 
 pub case-at-spec : {M : Type 1} → statement M
 case-at-spec =
@@ -92,6 +92,6 @@ case-at-spec =
     size-of-requires
     size-of-requires-2
     end-after-requires
-    is-sound-requires
+    none-wrong-requires
     is-line-end-requires
     returns)
