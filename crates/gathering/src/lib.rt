@@ -12,9 +12,7 @@ use words::Word;
 ghost use mathlib.Core.Path.{_≡_};
 ghost use Prim.Native.Nat.{_≤_};
 ghost use lib.ListN.{length};
-ghost use Rattle.terms.specs.Terms.{if_then_else_};
 ghost use Rattle.reading.specs.Whole.{IsRead};
-ghost use Rattle.reading.specs.declared.Status.the-variants.{Fine, MayNot};
 
 // What fills a place that holds no word: no word has the letter 0.
 fn no_word() -> Word
@@ -33,15 +31,6 @@ fn no_word() -> Word
     }
 }
 
-fn status_of(stopped: bool, wrong: usize) -> Status
-    ensures { λ r. ⌜ r ≡ (if stopped then MayNot wrong else Fine) ⌝ }
-{
-    if stopped {
-        return Status::MayNot(wrong);
-    }
-    Status::Fine
-}
-
 // The words of the block's text from a place on, under the modes that held before. After the first word that may not stand
 // the rest is only looked through for what cannot be read. What is kept stands in variables of its own and is put together
 // at the end, so that nothing is copied from word to word.
@@ -56,40 +45,13 @@ pub fn read_words(s: &[u8], from: usize, main: bool, before: Modes) -> Reading
     let mut misc = Misc::Other;
     let mut modes = before;
     let mut stopped = false;
-    let mut wrong: usize = 0;
+    let mut status = Status::Fine;
     let mut i = from;
-    loop {
-        if lines::text_ends(s, i) {
-            let status = status_of(stopped, wrong);
-            let seen = Seen {
-                letters,
-                groups,
-                misc,
-                modes,
-            };
-            return Reading {
-                status,
-                seen,
-                count,
-                words,
-                end: i,
-            };
-        }
+    while !lines::text_ends(s, i) {
         match reading::item_at(s, i) {
             Item::Unreadable => {
-                let seen = Seen {
-                    letters,
-                    groups,
-                    misc,
-                    modes,
-                };
-                return Reading {
-                    status: Status::Unreadable(i),
-                    seen,
-                    count,
-                    words,
-                    end: i,
-                };
+                status = Status::Unreadable(i);
+                break;
             }
             Item::Gap(next) => {
                 i = next;
@@ -103,7 +65,7 @@ pub fn read_words(s: &[u8], from: usize, main: bool, before: Modes) -> Reading
                 match reading::role_of(main, letters[k], letters[6], groups, misc, w) {
                     Role::MayNot => {
                         stopped = true;
-                        wrong = w.at;
+                        status = Status::MayNot(w.at);
                     }
                     Role::Code(c) => {
                         let g = codes::group_of(c) as usize;
@@ -123,5 +85,18 @@ pub fn read_words(s: &[u8], from: usize, main: bool, before: Modes) -> Reading
                 }
             }
         }
+    }
+    let seen = Seen {
+        letters,
+        groups,
+        misc,
+        modes,
+    };
+    Reading {
+        status,
+        seen,
+        count,
+        words,
+        end: i,
     }
 }

@@ -126,18 +126,18 @@ pub record Sofar (main : Bool) (m : Modes) (l : List ℕ) (from i : ℕ) (seen :
   pub written : (j : ℕ) (d : Word) → j < count → Written (getD words j d .number)
 
 -- a word may not stand, and the rest is only looked through for an unreadable byte
-pub record Halted (main : Bool) (l : List ℕ) (from i wrong : ℕ) : Type 0 where
+pub record Halted (main : Bool) (l : List ℕ) (from i : ℕ) (status : Status) : Type 0 where
   pub inside : i ≤ length l
-  pub status : statusOf main (wordsAt l from) ≡ statusAfter wrong (wordsAt l i)
+  pub wrong : ℕ
+  pub named : status ≡ MayNot wrong
+  pub left : statusOf main (wordsAt l from) ≡ statusAfter wrong (wordsAt l i)
 
 -- along the block, halted or not
-pub record Along (stopped main : Bool) (m : Modes) (l : List ℕ) (from i wrong : ℕ) (seen : Seen) (count : ℕ) (words : List Word) : Type 0 where
+pub record Along (stopped main : Bool) (m : Modes) (l : List ℕ) (from i : ℕ) (status : Status) (seen : Seen) (count : ℕ) (words : List Word) : Type 0 where
   pub inside : i ≤ length l
+  pub fine : stopped ≡ false → status ≡ Fine
   pub going : stopped ≡ false → Sofar main m l from i seen count words
-  pub halted : stopped ≡ true → Halted main l from i wrong
-
-abbrev pub statusBy : Bool → ℕ → Status
-statusBy stopped wrong = if stopped then MayNot wrong else Fine
+  pub halted : stopped ≡ true → Halted main l from i status
 
 pub begins : (main : Bool) (m : Modes) (l : List ℕ) (from : ℕ) (words : List Word) → from ≤ length l → length words ≡ 13 → Sofar main m l from from (nothingSeen m) 0 words
 unfolding valued
@@ -207,9 +207,15 @@ module _ {main : Bool} {m : Modes} {l : List ℕ} {from i : ℕ} {seen : Seen} {
   module _ (w : Word) (next : ℕ) (e : wordsAt l i ≡ withWord w (wordsAt l next)) (g : Gone l i next) where
     -- ---- a word that may not stand
 
-    pub halts : mayNotStand main (s .done) w ≡ true → Halted main l from next (w .at)
+    pub halts : mayNotStand main (s .done) w ≡ true → Halted main l from next (MayNot (w .at))
     unfolding statusAfter prepend withWord statusOf standing firstThatMayNot
-    halts f = record { inside = g .inside; status = ap (statusOf main) (s .whole ∙ ap (prepend (s .done)) e) ∙ by-rest (wordsAt l next) }
+    halts f =
+        record {
+          inside = g .inside;
+          wrong = w .at;
+          named = refl;
+          left = ap (statusOf main) (s .whole ∙ ap (prepend (s .done)) e) ∙ by-rest (wordsAt l next);
+        }
       where
         by-rest : (x : Words.Words) → statusOf main (prepend (s .done) (withWord w x)) ≡ statusAfter (w .at) x
         by-rest (these ws) = ap standing (s .stands (w ∷ ws)) ∙ rw f
@@ -334,53 +340,64 @@ module _ {main : Bool} {m : Modes} {l : List ℕ} {from i : ℕ} {seen : Seen} {
 
 -- ---- along the block
 
-module _ {main : Bool} {m : Modes} {l : List ℕ} {from i wrong : ℕ} {seen : Seen} {count : ℕ} {words : List Word} where
-  pub goes-on : Sofar main m l from i seen count words → Along false main m l from i wrong seen count words
-  goes-on s = record { inside = s .inside; going = λ e. s; halted = λ e. absurd (false≢true e) }
+module _ {main : Bool} {m : Modes} {l : List ℕ} {from i : ℕ} {seen : Seen} {count : ℕ} {words : List Word} where
+  pub goes-on : Sofar main m l from i seen count words → Along false main m l from i Fine seen count words
+  goes-on s = record { inside = s .inside; fine = λ e. refl; going = λ e. s; halted = λ e. absurd (false≢true e) }
 
-  pub stops : Halted main l from i wrong → Along true main m l from i wrong seen count words
-  stops s = record { inside = s .inside; going = λ e. absurd (false≢true (sym e)); halted = λ e. s }
+  pub stops : {status : Status} → Halted main l from i status → Along true main m l from i status seen count words
+  stops s =
+      record {
+        inside = s .inside;
+        fine = λ e. absurd (false≢true (sym e));
+        going = λ e. absurd (false≢true (sym e));
+        halted = λ e. s;
+      }
 
-module _ {stopped main : Bool} {m : Modes} {l : List ℕ} {from i wrong : ℕ} {seen : Seen} {count : ℕ} {words : List Word} (s : Along stopped main m l from i wrong seen count words) where
-  pub gap-along : (next : ℕ) → wordsAt l i ≡ wordsAt l next → Gone l i next → Along stopped main m l from next wrong seen count words
+module _ {stopped main : Bool} {m : Modes} {l : List ℕ} {from i : ℕ} {status : Status} {seen : Seen} {count : ℕ} {words : List Word} (s : Along stopped main m l from i status seen count words) where
+  -- past an item that leaves what is said of the rest
+  halted-past : (next : ℕ) → ((wrong : ℕ) → statusAfter wrong (wordsAt l i) ≡ statusAfter wrong (wordsAt l next)) → Gone l i next → stopped ≡ true → Halted main l from next status
+  halted-past next e g f =
+      let h = s .halted f in
+      record { inside = g .inside; wrong = h .wrong; named = h .named; left = h .left ∙ e (h .wrong) }
+
+  pub gap-along : (next : ℕ) → wordsAt l i ≡ wordsAt l next → Gone l i next → Along stopped main m l from next status seen count words
   gap-along next e g =
       record {
         inside = g .inside;
+        fine = s .fine;
         going = λ f. over-gap (s .going f) next e g;
-        halted = λ f. record { inside = g .inside; status = s .halted f .status ∙ ap (statusAfter wrong) e };
+        halted = halted-past next (λ wrong. ap (statusAfter wrong) e) g;
       }
 
-  pub word-halted : stopped ≡ true → (w : Word) (next : ℕ) → wordsAt l i ≡ withWord w (wordsAt l next) → Gone l i next → Along stopped main m l from next wrong seen count words
+  pub word-halted : stopped ≡ true → (w : Word) (next : ℕ) → wordsAt l i ≡ withWord w (wordsAt l next) → Gone l i next → Along stopped main m l from next status seen count words
   word-halted f w next e g =
       record {
         inside = g .inside;
+        fine = s .fine;
         going = λ h. absurd (false≢true (sym h ∙ f));
-        halted = λ h. record { inside = g .inside; status = s .halted f .status ∙ ap (statusAfter wrong) e ∙ status-word wrong w (wordsAt l next) };
+        halted = halted-past next (λ wrong. ap (statusAfter wrong) e ∙ status-word wrong w (wordsAt l next)) g;
       }
 
-  pub end-along : noText (drop i l) ≡ true → IsRead main m l from (record { status = statusBy stopped wrong; seen = seen; count = count; words = words; end = i })
-  end-along e = go stopped (s .going) (s .halted)
+  pub end-along : noText (drop i l) ≡ true → IsRead main m l from (record { status = status; seen = seen; count = count; words = words; end = i })
+  end-along e = go stopped refl
     where
-      go :
-          (t : Bool) → (t ≡ false → Sofar main m l from i seen count words) → (t ≡ true → Halted main l from i wrong)
-          → IsRead main m l from (record { status = statusBy t wrong; seen = seen; count = count; words = words; end = i })
-      go false f g = reads-end (f refl) e
-      go true f g =
+      go : (t : Bool) → stopped ≡ t → IsRead main m l from (record { status = status; seen = seen; count = count; words = words; end = i })
+      go false f = rw (s .fine f) (reads-end (s .going f) e)
+      go true f =
+          let h = s .halted f in
           record {
-            status = sym (g refl .status ∙ status-end wrong l i e);
-            kept = λ h ws k. let never : _≡_ {A = ℕ} 0 1 = cc in absurd (omega arith);
+            status = h .named ∙ sym (h .left ∙ status-end (h .wrong) l i e);
+            kept = λ k ws d. let never : _≡_ {A = ℕ} 0 1 = cc (h .named) in absurd (omega arith);
           }
 
   pub bad-along : wordsAt l i ≡ badAt i → IsRead main m l from (record { status = Unreadable i; seen = seen; count = count; words = words; end = i })
   unfolding statusAfter
   bad-along e =
       record {
-        status = sym (go stopped (s .going) (s .halted));
+        status = sym (go stopped refl);
         kept = λ f ws g. let never : _≡_ {A = ℕ} 0 1 = cc in absurd (omega arith);
       }
     where
-      go :
-          (t : Bool) → (t ≡ false → Sofar main m l from i seen count words) → (t ≡ true → Halted main l from i wrong)
-          → statusOf main (wordsAt l from) ≡ Unreadable i
-      go false f g = status-bad (f refl) e
-      go true f g = g refl .status ∙ ap (statusAfter wrong) e
+      go : (t : Bool) → stopped ≡ t → statusOf main (wordsAt l from) ≡ Unreadable i
+      go false f = status-bad (s .going f) e
+      go true f = s .halted f .left ∙ ap (statusAfter (s .halted f .wrong)) e

@@ -3,6 +3,7 @@ use mathlib.Core.Path.{_≡_, refl, sym, _∙_, ap, subst}
 use mathlib.Core.Bool.{true, false}
 use native.Mathlib.Omega.{arith}
 use borrow.Author.Needs.{needs}
+use borrow.Author.Tests.{not-true, not-false}
 use lib.Dec.{lit<}
 use lib.ListN.{length, drop, getD}
 use Rattle.lines.specs.Blocks.{noText}
@@ -20,11 +21,11 @@ use Rattle.gathering.proofs.read_words.Statement.{statement}
 use Rattle.gathering.proofs.read_words.Tie as tie
 
 abbrev Inv-loop : tie.InvT-loop
-Inv-loop s from main words₀ count₀ letters₀ groups₀ misc₀ modes₀ stopped₀ wrong₀ i₀ words count letters groups misc modes stopped wrong i =
-    Along stopped main modes₀ s from i wrong (record { letters = letters; groups = groups; misc = misc; modes = modes }) count words
+Inv-loop s from main words₀ count₀ letters₀ groups₀ misc₀ modes₀ stopped₀ status₀ i₀ words count letters groups misc modes stopped status i =
+    Along stopped main modes₀ s from i status (record { letters = letters; groups = groups; misc = misc; modes = modes }) count words
 
 abbrev μ-loop : tie.MeasureT-loop
-μ-loop s from main words₀ count₀ letters₀ groups₀ misc₀ modes₀ stopped₀ wrong₀ i₀ words count letters groups misc modes stopped wrong i =
+μ-loop s from main words₀ count₀ letters₀ groups₀ misc₀ modes₀ stopped₀ status₀ i₀ words count letters groups misc modes stopped status i =
     length s - i
 
 no-word-requires : tie.Need-no-word-requires Inv-loop μ-loop
@@ -36,26 +37,15 @@ loop-holds c = goes-on (begins _ _ _ _ _ (c .before .before .pre) refl)
 text-ends-requires : tie.Need-text-ends-requires Inv-loop μ-loop
 text-ends-requires c κs = c .loop .inv .inside
 
-status-of-requires : tie.Need-status-of-requires Inv-loop μ-loop
-status-of-requires c κs = search needs
-
-returns : tie.Need-returns Inv-loop μ-loop
-returns c = rw (c .status-of .ensures) (end-along (c .before .before .before .loop .inv) (sym (c .before .before .text-ends .ensures) ∙ c .before .if1 .taken))
-
 -- where the text goes on
-going : (c : tie.Else1 Inv-loop μ-loop) → noText (drop (c .before .before .loop .i) (c .before .before .before .before .before .args .s .now)) ≡ false
-going c = sym (c .before .text-ends .ensures) ∙ c .if1 .left
+going : (c : tie.Then1 Inv-loop μ-loop) → noText (drop (c .before .before .loop .i) (c .before .before .before .before .before .args .s .now)) ≡ false
+going c = sym (c .before .text-ends .ensures) ∙ not-true _ (c .if1 .taken)
 
 item-at-requires : tie.Need-item-at-requires Inv-loop μ-loop
 item-at-requires c κs = text-inside (c .before .before .before .before .before .args .s .now) (c .before .before .loop .i) (going c)
 
 enum-told : tie.Need-enum-told Inv-loop μ-loop
 enum-told c = search needs
-
-returns-2 : tie.Need-returns-2 Inv-loop μ-loop
-returns-2 c =
-    let e = c .before .before .before in
-    bad-along (e .before .before .loop .inv) (step-bad (e .before .before .before .before .before .args .s .now) (e .before .before .loop .i) (going e) (sym (c .before .before .item-at .ensures) ∙ c .enum-told .given .1))
 
 enum-known-next : tie.Need-enum-known-next Inv-loop μ-loop
 enum-known-next c = search needs
@@ -158,7 +148,7 @@ loop-again-4 : tie.Need-loop-again-4 Inv-loop μ-loop
 loop-again-4 c =
     let step = stepped (c .before .before .before .before .before .before .before .before) in
     let code = playing (c .before .before .before .before .before) _ (c .before .before .before .c .given .1) in
-    rw (c .before .before .before .before .before .before .before .if2 .left, c .before .group-of .ensures, c .switched .ensures)
+    rw (c .before .before .before .before .before .before .before .if2 .left, c .before .before .before .before .before .before .before .before .before .before .before .before .before .before .loop .inv .fine (c .before .before .before .before .before .before .before .if2 .left), c .before .group-of .ensures, c .switched .ensures)
     (goes-on (over-code (read (c .before .before .before .before .before)) (c .before .before .before .before .before .before .before .before .before .w .given .0 .0) (c .before .before .before .before .before .before .before .before .before .w .given .0 .1 .0) (step .0) (step .1) (step .2) (step .3) (code .0) (c .before .before .before .c .given .0 .0) (code .1) (code .2)))
 
 enum-known-m : tie.Need-enum-known-m Inv-loop μ-loop
@@ -174,7 +164,7 @@ loop-again-5 : tie.Need-loop-again-5 Inv-loop μ-loop
 loop-again-5 c =
     let step = stepped (c .before .before .before .before .before .before) in
     let misc = playing (c .before .before .before) _ (c .before .m .given .1) in
-    rw (c .before .before .before .before .before .if2 .left) (goes-on (over-misc (read (c .before .before .before)) (c .before .before .before .before .before .before .before .w .given .0 .0) (c .before .before .before .before .before .before .before .w .given .0 .1 .0) (step .0) (step .1) (step .2) (step .3) (misc .0) (c .before .m .given .0 .0) (misc .1) (misc .2)))
+    rw (c .before .before .before .before .before .if2 .left, c .before .before .before .before .before .before .before .before .before .before .before .before .loop .inv .fine (c .before .before .before .before .before .if2 .left)) (goes-on (over-misc (read (c .before .before .before)) (c .before .before .before .before .before .before .before .w .given .0 .0) (c .before .before .before .before .before .before .before .w .given .0 .1 .0) (step .0) (step .1) (step .2) (step .3) (misc .0) (c .before .m .given .0 .0) (misc .1) (misc .2)))
 
 enum-told-3 : tie.Need-enum-told-3 Inv-loop μ-loop
 enum-told-3 c = search needs
@@ -205,8 +195,16 @@ loop-again-6 : tie.Need-loop-again-6 Inv-loop μ-loop
 loop-again-6 c =
     let step = stepped (c .before .before .before .before .before) in
     let value = playing (c .before .before) _ (c .enum-told3 .given .1) in
-    rw (c .before .before .before .before .if2 .left, c .before .before .before .place-of .ensures)
+    rw (c .before .before .before .before .if2 .left, c .before .before .before .before .before .before .before .before .before .before .before .loop .inv .fine (c .before .before .before .before .if2 .left), c .before .before .before .place-of .ensures)
     (goes-on (over-valued (read (c .before .before)) (c .before .before .before .before .before .before .w .given .0 .0) (c .before .before .before .before .before .before .w .given .0 .1 .0) (step .0) (step .1) (step .2) (step .3) (value .0) (value .1)))
+
+returns : tie.Need-returns Inv-loop μ-loop
+returns c = end-along (c .before .before .loop .inv) (sym (c .before .text-ends .ensures) ∙ not-false _ (c .if1 .left))
+
+returns-2 : tie.Need-returns-2 Inv-loop μ-loop
+returns-2 c =
+    let e = c .before .before .before in
+    bad-along (e .before .before .loop .inv) (step-bad (e .before .before .before .before .before .args .s .now) (e .before .before .loop .i) (going e) (sym (c .before .before .item-at .ensures) ∙ c .enum-told .given .1))
 
 pub read-words-spec : {M : Type 1} → statement M
 read-words-spec =
@@ -217,11 +215,8 @@ read-words-spec =
     no-word-requires
     loop-holds
     text-ends-requires
-    status-of-requires
-    returns
     item-at-requires
     enum-told
-    returns-2
     enum-known-next
     loop-less
     loop-again
@@ -252,4 +247,6 @@ read-words-spec =
     array-set-from-words
     add-count
     loop-less-6
-    loop-again-6)
+    loop-again-6
+    returns
+    returns-2)
