@@ -1,4 +1,5 @@
-// A run's answer: printed, with what a refusal means and where it stands.
+// A run's answer: printed, with what a refusal means and where it stands. Each function answers whether all of it was
+// written: after a write that fails nothing more is tried.
 mod meanings;
 mod places;
 
@@ -6,11 +7,12 @@ use libc::STDOUT_FILENO;
 use meanings::show_meaning;
 use places::show_place;
 use printing::show_count;
+use printing::show_refused;
 pub use refusals::Answer;
 use refusals::Place;
 use refusals::Refusal;
 
-pub fn show_answer(data: &[u8], answer: Answer) {
+pub fn show_answer(data: &[u8], answer: Answer) -> bool {
     match answer {
         Answer::Done(count) => show_counted(b"done", count),
         Answer::Unfinished(count) => show_counted(b"not finished", count),
@@ -18,21 +20,17 @@ pub fn show_answer(data: &[u8], answer: Answer) {
     }
 }
 
-fn show_counted(word: &[u8], count: usize) {
-    io::write_all(STDOUT_FILENO, word);
-    show_count(count as u64);
-    io::write_all(STDOUT_FILENO, b"\n");
+fn show_counted(word: &[u8], count: usize) -> bool {
+    io::write_all(STDOUT_FILENO, word)
+        && show_count(count as u64)
+        && io::write_all(STDOUT_FILENO, b"\n")
 }
 
 // Where the data is not to blame the block is 0, and no place is shown.
-fn show_refusal(data: &[u8], refusal: Refusal, place: Place) {
-    io::write_all(STDOUT_FILENO, b"refused");
-    show_count(refusals::number(refusal));
-    show_count(place.block as u64);
-    show_count(place.byte as u64);
-    io::write_all(STDOUT_FILENO, b"\n");
-    show_meaning(refusal);
-    if place.block != 0 {
-        show_place(data, place.byte);
+fn show_refusal(data: &[u8], refusal: Refusal, place: Place) -> bool {
+    let said = show_refused(refusals::number(refusal), place) && show_meaning(refusal);
+    if place.block == 0 {
+        return said;
     }
+    said && show_place(data, place.byte)
 }

@@ -2,7 +2,7 @@
 use libc::STDOUT_FILENO;
 use refusals::Refusal;
 
-pub fn show_meaning(refusal: Refusal) {
+pub fn show_meaning(refusal: Refusal) -> bool {
     match refusal {
         Refusal::BadParameter => say(
             b"bad parameter: a value, its form, a radius, the order of levels or a program number",
@@ -29,7 +29,6 @@ pub fn show_meaning(refusal: Refusal) {
     }
 }
 
-fn say(text: &[u8]) {
-    io::write_all(STDOUT_FILENO, text);
-    io::write_all(STDOUT_FILENO, b"\n");
+fn say(text: &[u8]) -> bool {
+    io::write_all(STDOUT_FILENO, text) && io::write_all(STDOUT_FILENO, b"\n")
 }

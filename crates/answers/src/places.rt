@@ -45,20 +45,23 @@ fn inside(s: &[u8], byte: usize) -> usize
 }
 
 // The text of the block that a byte of the data stands in, and a caret under the byte.
-pub fn show_place(s: &[u8], byte: usize) {
+pub fn show_place(s: &[u8], byte: usize) -> bool {
     let at = inside(s, byte);
     let from = block_start(s, at);
     let end = text_end(s, from);
-    telling::show_text(STDOUT_FILENO, &s[from..end], 126);
-    io::write_all(STDOUT_FILENO, b"\n");
-    show_blanks(at - from);
-    io::write_all(STDOUT_FILENO, b"^\n");
+    telling::show_text(STDOUT_FILENO, &s[from..end], 126)
+        && io::write_all(STDOUT_FILENO, b"\n")
+        && show_blanks(at - from)
+        && io::write_all(STDOUT_FILENO, b"^\n")
 }
 
-fn show_blanks(count: usize) {
+fn show_blanks(count: usize) -> bool {
     let mut left = count;
     while 0 < left {
-        io::write_all(STDOUT_FILENO, b" ");
+        if !io::write_all(STDOUT_FILENO, b" ") {
+            return false;
+        }
         left -= 1;
     }
+    true
 }

@@ -4,69 +4,87 @@ use mathlib.Core.Path.{_≡_, refl, sym, ap, _∙_}
 use mathlib.Core.Bool.{Bool, true, false, not, _&&_}
 use mathlib.Core.List.{List}
 use native.Mathlib.Omega.{arith}
-use lib.Dec.{leb}
-use lib.ListN.{length}
+use lib.Dec.{leb, ltb}
+use lib.ListN.{length, take, length-take}
 use lib.Seq.{slice, take-length}
-use borrow.Author.Tests.{leb-true, le-leb, lt-leb, not-true, not-false}
+use borrow.Author.Tests.{leb-true, le-leb, lt-leb, le-ltb, lt-ltb, not-true, not-false}
 use Rattle.terms.specs.Terms.{if_then_else_, bytes}
 use Rattle.texts.specs.Texts.{sameBytes}
+use Rattle.texts.proofs.Places.{same-lengths}
 use Rattle.texts.specs.Figures.{digitsIn}
 use Rattle.texts.specs.declared.Digits.{Digits}
 use Rattle.texts.specs.declared.Digits.the-variants.{Are, Others}
 use Rattle.commands.specs.Words.{wordOf}
-use Rattle.commands.specs.Options.{noOptions, wrongOptions, withBlocks, withRoom, withOption, optionAt, secondAt, optionsOf}
+use Rattle.commands.specs.Options.{noOptions, wrongOptions, withBlocks, withRoom, withPartial, withOption, withNext, withNoMore, isListed, firstOptions, optionsOf}
 use Rattle.commands.specs.declared.options.Options.{Options}
 
--- ---- the room is never above the largest
+-- ---- the room is never above the largest, and each option takes two words at most
 
-record Fits (o : Options) : Type 0 where
-  most : o .room ≤ 1048576
+pub record Fits (k : ℕ) (o : Options) : Type 0 where
+  pub most : o .room ≤ 1048576
+  pub near : o .next ≤ k
 
-none-fits : Fits noOptions
-none-fits = record { most = omega arith }
+pub fits-as : {k : ℕ} {a b : Options} → a ≡ b → Fits k b → Fits k a
+fits-as e h = rw e h
 
-wrong-fits : Fits wrongOptions
-wrong-fits = record { most = omega arith }
+wrong-fits : {k : ℕ} → Fits k wrongOptions
+wrong-fits = record { most = omega arith; near = omega arith }
 
-either-fits : (t : Bool) {a b : Options} → Fits a → Fits b → Fits (if t then a else b)
+either-fits : {k : ℕ} (t : Bool) {a b : Options} → Fits k a → Fits k b → Fits k (if t then a else b)
 either-fits true h g = h
 either-fits false h g = g
 
-blocks-fit : (o : Options) (d : Digits) → Fits o → Fits (withBlocks o d)
-unfolding withBlocks
-blocks-fit o (Are n) h = either-fits (o .whole) (record { most = h .most }) wrong-fits
-blocks-fit o Others h = wrong-fits
+pub first-fits : (listed : Bool) → Fits 4 (firstOptions listed)
+unfolding firstOptions
+first-fits true = record { most = omega arith; near = omega arith }
+first-fits false = record { most = omega arith; near = omega arith }
 
-room-fit : (o : Options) (d : Digits) → Fits (withRoom o d)
-unfolding withRoom
-room-fit o (Are n) = go (o .roomy) (leb n 1048576) refl
-  where
-    go :
-        (given low : Bool) → leb n 1048576 ≡ low
-        → Fits (if given && low then record { fine = true; whole = o .whole; blocks = o .blocks; roomy = false; room = n } else wrongOptions)
-    go true true e = record { most = leb-true n 1048576 e }
-    go true false e = wrong-fits
-    go false low e = wrong-fits
-room-fit o Others = wrong-fits
+module _ {k : ℕ} (o : Options) (h : Fits k o) where
+  blocks-fit : (d : Digits) → Fits (k + 2) (withBlocks o d)
+  unfolding withBlocks
+  blocks-fit (Are n) = either-fits (o .whole) (record { most = h .most; near = omega (arith, h .near) }) wrong-fits
+  blocks-fit Others = wrong-fits
 
-option-fits : (k : ℕ) (line : List ℕ) (o : Options) → Fits o → Fits (optionAt k line o)
-unfolding withOption
-option-fits k line o h =
-    let name = wordOf k line in
-    let d = digitsIn (wordOf (k + 1) line) in
-    either-fits (sameBytes name (bytes "--blocks")) (blocks-fit o d h)
-    (either-fits (sameBytes name (bytes "--room")) (room-fit o d) wrong-fits)
+  room-fit : (d : Digits) → Fits (k + 2) (withRoom o d)
+  unfolding withRoom
+  room-fit (Are n) = go (o .roomy) (leb n 1048576) refl
+    where
+      go :
+          (given low : Bool) → leb n 1048576 ≡ low
+          → Fits (k + 2) (if given && low
+          then record { fine = true; listed = o .listed; whole = o .whole; blocks = o .blocks; roomy = false; room = n; partial = o .partial; next = o .next + 2 }
+          else wrongOptions)
+      go true true e = record { most = leb-true n 1048576 e; near = omega (arith, h .near) }
+      go true false e = wrong-fits
+      go false low e = wrong-fits
+  room-fit Others = wrong-fits
+
+  partial-fit : Fits (k + 2) (withPartial o)
+  unfolding withPartial
+  partial-fit = either-fits (o .partial) wrong-fits (record { most = h .most; near = omega (arith, h .near) })
+
+  pub next-fits : (line : List ℕ) (count : ℕ) → Fits (k + 2) (withNext line count o)
+  unfolding withNext withOption
+  next-fits line count =
+      let name = wordOf (o .next) line in
+      let d = digitsIn (wordOf (o .next + 1) line) in
+      either-fits (o .fine && ltb (o .next) count)
+      (either-fits (sameBytes name (bytes "--blocks")) (blocks-fit d)
+      (either-fits (sameBytes name (bytes "--room")) (room-fit d)
+      (either-fits (sameBytes name (bytes "--partial")) partial-fit wrong-fits)))
+      (record { most = h .most; near = omega (arith, h .near) })
 
 pub room-fits : (line : List ℕ) (count : ℕ) → optionsOf line count .room ≤ 1048576
-unfolding optionsOf secondAt
+unfolding optionsOf withNoMore
 room-fits line count =
-    let first = optionAt 4 line noOptions in
-    let h = option-fits 4 line noOptions none-fits in
-    let all : Fits (optionsOf line count) =
-    either-fits (leb count 4) none-fits
-    (either-fits (leb count 6) h
-    (either-fits (leb count 8) (either-fits (first .fine) (option-fits 6 line first h) h) wrong-fits)) in
-    all .most
+    let none = firstOptions (isListed line count) in
+    let one = withNext line count none in
+    let two = withNext line count one in
+    let three = withNext line count two in
+    let one-fits : Fits 6 one = next-fits none (first-fits (isListed line count)) line count in
+    let two-fits : Fits 8 two = next-fits one one-fits line count in
+    let three-fits : Fits 10 three = next-fits two two-fits line count in
+    either-fits (three .fine && ltb (three .next) count) wrong-fits three-fits .most
 
 -- ---- one option and its number
 
@@ -87,7 +105,7 @@ module _ (o : Options) where
 
   pub blocks-are :
       {d : Digits} {n : ℕ} → d ≡ Are n → not (o .whole) ≡ false
-      → withBlocks o d ≡ record { fine = true; whole = false; blocks = n; roomy = o .roomy; room = o .room }
+      → withBlocks o d ≡ record { fine = true; listed = o .listed; whole = false; blocks = n; roomy = o .roomy; room = o .room; partial = o .partial; next = o .next + 2 }
   unfolding withBlocks
   blocks-are h e = rw (h, not-false (o .whole) e)
 
@@ -106,58 +124,101 @@ module _ (o : Options) where
     room-above g = rw (h, not-false (o .roomy) e, lt-leb n 1048576 g)
 
     pub room-is :
-        n ≤ 1048576 → withRoom o d ≡ record { fine = true; whole = o .whole; blocks = o .blocks; roomy = false; room = n }
+        n ≤ 1048576
+        → withRoom o d ≡ record { fine = true; listed = o .listed; whole = o .whole; blocks = o .blocks; roomy = false; room = n; partial = o .partial; next = o .next + 2 }
     unfolding withRoom
     room-is g = rw (h, not-false (o .roomy) e, le-leb n 1048576 g)
 
+  pub partial-twice : o .partial ≡ true → wrongOptions ≡ withPartial o
+  unfolding withPartial
+  partial-twice e = rw e
+
+  pub partial-once :
+      o .partial ≡ false
+      → record { fine = true; listed = o .listed; whole = o .whole; blocks = o .blocks; roomy = o .roomy; room = o .room; partial = true; next = o .next + 1 } ≡ withPartial o
+  unfolding withPartial
+  partial-once e = rw e
+
 -- ---- which option it is
 
-module _ (k : ℕ) (line : List ℕ) (o : Options) {name : List ℕ} (named : name ≡ wordOf k line) where
-  pub option-blocks :
-      {number : List ℕ} → number ≡ wordOf (k + 1) line → sameBytes name (bytes "--blocks") ≡ true
-      → optionAt k line o ≡ withBlocks o (digitsIn number)
+module _ (name number : List ℕ) (o : Options) where
+  pub option-blocks : sameBytes name (bytes "--blocks") ≡ true → withBlocks o (digitsIn number) ≡ withOption name number o
   unfolding withOption
-  option-blocks h e = rw (← named, ← h, e)
+  option-blocks e = rw e
 
-  pub option-room :
-      {number : List ℕ} → number ≡ wordOf (k + 1) line → sameBytes name (bytes "--blocks") ≡ false
-      → sameBytes name (bytes "--room") ≡ true → optionAt k line o ≡ withRoom o (digitsIn number)
-  unfolding withOption
-  option-room h e g = rw (← named, ← h, e, g)
+  module _ (n : sameBytes name (bytes "--blocks") ≡ false) where
+    pub option-room : sameBytes name (bytes "--room") ≡ true → withRoom o (digitsIn number) ≡ withOption name number o
+    unfolding withOption
+    option-room e = rw (n, e)
 
-  pub option-other :
-      sameBytes name (bytes "--blocks") ≡ false → sameBytes name (bytes "--room") ≡ false → optionAt k line o ≡ wrongOptions
-  unfolding withOption
-  option-other e g = rw (← named, e, g)
+    module _ (m : sameBytes name (bytes "--room") ≡ false) where
+      pub option-partial : sameBytes name (bytes "--partial") ≡ true → withPartial o ≡ withOption name number o
+      unfolding withOption
+      option-partial e = rw (n, m, e)
+
+      pub option-other : sameBytes name (bytes "--partial") ≡ false → wrongOptions ≡ withOption name number o
+      unfolding withOption
+      option-other e = rw (n, m, e)
+
+-- ---- whether one is left
+
+module _ (line : List ℕ) (count : ℕ) (o : Options) where
+  pub next-spoilt : not (o .fine) ≡ true → o ≡ withNext line count o
+  unfolding withNext
+  next-spoilt e = rw (not-true (o .fine) e)
+
+  pub no-more-spoilt : not (o .fine) ≡ true → o ≡ withNoMore count o
+  unfolding withNoMore
+  no-more-spoilt e = rw (not-true (o .fine) e)
+
+  module _ (e : not (o .fine) ≡ false) where
+    pub next-none : count ≤ o .next → o ≡ withNext line count o
+    unfolding withNext
+    next-none h = rw (not-false (o .fine) e, le-ltb (o .next) count h)
+
+    pub next-is : o .next < count → withOption (wordOf (o .next) line) (wordOf (o .next + 1) line) o ≡ withNext line count o
+    unfolding withNext
+    next-is h = rw (not-false (o .fine) e, lt-ltb (o .next) count h)
+
+    pub no-more-left : count ≤ o .next → o ≡ withNoMore count o
+    unfolding withNoMore
+    no-more-left h = rw (not-false (o .fine) e, le-ltb (o .next) count h)
+
+    pub more-left : o .next < count → wrongOptions ≡ withNoMore count o
+    unfolding withNoMore
+    more-left h = rw (not-false (o .fine) e, lt-ltb (o .next) count h)
+
+-- ---- whether a list is named
+
+module _ (listed : Bool) where
+  pub first-listed : listed ≡ true → noOptions true 4 ≡ firstOptions listed
+  unfolding firstOptions
+  first-listed e = rw e
+
+  pub first-unlisted : listed ≡ false → noOptions false 3 ≡ firstOptions listed
+  unfolding firstOptions
+  first-unlisted e = rw e
+
+module _ (line : List ℕ) (count : ℕ) where
+  pub few-words : count ≤ 3 → false ≡ isListed line count
+  unfolding isListed
+  few-words h = rw (le-ltb 3 count h)
+
+  pub short-word : {list : List ℕ} → 3 < count → list ≡ wordOf 3 line → length list < 2 → true ≡ isListed line count
+  unfolding isListed
+  short-word {list} h e g =
+      rw (lt-ltb 3 count h, ← e, same-lengths (take 2 list) (bytes "--") (λ k. omega (arith, k, length-take 2 list)))
+
+  pub long-word :
+      {list : List ℕ} → 3 < count → list ≡ wordOf 3 line → not (sameBytes (slice 0 2 list) (bytes "--")) ≡ isListed line count
+  unfolding isListed
+  long-word h e = rw (lt-ltb 3 count h, ← e)
 
 -- ---- all of them
 
-module _ (line : List ℕ) (count : ℕ) where
-  pub options-none : count ≤ 4 → optionsOf line count ≡ noOptions
-  unfolding optionsOf
-  options-none h = rw (le-leb count 4 h)
-
-  pub options-many : 8 < count → optionsOf line count ≡ wrongOptions
-  unfolding optionsOf
-  options-many h =
-      let four : 4 < count = omega arith in
-      let six : 6 < count = omega arith in
-      rw (lt-leb count 4 four, lt-leb count 6 six, lt-leb count 8 h)
-
-  pub options-one : 4 < count → count ≤ 6 → optionsOf line count ≡ optionAt 4 line noOptions
-  unfolding optionsOf
-  options-one h g = rw (lt-leb count 4 h, le-leb count 6 g)
-
-  pub options-two : 6 < count → count ≤ 8 → optionsOf line count ≡ secondAt 6 line (optionAt 4 line noOptions)
-  unfolding optionsOf
-  options-two h g =
-      let four : 4 < count = omega arith in
-      rw (lt-leb count 4 four, lt-leb count 6 h, le-leb count 8 g)
-
-pub second-none : (k : ℕ) (line : List ℕ) (first : Options) → not (first .fine) ≡ true → secondAt k line first ≡ first
-unfolding secondAt
-second-none k line first e = rw (not-true (first .fine) e)
-
-pub second-is : (k : ℕ) (line : List ℕ) (first : Options) → not (first .fine) ≡ false → secondAt k line first ≡ optionAt k line first
-unfolding secondAt
-second-is k line first e = rw (not-false (first .fine) e)
+pub options-are :
+    (line : List ℕ) (count : ℕ) {listed : Bool} {none one two three all : Options} → listed ≡ isListed line count
+    → none ≡ firstOptions listed → one ≡ withNext line count none → two ≡ withNext line count one
+    → three ≡ withNext line count two → all ≡ withNoMore count three → all ≡ optionsOf line count
+unfolding optionsOf
+options-are line count l n a b d e = cc

@@ -1,9 +1,11 @@
--- The options of a run, as the help tells them: "[--blocks N] [--room R]". "N: only the first N blocks; R: at most R bytes
--- of records, 1048576 where it is not given". Each may be given once, in either order.
+-- The words of a run after `run SETUP DATA`, as the help tells them: "[LIST] [--blocks N] [--room R] [--partial]". "N: only
+-- the first N blocks; R: at most R bytes of records, 1048576 where it is not given". Each option may be given once, in any
+-- order.
 use Prim.Native.Nat.{ℕ, _+_}
-use mathlib.Core.Bool.{true, false, _&&_}
+use mathlib.Core.Bool.{Bool, true, false, not, _&&_}
 use mathlib.Core.List.{List}
-use lib.Dec.{leb}
+use lib.Dec.{leb, ltb}
+use lib.ListN.{take}
 use Rattle.terms.specs.Terms.{if_then_else_, bytes}
 use Rattle.texts.specs.Texts.{sameBytes}
 use Rattle.texts.specs.Figures.{digitsIn}
@@ -12,44 +14,63 @@ use Rattle.texts.specs.declared.Digits.the-variants.{Are, Others}
 use Rattle.commands.specs.Words.{wordOf}
 use Rattle.commands.specs.declared.options.Options.{Options}
 
--- where none is given: all blocks, and the largest room
-abbrev pub noOptions : Options
-noOptions = record { fine = true; whole = true; blocks = 0; roomy = true; room = 1048576 }
+-- where none is given: all blocks, the largest room, and nothing of a refused run; words from the number k on may be options
+abbrev pub noOptions : Bool → ℕ → Options
+noOptions listed k =
+    record { fine = true; listed = listed; whole = true; blocks = 0; roomy = true; room = 1048576; partial = false; next = k }
 
 abbrev pub wrongOptions : Options
-wrongOptions = record { fine = false; whole = true; blocks = 0; roomy = true; room = 0 }
+wrongOptions =
+    record { fine = false; listed = false; whole = true; blocks = 0; roomy = true; room = 0; partial = false; next = 0 }
 
 -- `--blocks N`, where it was not given before; N is a number of 1 to 19 digits
 unfoldable pub withBlocks : Options → Digits → Options
 withBlocks o (Are n) =
-    if o .whole then record { fine = true; whole = false; blocks = n; roomy = o .roomy; room = o .room } else wrongOptions
+    if o .whole
+    then record { fine = true; listed = o .listed; whole = false; blocks = n; roomy = o .roomy; room = o .room; partial = o .partial; next = o .next + 2 }
+    else wrongOptions
 withBlocks o Others = wrongOptions
 
 -- `--room R`, where it was not given before
 unfoldable pub withRoom : Options → Digits → Options
 withRoom o (Are n) =
-    if o .roomy && leb n 1048576 then record { fine = true; whole = o .whole; blocks = o .blocks; roomy = false; room = n }
+    if o .roomy && leb n 1048576
+    then record { fine = true; listed = o .listed; whole = o .whole; blocks = o .blocks; roomy = false; room = n; partial = o .partial; next = o .next + 2 }
     else wrongOptions
 withRoom o Others = wrongOptions
 
+-- `--partial`, where it was not given before
+unfoldable pub withPartial : Options → Options
+withPartial o =
+    if o .partial then wrongOptions
+    else record { fine = true; listed = o .listed; whole = o .whole; blocks = o .blocks; roomy = o .roomy; room = o .room; partial = true; next = o .next + 1 }
+
+-- the option of a name, and the word after it
 unfoldable pub withOption : List ℕ → List ℕ → Options → Options
 withOption name number o =
     if sameBytes name (bytes "--blocks") then withBlocks o (digitsIn number)
     else if sameBytes name (bytes "--room") then withRoom o (digitsIn number)
+    else if sameBytes name (bytes "--partial") then withPartial o
     else wrongOptions
 
--- the option that is the word number k, and its number after it
-abbrev pub optionAt : ℕ → List ℕ → Options → Options
-optionAt k line o = withOption (wordOf k line) (wordOf (k + 1) line) o
+-- the next option, where a word is left and nothing was wrong before
+unfoldable pub withNext : List ℕ → ℕ → Options → Options
+withNext line count o =
+    if o .fine && ltb (o .next) count then withOption (wordOf (o .next) line) (wordOf (o .next + 1) line) o else o
 
--- a second option does not mend a wrong first one
-unfoldable pub secondAt : ℕ → List ℕ → Options → Options
-secondAt k line first = if first .fine then optionAt k line first else first
+-- there are three options, so that no word may be left after the third
+unfoldable pub withNoMore : ℕ → Options → Options
+withNoMore count o = if o .fine && ltb (o .next) count then wrongOptions else o
 
--- The options of a command of so many words. They begin at the fifth, after `run SETUP DATA LIST`, and are two at most.
+-- LIST is the fourth word, unless an option stands there
+unfoldable pub isListed : List ℕ → ℕ → Bool
+isListed line count = ltb 3 count && not (sameBytes (take 2 (wordOf 3 line)) (bytes "--"))
+
+unfoldable pub firstOptions : Bool → Options
+firstOptions listed = if listed then noOptions true 4 else noOptions false 3
+
+-- the options of a command of so many words
 unfoldable pub optionsOf : List ℕ → ℕ → Options
 optionsOf line count =
-    if leb count 4 then noOptions
-    else if leb count 6 then optionAt 4 line noOptions
-    else if leb count 8 then secondAt 6 line (optionAt 4 line noOptions)
-    else wrongOptions
+    withNoMore count
+    (withNext line count (withNext line count (withNext line count (firstOptions (isListed line count)))))

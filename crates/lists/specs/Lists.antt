@@ -1,9 +1,12 @@
 -- The list that a run leaves for a file, by the rules of the run.
 use Prim.Native.Nat.{ℕ, zero, suc, _≤_}
 use mathlib.Core.Path.{_≡_}
+use mathlib.Core.Bool.{Bool, _&&_}
 use mathlib.Core.List.{List, _++_}
 use lib.ListN.{length, take, drop}
 use Rattle.terms.specs.Terms.{if_then_else_}
+use Rattle.refusals.specs.declared.Answer.{Answer}
+use Rattle.refusals.specs.declared.Answer.the-variants.{Done, Unfinished, Refused}
 use Rattle.setup.specs.declared.Setup.{Setup}
 use Rattle.records.specs.declared.Listed.{Listed}
 use Rattle.records.specs.declared.Listed.the-variants.{Next, End, Faulty}
@@ -42,3 +45,10 @@ pub record Makes (s : Setup) (bytes : List ℕ) (o : Options) (was is : List ℕ
   pub end : m .end ≡ length (listBytes (madeBy s bytes o))
   pub fits : m .end ≤ o .room
   pub file : take (m .end) is ≡ listBytes (madeBy s bytes o)
+
+-- Whether the list's file gets them, where one is named: "where the answer is done, or not finished with --blocks"; "with
+-- --partial" also the records before a refused block.
+unfoldable pub isWritten : Options → Answer → Bool
+isWritten o (Done n) = o .listed
+isWritten o (Unfinished n) = o .listed
+isWritten o (Refused r p n) = o .listed && o .partial

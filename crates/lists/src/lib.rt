@@ -8,7 +8,7 @@ ghost use mathlib.Core.Path.{_≡_};
 ghost use Prim.Native.Nat.{_≤_};
 ghost use lib.ListN.{length};
 ghost use Rattle.interpreter.specs.Owing.{Owes};
-ghost use Rattle.lists.specs.Lists.{budgetOf, endAfter, Makes};
+ghost use Rattle.lists.specs.Lists.{budgetOf, endAfter, Makes, isWritten};
 
 // The answer of a run, and where its records end in the buffer.
 pub struct Made {
@@ -58,4 +58,15 @@ pub fn make_list(setup: Setup, bytes: &[u8], list: &mut [u8], options: Options) 
     let answer = answer_in(setup, bytes, &mut list[..room], options);
     let end = records_end(list, count_of(answer));
     Made { answer, end }
+}
+
+// Whether the list's file gets the records of a run with this answer.
+pub fn is_written(answer: Answer, options: Options) -> bool
+    ensures { λ r. ⌜ r ≡ isWritten options answer ⌝ }
+{
+    match answer {
+        Answer::Done(_) => options.listed,
+        Answer::Unfinished(_) => options.listed,
+        Answer::Refused(_, _, _) => options.listed & options.partial,
+    }
 }

@@ -1,48 +1,15 @@
--- The name of the file beside a path, compared and written part by part. Assumes nothing.
+-- The name of the file beside a path, written part by part. Assumes nothing.
 use Prim.Native.Nat.{ℕ, _+_, _≤_, _<_}
-use mathlib.Core.Path.{_≡_, refl, sym, ap, _∙_}
-use mathlib.Core.Bool.{Bool, true, false, _&&_}
-use mathlib.Core.List.{List, [], _∷_, _++_}
+use mathlib.Core.Path.{_≡_, sym, ap, _∙_}
+use mathlib.Core.List.{List, _++_}
 use native.Mathlib.Omega.{arith}
 use native.Mathlib.Numerals.{add-one}
-use lib.Dec.{eqb}
-use lib.ListN.{length, take, drop, getD, set, length-append}
-use lib.Seq.{slice, take-length, paste, paste-suc, length-paste, take-paste}
+use lib.ListN.{length, take, getD, set}
+use lib.Seq.{take-length, paste, paste-suc, length-paste, take-paste}
 use borrow.Author.Tests.{lt-ltb, le-ltb}
 use Rattle.io.proofs.Counting.{counts}
 use Rattle.terms.specs.Terms.{bytes}
-use Rattle.texts.specs.Texts.{sameBytes}
-use Rattle.texts.proofs.Places.{same-lengths}
 use Rattle.parts.specs.Parts.{partOf, partIn, Puts, Names}
-
--- ---- the name compared
-
--- both parts have to be the same
-same-parts :
-    (a b c : List ℕ) → length b ≤ length a
-    → sameBytes a (b ++ c) ≡ (sameBytes (take (length b) a) b && sameBytes (drop (length b) a) c)
-unfolding sameBytes
-same-parts a [] c h = refl
-same-parts [] (y ∷ b) c h = absurd (omega arith)
-same-parts (x ∷ a) (y ∷ b) c h = rw (same-parts a b c (omega arith)) (go (eqb x y) (sameBytes (take (length b) a) b) (sameBytes (drop (length b) a) c))
-  where
-    go : (t u v : Bool) → (t && (u && v)) ≡ ((t && u) && v)
-    go true u v = refl
-    go false u v = refl
-
-module _ (name path : List ℕ) where
-  pub part-short : length name < length path → sameBytes name (partOf path) ≡ false
-  unfolding partOf
-  part-short h = same-lengths name (path ++ bytes ".part") (λ e. omega (arith, e, length-append path (bytes ".part")))
-
-  pub part-same :
-      length path ≤ length name
-      → sameBytes name (partOf path)
-      ≡ (sameBytes (slice 0 (length path) name) path && sameBytes (slice (length path) (length name) name) (bytes ".part"))
-  unfolding partOf
-  part-same h = rw (take-length name) (same-parts name path (bytes ".part") h)
-
--- ---- the name written
 
 -- one byte more of a copy
 pub copied-more :
@@ -54,27 +21,27 @@ copied-more d at s l i h g e =
     ∙ ap (λ (n : ℕ). paste d at s n) (sym (add-one i))
 
 module _ (path was : List ℕ) where
-  pub no-room : length was ≤ length path + 5 → Names path was was 0
+  pub no-room : length was ≤ length path + 12 → Names path was was 0
   unfolding partIn
-  no-room h = record { counts = counts 0 was (omega arith); name = rw (le-ltb (length path + 5) (length was) h) }
+  no-room h = record { counts = counts 0 was (omega arith); name = rw (le-ltb (length path + 12) (length was) h) }
 
   pub named :
-      {mid is : List ℕ} {n next : ℕ} → length path + 5 < length was
-      → Puts was 0 path mid n → Puts mid n (bytes ".part") is next → Names path was is next
+      {mid is : List ℕ} {n next : ℕ} → length path + 12 < length was
+      → Puts was 0 path mid n → Puts mid n (bytes ".part-XXXXXX") is next → Names path was is next
   unfolding partIn partOf
   named {mid} {is} {n} {next} h first second =
-      let part = bytes ".part" in
+      let part = bytes ".part-XXXXXX" in
       let all : length mid ≡ length was =
       ap length (first .bytes) ∙ length-paste was 0 path (length path) (omega arith) (omega arith) in
       let same : length is ≡ length mid =
-      ap length (second .bytes) ∙ length-paste mid n part 5 (omega (arith, first .place)) (omega arith) in
+      ap length (second .bytes) ∙ length-paste mid n part 12 (omega (arith, first .place)) (omega arith) in
       let front : take n mid ≡ path =
       ap (take n) (first .bytes) ∙ ap (λ (k : ℕ). take k (paste was 0 path (length path))) (first .place)
       ∙ take-paste was 0 path (length path) (omega arith) (omega arith) ∙ take-length path in
       let whole : take next is ≡ take n mid ++ part =
-      ap (take next) (second .bytes) ∙ ap (λ (k : ℕ). take k (paste mid n part 5)) (second .place)
-      ∙ take-paste mid n part 5 (omega (arith, first .place)) (omega arith) in
+      ap (take next) (second .bytes) ∙ ap (λ (k : ℕ). take k (paste mid n part 12)) (second .place)
+      ∙ take-paste mid n part 12 (omega (arith, first .place)) (omega arith) in
       record {
         counts = counts next is (omega (arith, first .place, second .place));
-        name = rw (lt-ltb (length path + 5) (length was) h) (whole ∙ ap (λ (x : List ℕ). x ++ part) front);
+        name = rw (lt-ltb (length path + 12) (length was) h) (whole ∙ ap (λ (x : List ℕ). x ++ part) front);
       }

@@ -1,4 +1,5 @@
--- The file beside a path, which has the bytes until all of them are there.
+-- The file beside a path, which has the bytes until all of them are there. The system puts six characters for the X's, so
+-- that no other file has the name.
 use Prim.Native.Nat.{ℕ, _+_}
 use mathlib.Core.Path.{_≡_}
 use mathlib.Core.List.{List, [], _++_}
@@ -9,11 +10,11 @@ use Rattle.io.specs.Counts.{Counts}
 use Rattle.terms.specs.Terms.{if_then_else_, bytes}
 
 unfoldable pub partOf : List ℕ → List ℕ
-partOf path = path ++ bytes ".part"
+partOf path = path ++ bytes ".part-XXXXXX"
 
 -- its name in a buffer of so many bytes, which has to hold a 0 after it; no byte where the name is too long
 unfoldable pub partIn : ℕ → List ℕ → List ℕ
-partIn room path = if ltb (length path + 5) room then partOf path else []
+partIn room path = if ltb (length path + 12) room then partOf path else []
 
 -- a text written over a buffer from a place on, and the place after it
 pub record Puts (was : List ℕ) (at : ℕ) (text is : List ℕ) (next : ℕ) : Type 0 where

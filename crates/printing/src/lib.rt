@@ -1,5 +1,6 @@
 // Prints what a run gives, for all programs: each record on a line, its mark, then its numbers in layout order, with one
-// space between; and the answer on a line.
+// space between; and the answer on a line. Each function answers whether all of it was written: after a write that fails
+// nothing more is tried.
 use codes::Plane;
 use lengths::Len;
 use libc::STDOUT_FILENO;
@@ -9,157 +10,143 @@ use records::Fault;
 use records::Listed;
 use records::Record;
 use refusals::Answer;
+use refusals::Place;
 
 // A run's listing: the records that its answer counts in the list, then the answer.
-pub fn show_run(list: &[u8], answer: Answer) {
-    show_records(list, refusals::count_of(answer));
-    show_answer(answer);
+pub fn show_run(list: &[u8], answer: Answer) -> bool {
+    show_records(list, refusals::count_of(answer)) && show_answer(answer)
 }
 
 // The first records of a list, as many as it is told. What stands after them is not read.
-fn show_records(list: &[u8], count: usize) {
+fn show_records(list: &[u8], count: usize) -> bool {
     let mut at: usize = 0;
     let mut left = count;
     while 0 < left {
         let found = loading::read(list, at);
         let Listed::Next(r, next) = found else {
-            return;
+            return true;
         };
-        show_record(r);
+        if !show_record(r) {
+            return false;
+        }
         at = next;
         left -= 1;
     }
+    true
 }
 
-pub fn show_answer(answer: Answer) {
+fn say(text: &[u8]) -> bool {
+    io::write_all(STDOUT_FILENO, text)
+}
+
+pub fn show_answer(answer: Answer) -> bool {
     match answer {
-        Answer::Done(count) => {
-            io::write_all(STDOUT_FILENO, b"done");
-            show_count(count as u64);
-        }
-        Answer::Unfinished(count) => {
-            io::write_all(STDOUT_FILENO, b"unfinished");
-            show_count(count as u64);
-        }
-        Answer::Refused(refusal, place, _) => {
-            io::write_all(STDOUT_FILENO, b"refused");
-            show_count(refusals::number(refusal));
-            show_count(place.block as u64);
-            show_count(place.byte as u64);
-        }
+        Answer::Done(count) => say(b"done") && show_count(count as u64) && say(b"\n"),
+        Answer::Unfinished(count) => say(b"unfinished") && show_count(count as u64) && say(b"\n"),
+        Answer::Refused(refusal, place, _) => show_refused(refusals::number(refusal), place),
     }
-    io::write_all(STDOUT_FILENO, b"\n");
 }
 
-pub fn show_count(n: u64) {
-    io::write_all(STDOUT_FILENO, b" ");
-    io::print_decimal(STDOUT_FILENO, n);
+// The first line of a refusal: its number, the block's and the byte's.
+pub fn show_refused(number: u64, place: Place) -> bool {
+    say(b"refused")
+        && show_count(number)
+        && show_count(place.block as u64)
+        && show_count(place.byte as u64)
+        && say(b"\n")
+}
+
+pub fn show_count(n: u64) -> bool {
+    say(b" ") && io::print_decimal(STDOUT_FILENO, n)
+}
+
+// How the printing of a whole list ended: at its end, at a place where no record can be read, or at a write that failed.
+pub enum Shown {
+    Whole,
+    Faulty(usize),
+    Unwritten,
 }
 
 // The whole list. The last line is `end`, or what the reader refuses and the place of its mark.
-pub fn show_list(list: &[u8]) {
+pub fn show_list(list: &[u8]) -> Shown {
     let mut at: usize = 0;
     loop {
         let found = loading::read(list, at);
         match found {
             Listed::Next(r, next) => {
-                show_record(r);
+                if !show_record(r) {
+                    return Shown::Unwritten;
+                }
                 at = next;
             }
             Listed::End => {
-                show_end();
-                return;
+                return show_end();
             }
             Listed::Faulty(fault, place) => {
-                show_fault(fault, place);
-                return;
+                return show_fault(fault, place);
             }
         }
     }
 }
 
-fn show_end() {
-    io::write_all(STDOUT_FILENO, b"end\n");
-}
-
-fn show_fault(fault: Fault, place: usize) {
-    match fault {
-        Fault::UnknownMark => io::write_all(STDOUT_FILENO, b"bad mark"),
-        Fault::CutShort => io::write_all(STDOUT_FILENO, b"bad short"),
-        Fault::OtherPlane => io::write_all(STDOUT_FILENO, b"bad plane"),
+fn show_end() -> Shown {
+    if say(b"end\n") {
+        return Shown::Whole;
     }
-    ;
-    show_count(place as u64);
-    io::write_all(STDOUT_FILENO, b"\n");
+    Shown::Unwritten
 }
 
-pub fn show_record(r: Record) {
-    match r {
-        Record::RP(p) => {
-            io::write_all(STDOUT_FILENO, b"RP");
-            show_point(p);
-        }
-        Record::LN(p, feed) => {
-            io::write_all(STDOUT_FILENO, b"LN");
-            show_point(p);
-            show_number(feed);
-        }
-        Record::AR(a) => {
-            io::write_all(STDOUT_FILENO, b"AR");
-            show_arc(a);
-        }
-        Record::AL(a) => {
-            io::write_all(STDOUT_FILENO, b"AL");
-            show_arc(a);
-        }
-        Record::DW(ms) => {
-            io::write_all(STDOUT_FILENO, b"DW");
-            show_number(ms);
-        }
-        Record::SP(speed) => {
-            io::write_all(STDOUT_FILENO, b"SP");
-            show_number(speed);
-        }
-        Record::SO => {
-            io::write_all(STDOUT_FILENO, b"SO");
-        }
-        Record::PA => {
-            io::write_all(STDOUT_FILENO, b"PA");
-        }
-        Record::EN => {
-            io::write_all(STDOUT_FILENO, b"EN");
-        }
+fn show_fault(fault: Fault, place: usize) -> Shown {
+    let said = match fault {
+        Fault::UnknownMark => say(b"bad mark"),
+        Fault::CutShort => say(b"bad short"),
+        Fault::OtherPlane => say(b"bad plane"),
+    };
+    if said && show_count(place as u64) && say(b"\n") {
+        return Shown::Faulty(place);
     }
-    io::write_all(STDOUT_FILENO, b"\n");
+    Shown::Unwritten
 }
 
-fn show_arc(a: Arc) {
+fn show_record(r: Record) -> bool {
+    let said = match r {
+        Record::RP(p) => say(b"RP") && show_point(p),
+        Record::LN(p, feed) => say(b"LN") && show_point(p) && show_number(feed),
+        Record::AR(a) => say(b"AR") && show_arc(a),
+        Record::AL(a) => say(b"AL") && show_arc(a),
+        Record::DW(ms) => say(b"DW") && show_number(ms),
+        Record::SP(speed) => say(b"SP") && show_number(speed),
+        Record::SO => say(b"SO"),
+        Record::PA => say(b"PA"),
+        Record::EN => say(b"EN"),
+    };
+    said && say(b"\n")
+}
+
+fn show_arc(a: Arc) -> bool {
+    let end = a.end;
+    show_plane(a)
+        && show_point(end)
+        && show_number(a.first)
+        && show_number(a.second)
+        && show_number(a.feed)
+}
+
+fn show_plane(a: Arc) -> bool {
     let plane = a.plane;
     match plane {
-        Plane::G17 => io::write_all(STDOUT_FILENO, b" 17"),
-        Plane::G18 => io::write_all(STDOUT_FILENO, b" 18"),
-        Plane::G19 => io::write_all(STDOUT_FILENO, b" 19"),
+        Plane::G17 => say(b" 17"),
+        Plane::G18 => say(b" 18"),
+        Plane::G19 => say(b" 19"),
     }
-    ;
-    let end = a.end;
-    show_point(end);
-    show_number(a.first);
-    show_number(a.second);
-    show_number(a.feed);
 }
 
-fn show_point(p: Point) {
-    show_number(p.x);
-    show_number(p.y);
-    show_number(p.z);
+fn show_point(p: Point) -> bool {
+    show_number(p.x) && show_number(p.y) && show_number(p.z)
 }
 
-pub fn show_number(n: Len) {
+fn show_number(n: Len) -> bool {
     let zero = Len::zero();
-    if n.below(zero) {
-        io::write_all(STDOUT_FILENO, b" -");
-    } else {
-        io::write_all(STDOUT_FILENO, b" ");
-    }
-    io::print_decimal(STDOUT_FILENO, n.apart(zero));
+    let sign = if n.below(zero) { say(b" -") } else { say(b" ") };
+    sign && io::print_decimal(STDOUT_FILENO, n.apart(zero))
 }

@@ -1,10 +1,10 @@
-// Which limit a setup breaks, in plain words, for the end of a line.
+// Which limit a setup breaks, in plain words, for the end of a line; and whether all of it was written.
 use faults::Axis;
 use faults::Fault;
 use faults::Offset;
 use libc::STDOUT_FILENO;
 
-pub fn show_fault(fault: Fault) {
+pub fn show_fault(fault: Fault) -> bool {
     match fault {
         Fault::None => say(b"none"),
         Fault::TravelOrder(axis) => say_of(
@@ -28,17 +28,16 @@ pub fn show_fault(fault: Fault) {
     }
 }
 
-fn show_far(offset: Offset, axis: Axis) {
-    match offset {
+fn show_far(offset: Offset, axis: Axis) -> bool {
+    let said = match offset {
         Offset::Common => say(b"the common offset's "),
         Offset::Origin(k) => show_origin(k),
-    }
-    show_axis(axis);
-    say(b": it is more than 1000000000 from 0");
+    };
+    said && show_axis(axis) && say(b": it is more than 1000000000 from 0")
 }
 
 // The workpiece origins are G54 to G59, in the order of the table.
-fn show_origin(k: usize) {
+fn show_origin(k: usize) -> bool {
     match k {
         0 => say(b"G54's "),
         1 => say(b"G55's "),
@@ -49,7 +48,7 @@ fn show_origin(k: usize) {
     }
 }
 
-fn show_axis(axis: Axis) {
+fn show_axis(axis: Axis) -> bool {
     match axis {
         Axis::X => say(b"X"),
         Axis::Y => say(b"Y"),
@@ -57,12 +56,10 @@ fn show_axis(axis: Axis) {
     }
 }
 
-fn say_of(what: &[u8], axis: Axis, how: &[u8]) {
-    say(what);
-    show_axis(axis);
-    say(how);
+fn say_of(what: &[u8], axis: Axis, how: &[u8]) -> bool {
+    say(what) && show_axis(axis) && say(how)
 }
 
-fn say(text: &[u8]) {
-    io::write_all(STDOUT_FILENO, text);
+fn say(text: &[u8]) -> bool {
+    io::write_all(STDOUT_FILENO, text)
 }

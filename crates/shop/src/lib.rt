@@ -7,9 +7,13 @@ use commands::word;
 use faults::Fault;
 use libc::STDOUT_FILENO;
 use plots::plot;
+use printing::Shown;
+use printing::show_list;
 use running::run;
 use setup_files::setup_in;
 use telling::complain;
+use telling::complain_record;
+use telling::complain_why;
 ghost use mathlib.Core.Path.{_≡_};
 ghost use Rattle.shop.specs.Asking.{askedBy};
 
@@ -23,32 +27,45 @@ pub enum Asked {
 }
 
 // Does what a command asks. Each of its words ends in a byte 0. What comes of it goes to standard output, and one line about
-// a wrong use to the descriptor, and then nothing is written.
+// a wrong use to the descriptor, and then nothing is written. What standard output does not take is told there too.
 pub fn obey(line: &[u8], err: i32) {
+    if !obeyed(line, err) {
+        complain_why(err, b"standard output", b"cannot be written");
+    }
+}
+
+// Answers whether standard output took what there was to print.
+fn obeyed(line: &[u8], err: i32) -> bool {
     let count = count_of(line);
     if count == 0 {
-        help();
-        return;
+        return help();
     }
     let asked = asked_by(word(line, 0));
     match asked {
         Asked::Run => run(line, count, err),
         Asked::Show => show(line, count, err),
-        Asked::Plot => plot(line, count, err),
+        Asked::Plot => plotted(line, count, err),
         Asked::Check => check(line, count, err),
-        Asked::Other => complain(
-            err,
-            word(line, 0),
-            b"no such command; iswenaid alone tells them",
-        ),
+        Asked::Other => no_such(word(line, 0), err),
     }
 }
 
-fn help() {
+// A command that prints nothing.
+fn plotted(line: &[u8], count: usize, err: i32) -> bool {
+    plot(line, count, err);
+    true
+}
+
+fn no_such(given: &[u8], err: i32) -> bool {
+    complain(err, given, b"no such command; iswenaid alone tells them");
+    true
+}
+
+fn help() -> bool {
     io::write_all(
         STDOUT_FILENO,
-        b"iswenaid run SETUP DATA LIST [--blocks N] [--room R]\n    runs the data and writes its records to the file LIST; N: only the first N blocks;\n    R: at most R bytes of records, 1048576 where it is not given\niswenaid show LIST\n    prints the records of a list\niswenaid plot LIST SETUP PICTURE\n    draws a list into the file PICTURE, as SVG\niswenaid check SETUP\n    says whether a setup keeps its limits, or which it breaks\n",
-    );
+        b"iswenaid run SETUP DATA [LIST] [--blocks N] [--room R] [--partial]\n    runs the data and writes its records to the file LIST; without LIST it only answers;\n    N: only the first N blocks; R: at most R bytes of records, 1048576 where it is not given;\n    a refused run leaves LIST as it was, and with --partial it writes the records before\n    the refused block\niswenaid show LIST\n    prints the records of a list\niswenaid plot LIST SETUP PICTURE\n    draws a list into the file PICTURE, as SVG\niswenaid check SETUP\n    says whether a setup keeps its limits, or which it breaks\n",
+    )
 }
 
 fn asked_by(given: &[u8]) -> Asked
@@ -70,38 +87,49 @@ fn asked_by(given: &[u8]) -> Asked
 }
 
 // The records of a list that a file holds.
-fn show(line: &[u8], count: usize, err: i32) {
+fn show(line: &[u8], count: usize, err: i32) -> bool {
     if count != 2 {
         complain(err, b"show", b"wants LIST");
-        return;
+        return true;
     }
     let mut list = buffers::list_room();
     let got = files::read_whole(word(line, 1), &mut list, err);
-    if got.fine {
-        let n = got.count;
-        printing::show_list(&list[..n]);
+    if !got.fine {
+        return true;
     }
+    let n = got.count;
+    let shown = show_list(&list[..n]);
+    match shown {
+        Shown::Whole => true,
+        Shown::Faulty(place) => is_faulty(word(line, 1), place, err),
+        Shown::Unwritten => false,
+    }
+}
+
+fn is_faulty(path: &[u8], place: usize, err: i32) -> bool {
+    complain_record(err, path, place);
+    true
 }
 
 // Whether the setup that a file holds keeps its limits.
-fn check(line: &[u8], count: usize, err: i32) {
+fn check(line: &[u8], count: usize, err: i32) -> bool {
     if count != 2 {
         complain(err, b"check", b"wants SETUP");
-        return;
+        return true;
     }
     let known = setup_in(word(line, 1), err);
-    if known.fine {
-        let setup = known.setup;
-        show_check(faults::fault_of(setup));
+    if !known.fine {
+        return true;
     }
+    let setup = known.setup;
+    show_check(faults::fault_of(setup))
 }
 
-fn show_check(fault: Fault) {
+fn show_check(fault: Fault) -> bool {
     if let Fault::None = fault {
-        io::write_all(STDOUT_FILENO, b"valid\n");
-        return;
+        return io::write_all(STDOUT_FILENO, b"valid\n");
     }
-    io::write_all(STDOUT_FILENO, b"breaks a limit: ");
-    setup_files::show_fault(fault);
-    io::write_all(STDOUT_FILENO, b"\n");
+    io::write_all(STDOUT_FILENO, b"breaks a limit: ")
+        && setup_files::show_fault(fault)
+        && io::write_all(STDOUT_FILENO, b"\n")
 }

@@ -1,6 +1,8 @@
 // One line that says what is wrong, with a file or with a word of the command.
 use libc::EACCES;
+use libc::EFBIG;
 use libc::EISDIR;
+use libc::ELOOP;
 use libc::ENAMETOOLONG;
 use libc::ENOENT;
 use libc::ENOSPC;
@@ -29,33 +31,56 @@ pub fn complain(err: i32, name: &[u8], what: &[u8]) {
 
 // The same of a call that has just failed, with the reason that the system gives for it.
 pub fn complain_why(err: i32, name: &[u8], what: &[u8]) {
-    let error = os::errno();
+    complain_error(err, name, what, os::errno());
+}
+
+// The same of an error that the system gave before.
+pub fn complain_error(err: i32, name: &[u8], what: &[u8], error: i32) {
     begin_line(err, name);
     io::write_all(err, what);
     show_reason(err, error);
     io::write_all(err, b"\n");
 }
 
-// The reasons that somebody at the machine can do something about.
+// A list that breaks off, or is none, by the place where no record can be read.
+pub fn complain_record(err: i32, name: &[u8], place: usize) {
+    begin_line(err, name);
+    io::write_all(err, b"no record can be read at byte ");
+    io::print_decimal(err, place as u64);
+    io::write_all(err, b"\n");
+}
+
+// The reasons that somebody at the machine can do something about in plain words, the others by their number.
 fn show_reason(err: i32, error: i32) {
+    io::write_all(err, b": ");
     if error == ENOENT {
-        io::write_all(err, b": no such file or folder");
+        io::write_all(err, b"no such file or folder");
+    } else if error == ENOTDIR {
+        io::write_all(err, b"a file stands where a folder should");
+    } else if error == EISDIR {
+        io::write_all(err, b"it is a folder");
+    } else if (error == EACCES) | (error == EPERM) | (error == EROFS) {
+        io::write_all(err, b"not allowed");
+    } else if error == ENOSPC {
+        io::write_all(err, b"no space left");
+    } else if error == EFBIG {
+        io::write_all(err, b"the file would be too large");
+    } else if error == ENAMETOOLONG {
+        io::write_all(err, b"the name is too long");
+    } else if error == ELOOP {
+        io::write_all(err, b"links lead in a circle");
+    } else {
+        io::write_all(err, b"the system's error ");
+        io::print_decimal(err, number_of(error));
     }
-    if error == ENOTDIR {
-        io::write_all(err, b": a file stands where a folder should");
+}
+
+// The number of an error, which is none below 0.
+fn number_of(error: i32) -> u64 {
+    if error < 0 {
+        return 0;
     }
-    if error == EISDIR {
-        io::write_all(err, b": it is a folder");
-    }
-    if (error == EACCES) | (error == EPERM) | (error == EROFS) {
-        io::write_all(err, b": not allowed");
-    }
-    if error == ENOSPC {
-        io::write_all(err, b": no space left");
-    }
-    if error == ENAMETOOLONG {
-        io::write_all(err, b": the name is too long");
-    }
+    error as u64
 }
 
 // A line's bytes so that they stay on one line and each takes one place: a tab as a blank, other bytes below the blank and
@@ -91,8 +116,9 @@ fn put_shown(text: &[u8], last: u8, out: &mut [u8]) -> usize
 }
 
 // Text of somebody else's, of 65,536 bytes at most; bytes above the last are not shown as they are.
-pub fn show_text(fd: i32, text: &[u8], last: u8) {
+// Answers whether all of it was written.
+pub fn show_text(fd: i32, text: &[u8], last: u8) -> bool {
     let mut out = io::large_buffer();
     let n = put_shown(text, last, &mut out);
-    io::write_all(fd, &out[..n]);
+    io::write_all(fd, &out[..n])
 }

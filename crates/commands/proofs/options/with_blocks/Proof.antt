@@ -22,10 +22,11 @@ returns-2 c =
 
 returns-3 : tie.Need-returns-3
 returns-3 c =
-    let d = c .before .before .before in
+    let n = c .before .before in
+    let d = n .before .before in
     let a = d .before .before .before .before .args in
     sym
-    (blocks-are (a .options) (digits-known (a .number .now) (d .digits-at .ensures) (c .before .n .given .1)) (d .before .if1 .left))
+    (blocks-are (a .options) (digits-known (a .number .now) (d .digits-at .ensures) (n .n .given .1)) (d .before .if1 .left))
 
 pub with-blocks-spec : {M : Type 1} → statement M
 with-blocks-spec =
@@ -42,4 +43,5 @@ with-blocks-spec =
     (λ c. search needs)
     (λ c κs. search needs)
     returns-2
+    (λ c. search needs)
     returns-3)

@@ -32,11 +32,12 @@ returns-3 c =
 
 returns-4 : tie.Need-returns-4
 returns-4 c =
-    let n = c .before .before in
+    let l = c .before in
+    let n = l .before .before in
     let d = n .before .before in
     let a = d .before .before .before .before .args in
     sym
-    (room-is (a .options) (digits-known (a .number .now) (d .digits-at .ensures) (n .n .given .1)) (d .before .if1 .left) (c .if2 .left))
+    (room-is (a .options) (digits-known (a .number .now) (d .digits-at .ensures) (n .n .given .1)) (d .before .if1 .left) (l .if2 .left))
 
 pub with-room-spec : {M : Type 1} → statement M
 with-room-spec =
@@ -57,4 +58,5 @@ with-room-spec =
     (λ c. search needs)
     (λ c κs. search needs)
     returns-3
+    (λ c. search needs)
     returns-4)

@@ -9,7 +9,7 @@ use Rattle.shop.proofs.running.run.Tie as tie
 
 run-files-requires : tie.Need-run-files-requires
 run-files-requires c κs =
-    let o = c .before .before .before .before in
+    let o = c .before .before .before .before .before in
     let a = o .before .before .before .args in
     omega (arith, ap (λ (x : Options). x .room) (o .options-of .ensures), room-fits (a .line .now) (a .count))
 
@@ -24,6 +24,6 @@ run-spec =
     (λ c κs. search needs)
     (λ c. search needs)
     (λ c κs. search needs)
-    run-files-requires
     (λ c. search needs)
+    run-files-requires
     (λ c. search needs))

@@ -7,7 +7,7 @@ use Rattle.shop.proofs.running.run_data.Tie as tie
 
 slice-aggregate-write-whole : tie.Need-slice-aggregate-write-whole
 slice-aggregate-write-whole c =
-    let m = c .before .before .make-list in
+    let m = c .before .before .before .before .make-list in
     sym (length-take-le (m .result .end) (m .last .1 .1 .0) (search needs))
 
 pub run-data-spec : {M : Type 1} → statement M
@@ -17,9 +17,14 @@ run-data-spec =
     (λ c κs. search needs)
     (λ c. search needs)
     (λ c κs. search needs)
+    (λ c κs. search needs)
+    (λ c κs. search needs)
+    (λ c κs. search needs)
+    (λ c. search needs)
+    (λ c. search needs)
     (λ c. search needs)
     slice-aggregate-write-whole
     (λ c κs. search needs)
-    (λ c κs. search needs)
     (λ c. search needs)
+    (λ c κs. search needs)
     (λ c. search needs))
