@@ -2,3 +2,4 @@ pub mod Root
 pub mod Reach
 pub mod Extremes
 pub mod Opened
+pub mod Examples

@@ -4,7 +4,7 @@ use Rattle.lengths.proofs.Opened.{opened as lengths-opened}
 use Rattle.codes.proofs.Opened.{opened as codes-opened}
 use Rattle.points.proofs.Opened.{opened as points-opened}
 use Rattle.records.proofs.Opened.{opened as records-opened}
-use Rattle.arcs.specs.Arcs.{distance², radius², roundEnough, arcHolds, notAbove, notBelow, extremesInside, leftWay, rightWay, arcStays, pathStays, centreFits}
+use Rattle.arcs.specs.Arcs.{distance², radius², roundEnough, arcHolds, notAbove, notBelow, coordinateInside, extremeInside, extremesInside, leftWay, rightWay, arcStays, pathStays, centreFits}
 use Rattle.arcs.specs.Root.{nextRoot, rootBelow}
 use Rattle.arcs.specs.Turning.{direction, cross, dot, left, onLeftWay}
 
@@ -21,6 +21,8 @@ unfolding
     arcHolds
     notAbove
     notBelow
+    coordinateInside
+    extremeInside
     extremesInside
     leftWay
     rightWay

@@ -99,4 +99,4 @@ pub bounds-framed :
 bounds-framed t from a u w b f s =
     let l = flat-beside (a .plane) (t .low) from (b .low) in
     let k = flat-beside (a .plane) (t .high) from (b .high) in
-    record { start = f; end = s; above = omega (arith, b .centre, k); below = omega (arith, b .centre, l) }
+    record { start = f; end = s; below = omega (arith, b .centre, l); above = omega (arith, b .centre, k) }

@@ -3,7 +3,8 @@ use Prim.Native.Nat.{ℕ, _+_, _-_, _*_}
 use mathlib.Core.Bool.{Bool, true, not, _&&_, _||_}
 use lib.Dec.{leb}
 use lib.IntN.{ℤ, pos, negsuc, _-ℤ_}
-use lib.Signed.{leZ}
+use lib.Signed.{leZ, ltZ}
+use Rattle.terms.specs.Terms.{if_then_else_, between}
 use Rattle.lengths.specs.Units.{len, sq, fitsFour}
 use Rattle.lengths.specs.declared.Len.{Len}
 use Rattle.points.specs.declared.Point.{Point}
@@ -34,13 +35,29 @@ roundEnough r end² = leb 2_000 r && leb ((r - 1_000) * (r - 1_000)) end² && le
 unfoldable pub arcHolds : Point → Arc → Bool
 arcHolds from a = roundEnough (root (radius² from a)) (distance² (centreOf a) (flat (a .plane) (a .end)))
 
--- The circle's extreme on an axis is its centre plus or minus the root of the squared radius. It is inside where that
--- is not past the travel's end on its side: compared exactly, by squares.
+-- An extreme's coordinate on its axis is the centre's plus or minus the root of the squared radius. Such numbers are compared
+-- exactly, by squares: a plus the root of q is not above b, and it is not below b.
 unfoldable pub notAbove : Len → ℕ → Len → Bool
-notAbove centre q high = leZ (centre .v) (high .v) && leb q (sq (high .v -ℤ centre .v))
+notAbove a q b = leZ (a .v) (b .v) && leb q (sq (b .v -ℤ a .v))
 
 unfoldable pub notBelow : Len → ℕ → Len → Bool
-notBelow centre q low = leZ (low .v) (centre .v) && leb q (sq (centre .v -ℤ low .v))
+notBelow a q b = leZ (b .v) (a .v) || leb (sq (b .v -ℤ a .v)) q
+
+-- An extreme's coordinate on one axis lies between the travel's ends; `way` is its direction's number on that axis. Upward
+-- the coordinate is the centre's plus the root, downward the centre's minus the root (tested with the root on the other side: low plus
+-- the root is not above the centre, high plus the root is not below it), and else the centre's.
+unfoldable pub coordinateInside : ℤ → Len → ℕ → Len → Len → Bool
+coordinateInside way centre q low high =
+    if ltZ (pos 0) way then notBelow centre q low && notAbove centre q high
+    else if ltZ way (pos 0) then notAbove low q centre && notBelow high q centre
+    else between (low .v) (high .v) (centre .v)
+
+-- The circle's extreme in an axis direction is inside: both its coordinates are. Across the plane an arc does not move, so there
+-- the extreme is where the arc's end is, which is tested by itself.
+unfoldable pub extremeInside : Flat → ℕ → Flat → Flat → Flat → Bool
+extremeInside centre q low high d =
+    coordinateInside (d .first .v) (centre .first) q (low .first) (high .first)
+    && coordinateInside (d .second .v) (centre .second) q (low .second) (high .second)
 
 -- the four axis directions
 abbrev pub towards : ℤ → ℤ → Flat
@@ -49,10 +66,11 @@ towards a b = record { first = len a; second = len b }
 -- "each of the four axis extremes whose direction lies on the path, ends counted, is inside": `on` tells the directions
 unfoldable pub extremesInside : (Flat → Bool) → Flat → ℕ → Flat → Flat → Bool
 extremesInside on centre q low high =
-    (not (on (towards (pos 1) (pos 0))) || notAbove (centre .first) q (high .first))
-    && (not (on (towards (pos 0) (pos 1))) || notAbove (centre .second) q (high .second))
-    && (not (on (towards (negsuc 0) (pos 0))) || notBelow (centre .first) q (low .first))
-    && (not (on (towards (pos 0) (negsuc 0))) || notBelow (centre .second) q (low .second))
+    let stays : Flat → Bool = λ d. not (on d) || extremeInside centre q low high d in
+    stays (towards (pos 1) (pos 0))
+    && stays (towards (pos 0) (pos 1))
+    && stays (towards (negsuc 0) (pos 0))
+    && stays (towards (pos 0) (negsuc 0))
 
 -- The directions of the path: "G03 turns from the plane's first axis to its second, G02 the other way." "The path is the
 -- start's circle from the start's direction to the end's".

@@ -62,5 +62,5 @@ pub record Direction (a b r : Flat) : Type 0 where
 pub record Framed (u w centre low high : Flat) : Type 0 where
   pub start : Small u
   pub end : Small w
+  pub below : Reach 4_294_967_295 low centre
   pub above : Reach 4_294_967_295 high centre
-  pub below : Reach 4_294_967_295 centre low

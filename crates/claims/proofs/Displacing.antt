@@ -1,11 +1,11 @@
 -- Displacing a path and the travel alike changes no comparison: the path stays in the travel as before.
 use Prim.Native.Nat.{ℕ, _+_}
 use mathlib.Core.Path.{_≡_, refl, sym, _∙_, ap, ap₂}
-use mathlib.Core.Bool.{Bool, true, false, _&&_}
+use mathlib.Core.Bool.{Bool, true, false, _&&_, _||_}
 use mathlib.Core.List.{List, [], _∷_, map}
 use native.Mathlib.Omega.{arith}
 use lib.Dec.{leb}
-use lib.IntN.{ℤ, _+ℤ_, _-ℤ_}
+use lib.IntN.{ℤ, pos, negsuc, _+ℤ_, _-ℤ_}
 use lib.Signed.{leZ}
 use Rattle.terms.specs.Terms.{between}
 use Rattle.lengths.specs.declared.Len.{Len}
@@ -29,6 +29,8 @@ use Rattle.arcs.specs.Arcs.{
   radius²,
   notAbove,
   notBelow,
+  coordinateInside,
+  extremeInside,
   towards,
   extremesInside,
   leftWay,
@@ -105,15 +107,34 @@ unfolding direction
 direction-same by a b =
     ap₂ towards (shift (b .first .v) (a .first .v) (by .first .v)) (shift (b .second .v) (a .second .v) (by .second .v))
 
-above-same : (centre : Len) (q : ℕ) (high by : Len) → notAbove (centre ⊕ by) q (high ⊕ by) ≡ notAbove centre q high
+above-same : (a : Len) (q : ℕ) (b by : Len) → notAbove (a ⊕ by) q (b ⊕ by) ≡ notAbove a q b
 unfolding notAbove
-above-same centre q high by =
-    ap₂ _&&_ (le-same (centre .v) (high .v) (by .v)) (ap (λ (z : ℤ). leb q (sq z)) (shift (high .v) (centre .v) (by .v)))
+above-same a q b by = ap₂ _&&_ (le-same (a .v) (b .v) (by .v)) (ap (λ (z : ℤ). leb q (sq z)) (shift (b .v) (a .v) (by .v)))
 
-below-same : (centre : Len) (q : ℕ) (low by : Len) → notBelow (centre ⊕ by) q (low ⊕ by) ≡ notBelow centre q low
+below-same : (a : Len) (q : ℕ) (b by : Len) → notBelow (a ⊕ by) q (b ⊕ by) ≡ notBelow a q b
 unfolding notBelow
-below-same centre q low by =
-    ap₂ _&&_ (le-same (low .v) (centre .v) (by .v)) (ap (λ (z : ℤ). leb q (sq z)) (shift (centre .v) (low .v) (by .v)))
+below-same a q b by = ap₂ _||_ (le-same (b .v) (a .v) (by .v)) (ap (λ (z : ℤ). leb (sq z) q) (shift (b .v) (a .v) (by .v)))
+
+coordinate-same :
+    (way : ℤ) (centre : Len) (q : ℕ) (low high by : Len)
+    → coordinateInside way (centre ⊕ by) q (low ⊕ by) (high ⊕ by) ≡ coordinateInside way centre q low high
+unfolding coordinateInside
+coordinate-same way centre q low high by =
+    rw (
+      below-same centre q low by,
+      above-same centre q high by,
+      above-same low q centre by,
+      below-same high q centre by,
+      between-same (low .v) (high .v) (centre .v) (by .v),
+    )
+
+extreme-same :
+    (by centre : Flat) (q : ℕ) (low high d : Flat)
+    → extremeInside (flatMoved by centre) q (flatMoved by low) (flatMoved by high) d ≡ extremeInside centre q low high d
+unfolding extremeInside
+extreme-same by centre q low high d =
+    ap₂ _&&_ (coordinate-same (d .first .v) (centre .first) q (low .first) (high .first) (by .first))
+    (coordinate-same (d .second .v) (centre .second) q (low .second) (high .second) (by .second))
 
 extremes-same :
     (by : Flat) (on : Flat → Bool) (centre : Flat) (q : ℕ) (low high : Flat)
@@ -122,10 +143,10 @@ extremes-same :
 unfolding extremesInside
 extremes-same by on centre q low high =
     rw (
-      above-same (centre .first) q (high .first) (by .first),
-      above-same (centre .second) q (high .second) (by .second),
-      below-same (centre .first) q (low .first) (by .first),
-      below-same (centre .second) q (low .second) (by .second),
+      extreme-same by centre q low high (towards (pos 1) (pos 0)),
+      extreme-same by centre q low high (towards (pos 0) (pos 1)),
+      extreme-same by centre q low high (towards (negsuc 0) (pos 0)),
+      extreme-same by centre q low high (towards (pos 0) (negsuc 0)),
     )
 
 -- ---- arcs and paths

@@ -12,7 +12,7 @@ ghost use Rattle.points.specs.Points.{flat};
 ghost use Rattle.records.specs.Path.{pathOf};
 ghost use Rattle.arcs.specs.Root.{root};
 ghost use Rattle.arcs.specs.Turning.{dot, left, onLeftWay};
-ghost use Rattle.arcs.specs.Arcs.{centreOf, notAbove, towards, extremesInside, leftWay, rightWay, arcStays, pathStays};
+ghost use Rattle.arcs.specs.Arcs.{centreOf, notAbove, notBelow, coordinateInside, extremeInside, towards, extremesInside, leftWay, rightWay, arcStays, pathStays};
 ghost use Rattle.arcs.specs.Bounds.{Close, Reach, Small, Bounds, Accepted, Ready, Direction, Framed};
 
 // From the centre of an arc to a point.
@@ -63,14 +63,46 @@ pub fn is_on_left_way(u: Flat, w: Flat, first: Len, second: Len) -> bool
     is_ahead(u, w) | !is_left(d, u)
 }
 
-// Whether low plus the root of q is not above high. That is an extreme's test on both sides: the centre plus the radius
-// against the travel's high end, and the travel's low end plus the radius against the centre. The square of a difference
-// of at most 4,294,967,295 fits 64 bits without a sign; in a run the difference is at most 1,200,000,000.
-fn root_fits_between(low: Len, q: u64, high: Len) -> bool
-    requires { ⌜ Close 4_294_967_295 high low ⌝ }
-    ensures { λ r. ⌜ r ≡ notAbove low q high ⌝ }
+// Whether a plus the root of q is not above b. The square of a difference of at most 4,294,967,295 fits 64 bits without a
+// sign; in a run the difference is at most 1,200,000,000.
+fn root_stays_below(a: Len, q: u64, b: Len) -> bool
+    requires { ⌜ Close 4_294_967_295 a b ⌝ }
+    ensures { λ r. ⌜ r ≡ notAbove a q b ⌝ }
 {
-    low.at_most(high) & (q <= high.minus(low).square())
+    a.at_most(b) & (q <= b.minus(a).square())
+}
+
+// Whether a plus the root of q is not below b.
+fn root_reaches(a: Len, q: u64, b: Len) -> bool
+    requires { ⌜ Close 4_294_967_295 a b ⌝ }
+    ensures { λ r. ⌜ r ≡ notBelow a q b ⌝ }
+{
+    b.at_most(a) | (b.minus(a).square() <= q)
+}
+
+// Whether the coordinate on one axis of an extreme lies between the travel's ends, where `way` is its direction's number
+// on that axis. Minus the root is tested with the root on the other side.
+fn is_coordinate_inside(way: Len, centre: Len, q: u64, low: Len, high: Len) -> bool
+    requires { ⌜ (Close 4_294_967_295 low centre) × (Close 4_294_967_295 high centre) ⌝ }
+    ensures { λ r. ⌜ r ≡ coordinateInside (way .v) centre q low high ⌝ }
+{
+    let none = Len::zero();
+    if none.below(way) {
+        return root_reaches(centre, q, low) & root_stays_below(centre, q, high);
+    }
+    if way.below(none) {
+        return root_stays_below(low, q, centre) & root_reaches(high, q, centre);
+    }
+    low.at_most(centre) & centre.at_most(high)
+}
+
+// Whether the extreme of the circle of squared radius q in a direction, given by its two axes, is inside.
+fn is_extreme_inside(first: Len, second: Len, centre: Flat, q: u64, low: Flat, high: Flat) -> bool
+    requires { ⌜ (Reach 4_294_967_295 low centre) × (Reach 4_294_967_295 high centre) ⌝ }
+    ensures { λ r. ⌜ r ≡ extremeInside centre q low high (towards (first .v) (second .v)) ⌝ }
+{
+    is_coordinate_inside(first, centre.first, q, low.first, high.first)
+        & is_coordinate_inside(second, centre.second, q, low.second, high.second)
 }
 
 // Whether the extremes of the circle of squared radius q that the way from u to w passes are inside.
@@ -85,10 +117,10 @@ fn are_extremes_inside(u: Flat, w: Flat, centre: Flat, q: u64, low: Flat, high: 
     let second_up = is_on_left_way(u, w, none, up);
     let first_down = is_on_left_way(u, w, down, none);
     let second_down = is_on_left_way(u, w, none, down);
-    (!first_up | root_fits_between(centre.first, q, high.first))
-        & (!second_up | root_fits_between(centre.second, q, high.second))
-        & (!first_down | root_fits_between(low.first, q, centre.first))
-        & (!second_down | root_fits_between(low.second, q, centre.second))
+    (!first_up | is_extreme_inside(up, none, centre, q, low, high))
+        & (!second_up | is_extreme_inside(none, up, centre, q, low, high))
+        & (!first_down | is_extreme_inside(down, none, centre, q, low, high))
+        & (!second_down | is_extreme_inside(none, down, centre, q, low, high))
 }
 
 // Whether an arc stays in the travel, where its path turns left from the direction u to the direction w.

@@ -1,8 +1,8 @@
--- `paths::root_fits_between` meets its contract. Assumes nothing.
+-- `paths::root_stays_below` meets its contract. Assumes nothing.
 use borrow.Author.Needs.{needs}
 use Rattle.arcs.specs.Arcs.{notAbove}
-use Rattle.paths.proofs.root_fits_between.Statement.{statement}
-use Rattle.paths.proofs.root_fits_between.Tie as tie
+use Rattle.paths.proofs.root_stays_below.Statement.{statement}
+use Rattle.paths.proofs.root_stays_below.Tie as tie
 
 at-most-requires : tie.Need-at-most-requires
 at-most-requires c κs = search needs
@@ -17,6 +17,6 @@ returns : tie.Need-returns
 unfolding notAbove
 returns c = rw (c .before .before .at-most .ensures, c .square .ensures, c .before .minus .ensures .is)
 
-pub root-fits-between-spec : {M : Type 1} → statement M
-root-fits-between-spec =
+pub root-stays-below-spec : {M : Type 1} → statement M
+root-stays-below-spec =
     tie.close (tie.spec at-most-requires minus-requires square-requires returns)
