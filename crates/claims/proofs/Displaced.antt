@@ -13,6 +13,7 @@ use Rattle.lengths.specs.Units.{len}
 use Rattle.lengths.proofs.Ring.{shift}
 use Rattle.refusals.specs.declared.Refusal.the-variants.{LeavesTravel, DataTooLong}
 use Rattle.refusals.specs.declared.Place.{Place}
+use Rattle.refusals.specs.Answers.{refusedWith, reportOf}
 use Rattle.points.specs.declared.Point.{Point}
 use Rattle.points.specs.Points.{moved, movedBack}
 use Rattle.setup.specs.declared.Axes.{Axes}
@@ -31,7 +32,7 @@ use Rattle.lines.specs.Blocks.{Block, blocksOf}
 use Rattle.programs.specs.Openings.{Table, table, placeOf}
 use Rattle.programs.specs.Openings as Openings
 use Rattle.runs.specs.declared.Budget.the-variants.{Whole, First}
-use Rattle.refusals.specs.declared.Answer.the-variants.{Done, Refused}
+use Rattle.refusals.specs.declared.Answer.the-variants.{Done}
 use Rattle.runs.specs.Walk.{How, ended, refusedAt, Outcome}
 use Rattle.runs.specs.Run.{firstOf, finishOf, nowhere, outcome, recordsOf, answerBy, answerOf}
 use Rattle.claims.specs.Steps.{BlockDone, refuses, turnAt, Sofar, afterTurn, oneMore, more, recordsBy, howSofar, outcomeSofar, tableIn, subsOf, jobFor, standAt, refusedAtOnce, begunBy, begun, firstBlocks}
@@ -333,9 +334,8 @@ module _ (by : Axes) (s : Setup) (bytes : List ℕ) (room : ℕ)
             leaves =
                 first-stays (suc (p .before)) ∙ ap (pathStaysIn staysThere (startOf second)) with-block ∙ block-leaves;
             answer =
-                ap (λ (o : Outcome). answerBy (o .how) (length (o .made))) second-outcome
-                ∙ ap (λ (c : ℕ). Refused LeavesTravel (placeOf (p .block .block)) c)
-                (sym (length-map made (recordMoved (offset s))));
+                ap (λ (o : Outcome). reportOf (answerBy (o .how) (length (o .made)))) second-outcome
+                ∙ ap (refusedWith 9 (placeOf (p .block .block))) (sym (length-map made (recordMoved (offset s))));
             records =
                 ap (λ (o : Outcome). map (recordMoved (offset second)) (o .made)) second-outcome ∙ sym (moved-records by s made);
           }

@@ -3,11 +3,11 @@ use mathlib.Core.Path.{_≡_, refl}
 use mathlib.Core.Bool.{true, false}
 use mathlib.Core.List.{[], _∷_}
 use lib.IntN.{pos}
-use Rattle.refusals.specs.declared.Refusal.the-variants.{LeavesTravel}
+use Rattle.refusals.specs.Answers.{refusedWith, reportOf}
 use Rattle.setup.specs.Examples.{setupT}
 use Rattle.setup.specs.Limits.{validSetup}
 use Rattle.runs.specs.Examples.{roomT}
-use Rattle.refusals.specs.declared.Answer.the-variants.{Done, Refused}
+use Rattle.refusals.specs.declared.Answer.the-variants.{Done}
 use Rattle.runs.specs.declared.Budget.the-variants.{Whole}
 use Rattle.runs.specs.Run.{recordsOf, answerOf}
 use Rattle.claims.specs.Displaced.{displaced, allMoved, stayIn, LeavesFirst}
@@ -64,7 +64,7 @@ path-leaves = refl
 
 -- refused with 9 at the turn, block 3, whose first byte is 12, with the rapid before it displaced
 pub leaving-refused :
-    answerOf (displaced leaving setupT) turn roomT Whole ≡ Refused LeavesTravel (record { block = 3; byte = 12 }) 1
+    reportOf (answerOf (displaced leaving setupT) turn roomT Whole) ≡ refusedWith 9 (record { block = 3; byte = 12 }) 1
 unfolding opened
 leaving-refused = refl
 

@@ -6,7 +6,7 @@ use mathlib.Core.Bool.{Bool, true, false}
 use mathlib.Core.List.{List, [], _∷_, _++_, map}
 use lib.IntN.{_+ℤ_}
 use lib.ListN.{length}
-use Rattle.refusals.specs.declared.Refusal.the-variants.{LeavesTravel}
+use Rattle.refusals.specs.Answers.{refusedWith, reportOf}
 use Rattle.setup.specs.declared.Axes.{Axes}
 use Rattle.setup.specs.declared.Setup.{Setup}
 use Rattle.setup.specs.Frame.{pointOf}
@@ -14,7 +14,6 @@ use Rattle.records.specs.declared.Record.{Record}
 use Rattle.records.specs.Path.{pathStaysIn, recordMoved}
 use Rattle.programs.specs.Openings.{placeOf}
 use Rattle.runs.specs.declared.Budget.the-variants.{Whole, First}
-use Rattle.refusals.specs.declared.Answer.the-variants.{Refused}
 use Rattle.runs.specs.Run.{recordsOf, answerOf}
 use Rattle.claims.specs.Steps.{BlockDone, firstBlocks}
 use Rattle.claims.specs.Travel.{inTravel}
@@ -56,8 +55,8 @@ pub record LeavesFirst (by : Axes) (s : Setup) (bytes : List ℕ) (room : ℕ) :
       firstBlocks s bytes room (suc before) .executed ≡ firstBlocks s bytes room before .executed ++ block ∷ []
   pub stays : stayIn (displaced by s) (allMoved by (recordsOf s bytes room (First before))) ≡ true
   pub leaves : stayIn (displaced by s) (allMoved by (recordsOf s bytes room (First (suc before)))) ≡ false
-  -- the block's number and its first byte
+  -- "9: Path leaves the travel", with the block's number and its first byte
   pub answer :
-      answerOf (displaced by s) bytes room Whole
-      ≡ Refused LeavesTravel (placeOf (block .block)) (length (recordsOf s bytes room (First before)))
+      reportOf (answerOf (displaced by s) bytes room Whole)
+      ≡ refusedWith 9 (placeOf (block .block)) (length (recordsOf s bytes room (First before)))
   pub records : recordsOf (displaced by s) bytes room Whole ≡ allMoved by (recordsOf s bytes room (First before))

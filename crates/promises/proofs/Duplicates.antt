@@ -219,11 +219,11 @@ module _ (b : Block) (n : ℕ) (number : openingOf b ≡ Number n) (later : List
 record Stops (os : List Block) (o : Outcome) : Type 0 where
   refusal : Refusal
   place : Place
-  early : Early os refusal place
+  early : Early os (numberOf refusal) place
   is : o ≡ just (Walk.refusedAt refusal place)
 
 module _ (s : Setup) (bytes : List ℕ) (room : ℕ) (budget : Budget) where
-  no-list : (refusal : Refusal) (place : Place) → outcome s bytes room budget ≡ just (Walk.refusedAt refusal place) → NoList s bytes room budget refusal place
+  no-list : (refusal : Refusal) (place : Place) → outcome s bytes room budget ≡ just (Walk.refusedAt refusal place) → NoList s bytes room budget (numberOf refusal) place
   unfolding answerOf answerBy recordsOf
   no-list refusal place e = record { answer = rw e; records = rw e }
 
@@ -274,14 +274,14 @@ module _ (s : Setup) (bytes : List ℕ) (room : ℕ) (budget : Budget) where
       {os : List Block} {b : Block} (later : List Block) → openingsOf bytes ≡ os ++ later → Twice os b → RefusedEarly s bytes room budget os
   two-of-one-number later e twice =
       let r = stops later twice e in
-      record { refusal = r .refusal; place = r .place; early = r .early; no-list = no-list (r .refusal) (r .place) (r .is) }
+      record { number = numberOf (r .refusal); place = r .place; early = r .early; no-list = no-list (r .refusal) (r .place) (r .is) }
 
   -- Where data, setup and first block are in order and no opening before the second of the two is refused, the refusal is 8
   -- at that opening.
   pub first-duplicate :
       {os : List Block} {b : Block} (later : List Block) (ns : List ℕ) → length bytes ≤ 65_535 → validSetup s ≡ true
       → percentBegins (blocksOf bytes) ≡ true → openingsOf bytes ≡ os ++ later → (twice : Twice os b)
-      → InOrder (earlier twice) ns (mostOpenings (mainOpens (blocksOf bytes))) → NoList s bytes room budget DuplicateNumber (placeOf b)
+      → InOrder (earlier twice) ns (mostOpenings (mainOpens (blocksOf bytes))) → NoList s bytes room budget 8 (placeOf b)
   unfolding outcome openingsOf runBlocks runTable percentBegins
   first-duplicate {os} {b} later ns h v p e twice order =
       no-list DuplicateNumber (placeOf b) (rw (le-ltb 65_535 (length bytes) h, v) (go (blocksOf bytes) p listed order))

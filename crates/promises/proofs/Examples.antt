@@ -10,7 +10,7 @@ use lib.Dec.{eqb}
 use lib.ListN.{getD}
 use Rattle.terms.specs.Terms.{any}
 use Rattle.terms.proofs.Laws.{every-place}
-use Rattle.refusals.specs.declared.Refusal.the-variants.{DuplicateNumber}
+use Rattle.refusals.specs.Answers.{refusedWith, reportOf}
 use Rattle.programs.specs.Openings.{placeOf}
 use Rattle.gaps.specs.Comments.{insideAt}
 use Rattle.records.specs.declared.Listed.the-variants.{End}
@@ -20,7 +20,7 @@ use Rattle.setup.specs.declared.Setup.{Setup}
 use Rattle.setup.specs.Examples.{setupT}
 use Rattle.runs.specs.Examples.{roomT, sample, sampleRecords}
 use Rattle.runs.specs.Run.{answerOf, recordsOf}
-use Rattle.refusals.specs.declared.Answer.the-variants.{Done, Refused}
+use Rattle.refusals.specs.declared.Answer.the-variants.{Done}
 use Rattle.runs.specs.declared.Budget.{Budget}
 use Rattle.runs.specs.declared.Budget.the-variants.{Whole, First}
 use Rattle.promises.specs.Duplicates.{Twice, NoList, openingsOf}
@@ -39,7 +39,7 @@ unfolding opened
 subprograms-twice =
     record { before = []; first = firstOne; between = []; number = 1; are = refl; one = refl; other = refl }
 
-pub subprograms-refused : (room : ℕ) (budget : Budget) → NoList setupT twoSubprograms room budget DuplicateNumber (placeOf secondOne)
+pub subprograms-refused : (room : ℕ) (budget : Budget) → NoList setupT twoSubprograms room budget 8 (placeOf secondOne)
 unfolding opened subprograms-twice
 subprograms-refused room budget =
     first-duplicate setupT twoSubprograms room budget [] (1 ∷ []) (omega arith) refl refl refl subprograms-twice
@@ -50,14 +50,14 @@ unfolding opened
 main-twice =
     record { before = []; first = mainOpening; between = otherOpening ∷ []; number = 7; are = refl; one = refl; other = refl }
 
-pub main-refused : (room : ℕ) (budget : Budget) → NoList setupT mainAgain room budget DuplicateNumber (placeOf mainNumberAgain)
+pub main-refused : (room : ℕ) (budget : Budget) → NoList setupT mainAgain room budget 8 (placeOf mainNumberAgain)
 unfolding opened main-twice
 main-refused room budget =
     first-duplicate setupT mainAgain room budget [] (7 ∷ 20 ∷ []) (omega arith) refl refl refl main-twice
     (record { good = refl; different = refl; few = omega arith })
 
 -- the same by computation alone
-pub main-refused-computed : answerOf setupT mainAgain 0 (First 0) ≡ Refused DuplicateNumber (record { block = 6; byte = 17 }) 0
+pub main-refused-computed : reportOf (answerOf setupT mainAgain 0 (First 0)) ≡ refusedWith 8 (record { block = 6; byte = 17 }) 0
 unfolding opened
 main-refused-computed = refl
 

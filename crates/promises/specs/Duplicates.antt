@@ -7,16 +7,13 @@ use mathlib.Core.List.{List, [], _∷_, _++_, map}
 use lib.Dec.{eqb}
 use lib.ListN.{length, drop}
 use Rattle.terms.specs.Terms.{if_then_else_, any}
-use Rattle.refusals.specs.declared.Refusal.{Refusal}
-use Rattle.refusals.specs.declared.Refusal.the-variants.{FirstBlock, BadSetup, DataTooLong}
 use Rattle.refusals.specs.declared.Place.{Place}
-use Rattle.refusals.specs.Numbers.{numberOf}
+use Rattle.refusals.specs.Answers.{refusedWith, reportOf}
 use Rattle.lines.specs.Blocks.{Block, blocksOf, closes, opens}
 use Rattle.programs.specs.Openings.{openingOf, placeOf, most}
 use Rattle.programs.specs.declared.Opening.the-variants.{Number}
 use Rattle.setup.specs.declared.Setup.{Setup}
 use Rattle.runs.specs.Run.{nowhere, answerOf, recordsOf}
-use Rattle.refusals.specs.declared.Answer.the-variants.{Refused}
 use Rattle.runs.specs.declared.Budget.{Budget}
 
 -- A block in front of openings: "A later `%` alone ends the data; nothing after it is read.", and an opening is one more.
@@ -64,26 +61,27 @@ pub record Twice (os : List Block) (b : Block) : Type 0 where
 abbrev pub earlier : {os : List Block} {b : Block} → Twice os b → List Block
 earlier t = t .before ++ t .first ∷ t .between
 
--- A refusal that comes before any block is executed: "13, 12, 11; then per opening 1, 8, 7", of one of the openings given.
-pub data Early (os : List Block) : Refusal → Place → Type 0 where
-  tooLong : Early os DataTooLong nowhere
-  badSetup : Early os BadSetup nowhere
-  firstBlock : Early os FirstBlock (record { block = 1; byte = 0 })
+-- A refusal that comes before any block is executed, by its number: "13, 12, 11; then per opening 1, 8, 7", of one of the
+-- openings given. "12, 13: block 0, byte 0. 11: block 1, byte 0."
+pub data Early (os : List Block) : ℕ → Place → Type 0 where
+  tooLong : Early os 13 nowhere
+  badSetup : Early os 12 nowhere
+  firstBlock : Early os 11 (record { block = 1; byte = 0 })
   opening :
-      {refusal : Refusal} (before : List Block) (b : Block) (after : List Block) → os ≡ before ++ b ∷ after
-      → any (eqb (numberOf refusal)) (1 ∷ 8 ∷ 7 ∷ []) ≡ true → Early os refusal (placeOf b)
+      {number : ℕ} (before : List Block) (b : Block) (after : List Block) → os ≡ before ++ b ∷ after
+      → any (eqb number) (1 ∷ 8 ∷ 7 ∷ []) ≡ true → Early os number (placeOf b)
 
--- the run is refused and no record is made
-pub record NoList (s : Setup) (bytes : List ℕ) (room : ℕ) (budget : Budget) (refusal : Refusal) (place : Place) : Type 0 where
-  pub answer : answerOf s bytes room budget ≡ Refused refusal place 0
+-- the run gets the refusal of a number, and no record is made
+pub record NoList (s : Setup) (bytes : List ℕ) (room : ℕ) (budget : Budget) (number : ℕ) (place : Place) : Type 0 where
+  pub answer : reportOf (answerOf s bytes room budget) ≡ refusedWith number place 0
   pub records : recordsOf s bytes room budget ≡ []
 
 -- the same at one of the openings given, or before any of them
 pub record RefusedEarly (s : Setup) (bytes : List ℕ) (room : ℕ) (budget : Budget) (os : List Block) : Type 0 where
-  pub refusal : Refusal
+  pub number : ℕ
   pub place : Place
-  pub early : Early os refusal place
-  pub no-list : NoList s bytes room budget refusal place
+  pub early : Early os number place
+  pub no-list : NoList s bytes room budget number place
 
 unfoldable pub allDifferent : List ℕ → Bool
 allDifferent [] = true

@@ -1,10 +1,17 @@
--- Every refusal has one of the numbers 1 to 16, and no two have the same.
-use Prim.Native.Nat.{ℕ, _≤_}
+-- The table of the sixteen refusals holds of the definition, row by row, by computation; every refusal has a row in it, at the
+-- place of its number.
+use Prim.Native.Nat.{ℕ, _-_, _≤_}
 use mathlib.Core.Path.{_≡_, refl, sym, _∙_, ap}
-use mathlib.Core.List.{List, [], _∷_}
+use mathlib.Core.List.{List, map}
+use native.Mathlib.Omega.{arith}
 use lib.Dec.{lit≤}
 use lib.ListN.{getD}
 use Rattle.refusals.specs.Numbers.{numberOf}
+use Rattle.refusals.specs.Table.{rows}
+use Rattle.refusals.specs.Answers.{Report, reportOf}
+use Rattle.refusals.specs.declared.Answer.{Answer}
+use Rattle.refusals.specs.declared.Answer.the-variants.{Done, Unfinished, Refused}
+use Rattle.refusals.specs.declared.Place.{Place}
 use Rattle.refusals.specs.declared.Refusal.{Refusal}
 use Rattle.refusals.specs.declared.Refusal.the-variants.{
   BadParameter,
@@ -25,19 +32,19 @@ use Rattle.refusals.specs.declared.Refusal.the-variants.{
   CentreTooFar,
 }
 
--- the refusals at the places of their numbers; place 0 is no refusal's
-abbrev inOrder : List Refusal
-inOrder =
-    BadParameter ∷ BadParameter ∷ AddressUndefined ∷ ParameterUndefined ∷ CannotExecute ∷ NumberNotFound ∷ NestOver ∷ TableOver
-    ∷ DuplicateNumber ∷ LeavesTravel ∷ NoRoom ∷ FirstBlock ∷ BadSetup ∷ DataTooLong ∷ NoEnd ∷ Unreadable ∷ CentreTooFar ∷ []
+pub table-holds : map (λ row. numberOf (row .refusal)) rows ≡ map (λ row. row .number) rows
+table-holds = refl
 
--- what one row of the table claims of a refusal
-record Row (r : Refusal) : Type 0 where
+abbrev inOrder : List Refusal
+inOrder = map (λ row. row .refusal) rows
+
+-- the row of a refusal
+record InTable (r : Refusal) : Type 0 where
   least : 1 ≤ numberOf r
   most : numberOf r ≤ 16
-  back : getD inOrder (numberOf r) BadParameter ≡ r
+  back : getD inOrder (numberOf r - 1) BadParameter ≡ r
 
-row : (r : Refusal) → Row r
+row : (r : Refusal) → InTable r
 row BadParameter = record { least = lit≤ tt; most = lit≤ tt; back = refl }
 row AddressUndefined = record { least = lit≤ tt; most = lit≤ tt; back = refl }
 row ParameterUndefined = record { least = lit≤ tt; most = lit≤ tt; back = refl }
@@ -59,4 +66,20 @@ pub one-to-sixteen : (r : Refusal) → (1 ≤ numberOf r) × (numberOf r ≤ 16)
 one-to-sixteen r = (row r .least, row r .most)
 
 pub numbered-apart : (r s : Refusal) → numberOf r ≡ numberOf s → r ≡ s
-numbered-apart r s e = sym (row r .back) ∙ ap (λ (n : ℕ). getD inOrder n BadParameter) e ∙ row s .back
+numbered-apart r s e = sym (row r .back) ∙ ap (λ (n : ℕ). getD inOrder (n - 1) BadParameter) e ∙ row s .back
+
+-- so that a report leaves nothing out: answers of one report are the same
+pub reported-apart : (a b : Answer) → reportOf a ≡ reportOf b → a ≡ b
+reported-apart (Done n) (Done m) e = let same : n ≡ m = cc in ap Done same
+reported-apart (Done n) (Unfinished m) e = let z : _≡_ {A = ℕ} 0 1 = cc in absurd (omega arith)
+reported-apart (Done n) (Refused s q m) e = let z : _≡_ {A = ℕ} 0 1 = cc in absurd (omega arith)
+reported-apart (Unfinished n) (Done m) e = let z : _≡_ {A = ℕ} 0 1 = cc in absurd (omega arith)
+reported-apart (Unfinished n) (Unfinished m) e = let same : n ≡ m = cc in ap Unfinished same
+reported-apart (Unfinished n) (Refused s q m) e = let z : _≡_ {A = ℕ} 0 1 = cc in absurd (omega arith)
+reported-apart (Refused r p n) (Done m) e = let z : _≡_ {A = ℕ} 0 1 = cc in absurd (omega arith)
+reported-apart (Refused r p n) (Unfinished m) e = let z : _≡_ {A = ℕ} 0 1 = cc in absurd (omega arith)
+reported-apart (Refused r p n) (Refused s q m) e =
+    let number : numberOf r ≡ numberOf s = cc in
+    let place : p ≡ q = cc in
+    let count : n ≡ m = cc in
+    rw (numbered-apart r s number, place, count)

@@ -1,10 +1,24 @@
--- What a run answers: "the records written so far", whatever became of it.
+-- What a run answers, in document 01's words: "the records written so far", whatever became of it, and a refusal by its number.
 use Prim.Native.Nat.{ℕ}
 use Rattle.refusals.specs.declared.Answer.{Answer}
 use Rattle.refusals.specs.declared.Answer.the-variants.{Done, Unfinished, Refused}
+use Rattle.refusals.specs.declared.Place.{Place}
+use Rattle.refusals.specs.Numbers.{numberOf}
 
 -- the count of records that an answer names
 abbrev pub countOf : Answer → ℕ
 countOf (Done n) = n
 countOf (Unfinished n) = n
 countOf (Refused refusal place n) = n
+
+-- "Each returns number, block, byte and the records written so far."
+pub data Report : Type 0 where
+  done : (count : ℕ) → Report
+  notFinished : (count : ℕ) → Report
+  refusedWith : (number : ℕ) (place : Place) (count : ℕ) → Report
+
+-- what each case of an answer says; every promise that names a refusal speaks of this
+abbrev pub reportOf : Answer → Report
+reportOf (Done n) = done n
+reportOf (Unfinished n) = notFinished n
+reportOf (Refused refusal place n) = refusedWith (numberOf refusal) place n
