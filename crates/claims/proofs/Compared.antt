@@ -1,6 +1,6 @@
 -- A run under two machines that differ in their tests alone: where it ends under the first, it does the same under the second,
 -- or is refused there for travel, at the first block whose path leaves the second machine's travel.
-use Prim.Native.Nat.{ℕ, zero, suc, _+_}
+use Prim.Native.Nat.{ℕ, zero, suc, _+_, _<_}
 use mathlib.Core.Path.{_≡_, refl, sym, _∙_, ap, subst}
 use mathlib.Core.Bool.{Bool, true, false, _||_}
 use mathlib.Core.Option.{Option, none, some}
@@ -199,6 +199,7 @@ module _ (bed : Bed) (fits : Record → Bool) (stays : Point → Record → Bool
     -- where the second machine leaves the first one's run
     pub record Parts (x : Sofar) (n : ℕ) : Type 0 where
       pub before : ℕ
+      pub within : before < n
       pub same : more job₂ before x ≡ more job₁ before x
       pub under : more job₁ before x .over ≡ none
       pub block : BlockDone
@@ -223,6 +224,7 @@ module _ (bed : Bed) (fits : Record → Bool) (stays : Point → Record → Bool
         parts
         (record {
           before = suc k;
+          within = omega (arith, p .within);
           same = ap (more job₂ k) f ∙ p .same ∙ sym (one k);
           under = ap (λ (z : Sofar). z .over) (one k) ∙ p .under;
           block = p .block;
@@ -267,6 +269,7 @@ module _ (bed : Bed) (fits : Record → Bool) (stays : Point → Record → Bool
         let added = more-adds job₁ n (oneMore job₁ x) in
         record {
           before = 0;
+          within = omega arith;
           same = refl;
           under = e;
           block = d;

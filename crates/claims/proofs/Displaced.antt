@@ -1,6 +1,6 @@
--- Demand 3, both halves. In the frame of the common offset the two setups have the same start and the same computation, and
--- differ in the travel alone.
-use Prim.Native.Nat.{ℕ, suc}
+-- Demand 3, both halves, of the whole and of the first n blocks where the program ends within them. In the frame of the common
+-- offset the two setups have the same start and the same computation, and differ in the travel alone.
+use Prim.Native.Nat.{ℕ, suc, _<_, _≤_}
 use mathlib.Core.Path.{_≡_, refl, sym, _∙_, ap, ap₂, subst}
 use mathlib.Core.Bool.{Bool, true, false, false≢true, _&&_}
 use mathlib.Core.Option.{Option, none, some}
@@ -31,6 +31,7 @@ use Rattle.blocks.specs.Reach.{Reachable}
 use Rattle.lines.specs.Blocks.{Block, blocksOf}
 use Rattle.programs.specs.Openings.{Table, table, placeOf}
 use Rattle.programs.specs.Openings as Openings
+use Rattle.runs.specs.declared.Budget.{Budget}
 use Rattle.runs.specs.declared.Budget.the-variants.{Whole, First}
 use Rattle.refusals.specs.declared.Answer.the-variants.{Done}
 use Rattle.runs.specs.Walk.{How, ended, refusedAt, Outcome}
@@ -44,8 +45,8 @@ use Rattle.claims.proofs.Paths.{stays-both}
 use Rattle.claims.proofs.Displacing.{records-twice}
 use Rattle.claims.proofs.Runs.{first-n, sufficient, some-n, begun-with}
 use Rattle.claims.proofs.Travel.{Stayed, run-stayed, begun-stayed, same-start, same-stays}
-use Rattle.claims.proofs.Answers.{Close, under, atEnd, atRefusal, run-close}
-use Rattle.claims.proofs.Stepping.{one-later}
+use Rattle.claims.proofs.Answers.{Close, under, atEnd, atRefusal, run-close, over-finished}
+use Rattle.claims.proofs.Stepping.{one-later, Allows, allowed}
 use Rattle.claims.proofs.Compared.{Compared, same, parts, compared}
 
 -- ---- the two setups in the frame
@@ -134,9 +135,25 @@ done-ended o k count under e = let z : _≡_ {A = ℕ} 0 1 = cc in absurd (omega
 done-ended o k count atEnd e = refl
 done-ended o k count (atRefusal r place) e = let z : _≡_ {A = ℕ} 0 1 = cc in absurd (omega arith)
 
+-- so many blocks the budget allows, and they give the outcome
+record Decided (s : Setup) (bytes : List ℕ) (room : ℕ) (budget : Budget) : Type 0 where
+  blocks : ℕ
+  allows : Allows blocks budget
+  gives : outcome s bytes room budget ≡ outcomeSofar (firstBlocks s bytes room blocks)
+
+decided : (s : Setup) (bytes : List ℕ) (room : ℕ) (budget : Budget) → Decided s bytes room budget
+decided s bytes room Whole =
+    let n = some-n s bytes room in
+    record { blocks = n .0; allows = tt; gives = sufficient s bytes room (n .0) (n .1) }
+decided s bytes room (First k) = record { blocks = k; allows = omega arith; gives = first-n s bytes room k }
+
+fewer-allowed : (budget : Budget) (m n : ℕ) → m ≤ n → Allows n budget → Allows m budget
+fewer-allowed Whole m n h a = tt
+fewer-allowed (First k) m n h a = omega arith
+
 module _ (by : Axes) (s : Setup) (bytes : List ℕ) (room : ℕ)
     (v : validSetup s ≡ true) (w : validSetup (displaced by s) ≡ true) (six : length (s .origins) ≡ 6)
-    (count : ℕ) (done : answerOf s bytes room Whole ≡ Done count)
+    (budget : Budget) (count : ℕ) (done : answerOf s bytes room budget ≡ Done count)
   where
     abbrev second : Setup
     second = displaced by s
@@ -147,19 +164,28 @@ module _ (by : Axes) (s : Setup) (bytes : List ℕ) (room : ℕ)
     fair : Fair (bedOf second)
     fair = Valid.fair second w six
 
-    n : ℕ
-    n = some-n s bytes room .0
+    run : Decided s bytes room budget
+    run = decided s bytes room budget
 
-    over : Over (firstBlocks s bytes room n)
-    unfolding n
-    over = some-n s bytes room .1
+    abbrev n : ℕ
+    n = run .blocks
 
     is-ended : firstBlocks s bytes room n .over ≡ some ended
     unfolding answerOf outcomeSofar
     is-ended =
         done-ended (firstBlocks s bytes room n .over) (length (recordsBy (firstBlocks s bytes room n .executed))) count
         (run-close s bytes room n)
-        (ap (λ (o : Outcome). answerBy (o .how) (length (o .made))) (sym (sufficient s bytes room n over)) ∙ done)
+        (ap (λ (o : Outcome). answerBy (o .how) (length (o .made))) (sym (run .gives)) ∙ done)
+
+    -- where so many blocks, which are not more, bring the second setup's run to its end or to a refusal, they give its outcome
+    second-gives :
+        (m : ℕ) → m ≤ n → Over (firstBlocks second bytes room m)
+        → outcome second bytes room budget ≡ outcomeSofar (firstBlocks second bytes room m)
+    unfolding outcomeSofar
+    second-gives m few over =
+        allowed second bytes room m budget (fewer-allowed budget m n few (run .allows))
+        (λ e. over-finished second bytes room m over (ap (λ (o : Outcome). o .how) (sym (first-n second bytes room m)) ∙ e))
+        ∙ first-n second bytes room m
 
     reached : Reachable (bedOf second) (begun s bytes room .stand .state)
     reached =
@@ -192,6 +218,7 @@ module _ (by : Axes) (s : Setup) (bytes : List ℕ) (room : ℕ)
     -- where the second setup's run leaves the first one's
     record Parting : Type 0 where
       before : ℕ
+      within : before < n
       alike : firstBlocks second bytes room before ≡ firstBlocks s bytes room before
       open′ : firstBlocks s bytes room before .over ≡ none
       block : BlockDone
@@ -218,6 +245,7 @@ module _ (by : Axes) (s : Setup) (bytes : List ℕ) (room : ℕ)
             leaving
             (record {
               before = p .before;
+              within = p .within;
               alike = second-run (p .before) ∙ p .same;
               open′ = p .under;
               block = p .block;
@@ -230,21 +258,21 @@ module _ (by : Axes) (s : Setup) (bytes : List ℕ) (room : ℕ)
 
     -- ---- the records of the first blocks
 
-    whole-made : outcome s bytes room Whole .made ≡ recordsBy (firstBlocks s bytes room n .executed)
+    all-made : outcome s bytes room budget .made ≡ recordsBy (firstBlocks s bytes room n .executed)
     unfolding outcomeSofar
-    whole-made = ap (λ (o : Outcome). o .made) (sufficient s bytes room n over)
+    all-made = ap (λ (o : Outcome). o .made) (run .gives)
 
     first-made : (k : ℕ) → outcome s bytes room (First k) .made ≡ recordsBy (firstBlocks s bytes room k .executed)
     unfolding outcomeSofar
     first-made k = ap (λ (o : Outcome). o .made) (first-n s bytes room k)
 
-    -- the displaced records of the whole stay where the run's records do in the frame
-    whole-stays :
-        stayIn second (allMoved by (recordsOf s bytes room Whole))
+    -- the displaced records stay where the run's records do in the frame
+    all-stays :
+        stayIn second (allMoved by (recordsOf s bytes room budget))
         ≡ pathStaysIn staysThere (startOf second) (recordsBy (firstBlocks s bytes room n .executed))
     unfolding recordsOf
-    whole-stays =
-        moved-stays by s (outcome s bytes room Whole .made) ∙ ap (pathStaysIn staysThere (startOf second)) whole-made
+    all-stays =
+        moved-stays by s (outcome s bytes room budget .made) ∙ ap (pathStaysIn staysThere (startOf second)) all-made
 
     first-stays :
         (k : ℕ)
@@ -264,10 +292,10 @@ module _ (by : Axes) (s : Setup) (bytes : List ℕ) (room : ℕ)
 
     -- ---- where both run alike
 
-    outcome-same : firstBlocks second bytes room n ≡ firstBlocks s bytes room n → outcome second bytes room Whole ≡ outcome s bytes room Whole
+    outcome-same : firstBlocks second bytes room n ≡ firstBlocks s bytes room n → outcome second bytes room budget ≡ outcome s bytes room budget
     outcome-same e =
         let there : Over (firstBlocks second bytes room n) = (ended, ap (λ (x : Sofar). x .over) e ∙ is-ended) in
-        sufficient second bytes room n there ∙ ap outcomeSofar e ∙ sym (sufficient s bytes room n over)
+        second-gives n (omega arith) there ∙ ap outcomeSofar e ∙ sym (run .gives)
 
     -- ---- where they part
 
@@ -294,8 +322,8 @@ module _ (by : Axes) (s : Setup) (bytes : List ℕ) (room : ℕ)
           ∙ ap₂ _&&_ earlier-stay
           (ap (λ (q : Point). pathStaysIn staysThere q (p .block .made)) (sym tool-at) ∙ p .leaves)
 
-      whole-leaves : pathStaysIn staysThere (startOf second) (recordsBy (firstBlocks s bytes room n .executed)) ≡ false
-      whole-leaves =
+      all-leave : pathStaysIn staysThere (startOf second) (recordsBy (firstBlocks s bytes room n .executed)) ≡ false
+      all-leave =
           ap (pathStaysIn staysThere (startOf second)) (p .all ∙ ap (_++ p .rest) with-block)
           ∙ stays-both staysThere (startOf second) (earlier ++ p .block .made) (p .rest)
           ∙ ap (_&& pathStaysIn staysThere (endOf (startOf second) (earlier ++ p .block .made)) (p .rest)) block-leaves
@@ -311,18 +339,18 @@ module _ (by : Axes) (s : Setup) (bytes : List ℕ) (room : ℕ)
           ∙ ap (afterTurn (firstBlocks s bytes room (p .before))) (p .refused)
 
       second-outcome :
-          outcome second bytes room Whole
+          outcome second bytes room budget
           ≡ record { how = refusedAt LeavesTravel (placeOf (p .block .block)); made = outcome s bytes room (First (p .before)) .made }
       unfolding outcomeSofar howSofar afterTurn
       second-outcome =
           let place : Place = placeOf (p .block .block) in
           let there : Over (firstBlocks second bytes room (suc (p .before))) =
           (refusedAt LeavesTravel place, ap (λ (x : Sofar). x .over) second-refused) in
-          sufficient second bytes room (suc (p .before)) there
+          second-gives (suc (p .before)) (omega (arith, p .within)) there
           ∙ ap outcomeSofar second-refused
           ∙ ap (λ (rs : List Record). record { how = refusedAt LeavesTravel place; made = rs }) (sym (first-made (p .before)))
 
-      leaves-first : LeavesFirst by s bytes room
+      leaves-first : LeavesFirst by s bytes room budget
       unfolding answerOf recordsOf answerBy
       leaves-first =
           let made : List Record = outcome s bytes room (First (p .before)) .made in
@@ -340,38 +368,38 @@ module _ (by : Axes) (s : Setup) (bytes : List ℕ) (room : ℕ)
                 ap (λ (o : Outcome). map (recordMoved (offset second)) (o .made)) second-outcome ∙ sym (moved-records by s made);
           }
 
-    -- ---- the two halves
+    -- ---- the two halves, for every budget with which the program ends under the first
 
     -- "If a program ends under the first, and its whole path, so displaced, stays in the travel as document 01 measures it, it
     -- ends under the second with the same records, all points and arc centres displaced and every other number equal."
     pub moves-the-cut :
-        stayIn (displaced by s) (allMoved by (recordsOf s bytes room Whole)) ≡ true
-        → (answerOf (displaced by s) bytes room Whole ≡ Done count)
-        × (recordsOf (displaced by s) bytes room Whole ≡ allMoved by (recordsOf s bytes room Whole))
+        stayIn (displaced by s) (allMoved by (recordsOf s bytes room budget)) ≡ true
+        → (answerOf (displaced by s) bytes room budget ≡ Done count)
+        × (recordsOf (displaced by s) bytes room budget ≡ allMoved by (recordsOf s bytes room budget))
     unfolding answerOf recordsOf
     moves-the-cut stay = go either
       where
         go :
             Either
-            → (answerOf (displaced by s) bytes room Whole ≡ Done count)
-            × (recordsOf (displaced by s) bytes room Whole ≡ allMoved by (recordsOf s bytes room Whole))
+            → (answerOf (displaced by s) bytes room budget ≡ Done count)
+            × (recordsOf (displaced by s) bytes room budget ≡ allMoved by (recordsOf s bytes room budget))
         go (asFirst e) = (
           ap (λ (o : Outcome). answerBy (o .how) (length (o .made))) (outcome-same e) ∙ done,
           ap (λ (o : Outcome). map (recordMoved (offset second)) (o .made)) (outcome-same e)
-              ∙ sym (moved-records by s (outcome s bytes room Whole .made)),
+              ∙ sym (moved-records by s (outcome s bytes room budget .made)),
         )
-        go (leaving p) = absurd (false≢true (sym (whole-stays ∙ whole-leaves p) ∙ stay))
+        go (leaving p) = absurd (false≢true (sym (all-stays ∙ all-leave p) ∙ stay))
 
     -- "If it ends under the first and that path does not stay, the second refuses for travel at the first executed block whose
     -- displaced path leaves it, with the earlier records displaced."
     pub refuses-for-travel :
-        stayIn (displaced by s) (allMoved by (recordsOf s bytes room Whole)) ≡ false → LeavesFirst by s bytes room
+        stayIn (displaced by s) (allMoved by (recordsOf s bytes room budget)) ≡ false → LeavesFirst by s bytes room budget
     refuses-for-travel leave = go either
       where
-        go : Either → LeavesFirst by s bytes room
+        go : Either → LeavesFirst by s bytes room budget
         go (asFirst e) =
             let stays =
             subst (λ (x : Sofar). pathStaysIn staysThere (startOf second) (recordsBy (x .executed)) ≡ true) e
             (second-stayed n .path) in
-            absurd (false≢true (sym leave ∙ whole-stays ∙ stays))
+            absurd (false≢true (sym leave ∙ all-stays ∙ stays))
         go (leaving p) = leaves-first p

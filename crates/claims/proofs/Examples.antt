@@ -8,7 +8,7 @@ use Rattle.setup.specs.Examples.{setupT}
 use Rattle.setup.specs.Limits.{validSetup}
 use Rattle.runs.specs.Examples.{roomT}
 use Rattle.refusals.specs.declared.Answer.the-variants.{Done}
-use Rattle.runs.specs.declared.Budget.the-variants.{Whole}
+use Rattle.runs.specs.declared.Budget.the-variants.{Whole, First}
 use Rattle.runs.specs.Run.{recordsOf, answerOf}
 use Rattle.claims.specs.Displaced.{displaced, allMoved, stayIn, LeavesFirst}
 use Rattle.claims.specs.Examples.{turn, touching, leaving, rapid, turnRecords}
@@ -50,7 +50,7 @@ touching-records = refl
 pub touching-moved :
     (answerOf (displaced touching setupT) turn roomT Whole ≡ Done 3)
     × (recordsOf (displaced touching setupT) turn roomT Whole ≡ allMoved touching (recordsOf setupT turn roomT Whole))
-touching-moved = moves-the-cut touching setupT turn roomT valid-first valid-touching refl 3 turn-done path-touches
+touching-moved = moves-the-cut touching setupT turn roomT valid-first valid-touching refl Whole 3 turn-done path-touches
 
 -- ---- one unit more
 
@@ -73,5 +73,27 @@ unfolding opened
 leaving-records = refl
 
 -- the same by the second half of the demand
-pub leaving-first : LeavesFirst leaving setupT turn roomT
-leaving-first = refuses-for-travel leaving setupT turn roomT valid-first valid-leaving refl 3 turn-done path-leaves
+pub leaving-first : LeavesFirst leaving setupT turn roomT Whole
+leaving-first = refuses-for-travel leaving setupT turn roomT valid-first valid-leaving refl Whole 3 turn-done path-leaves
+
+-- ---- both halves with the first three blocks, in which the program ends
+
+three-done : answerOf setupT turn roomT (First 3) ≡ Done 3
+unfolding opened
+three-done = refl
+
+three-touch : stayIn (displaced touching setupT) (allMoved touching (recordsOf setupT turn roomT (First 3))) ≡ true
+unfolding opened
+three-touch = refl
+
+three-leave : stayIn (displaced leaving setupT) (allMoved leaving (recordsOf setupT turn roomT (First 3))) ≡ false
+unfolding opened
+three-leave = refl
+
+pub three-moved :
+    (answerOf (displaced touching setupT) turn roomT (First 3) ≡ Done 3)
+    × (recordsOf (displaced touching setupT) turn roomT (First 3) ≡ allMoved touching (recordsOf setupT turn roomT (First 3)))
+three-moved = moves-the-cut touching setupT turn roomT valid-first valid-touching refl (First 3) 3 three-done three-touch
+
+pub three-first : LeavesFirst leaving setupT turn roomT (First 3)
+three-first = refuses-for-travel leaving setupT turn roomT valid-first valid-leaving refl (First 3) 3 three-done three-leave

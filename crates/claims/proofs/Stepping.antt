@@ -1,12 +1,14 @@
 -- "Each one more adds that block's records and no others; before the end the answer is 'not finished', and past the end or a
 -- refusal answer and list stay as they were."
-use Prim.Native.Nat.{ℕ, zero, suc, _+_}
+use Prim.Native.Nat.{ℕ, zero, suc, _+_, _-_, _≤_}
 use mathlib.Core.Path.{_≡_, refl, sym, _∙_, ap}
 use mathlib.Core.Option.{Option, none, some}
 use mathlib.Core.List.{List, [], _∷_, _++_}
 use native.Mathlib.Nat.{zero-add, suc-add}
+use native.Mathlib.Omega.{arith}
 use Rattle.setup.specs.declared.Setup.{Setup}
 use Rattle.records.specs.declared.Record.{Record}
+use Rattle.runs.specs.declared.Budget.{Budget}
 use Rattle.runs.specs.declared.Budget.the-variants.{Whole, First}
 use Rattle.runs.specs.Walk.{How, ended, unfinished, refusedAt, Outcome}
 use Rattle.runs.specs.Run.{outcome}
@@ -16,6 +18,11 @@ use Rattle.claims.proofs.Turns.{open-turn, one-over, more-last}
 use Rattle.claims.proofs.Counted.{records-last, Over}
 use Rattle.claims.proofs.Runs.{first-n, sufficient, some-n}
 use Rattle.claims.proofs.Answers.{over-finished}
+
+-- a budget with which so many blocks may be executed
+abbrev pub Allows : ℕ → Budget → Type 0
+Allows n Whole = Unit {0}
+Allows n (First k) = n ≤ k
 
 module _ (s : Setup) (bytes : List ℕ) (room : ℕ) where
   -- the run after one block more
@@ -99,6 +106,15 @@ module _ (s : Setup) (bytes : List ℕ) (room : ℕ) where
   pub whole-is-enough :
       (n : ℕ) → (outcome s bytes room (First n) .how ≡ unfinished → ⊥) → outcome s bytes room Whole ≡ outcome s bytes room (First n)
   whole-is-enough n h = sufficient s bytes room n (finished-over n h) ∙ sym (first-n s bytes room n)
+
+  -- and so does every budget that is not less
+  pub allowed :
+      (n : ℕ) (budget : Budget) → Allows n budget → (outcome s bytes room (First n) .how ≡ unfinished → ⊥)
+      → outcome s bytes room budget ≡ outcome s bytes room (First n)
+  allowed n Whole a h = whole-is-enough n h
+  allowed n (First k) a h =
+      let parts : k ≡ (k - n) + n = omega arith in
+      ap (λ (m : ℕ). outcome s bytes room (First m)) parts ∙ past-the-end n (k - n) h
 
   -- and there is such an n
   pub some-are-enough : (n : ℕ) × (outcome s bytes room (First n) .how ≡ unfinished → ⊥)

@@ -13,7 +13,8 @@ use Rattle.setup.specs.Frame.{pointOf}
 use Rattle.records.specs.declared.Record.{Record}
 use Rattle.records.specs.Path.{pathStaysIn, recordMoved}
 use Rattle.programs.specs.Openings.{placeOf}
-use Rattle.runs.specs.declared.Budget.the-variants.{Whole, First}
+use Rattle.runs.specs.declared.Budget.{Budget}
+use Rattle.runs.specs.declared.Budget.the-variants.{First}
 use Rattle.runs.specs.Run.{recordsOf, answerOf}
 use Rattle.claims.specs.Steps.{BlockDone, firstBlocks}
 use Rattle.claims.specs.Travel.{inTravel}
@@ -48,7 +49,7 @@ stayIn s rs = pathStaysIn (inTravel s) (pointOf (s .start)) rs
 
 -- "the second refuses for travel at the first executed block whose displaced path leaves it, with the earlier records
 -- displaced": `before` blocks are executed before it
-pub record LeavesFirst (by : Axes) (s : Setup) (bytes : List ℕ) (room : ℕ) : Type 0 where
+pub record LeavesFirst (by : Axes) (s : Setup) (bytes : List ℕ) (room : ℕ) (budget : Budget) : Type 0 where
   pub before : ℕ
   pub block : BlockDone
   pub executed :
@@ -57,6 +58,6 @@ pub record LeavesFirst (by : Axes) (s : Setup) (bytes : List ℕ) (room : ℕ) :
   pub leaves : stayIn (displaced by s) (allMoved by (recordsOf s bytes room (First (suc before)))) ≡ false
   -- "9: Path leaves the travel", with the block's number and its first byte
   pub answer :
-      reportOf (answerOf (displaced by s) bytes room Whole)
+      reportOf (answerOf (displaced by s) bytes room budget)
       ≡ refusedWith 9 (placeOf (block .block)) (length (recordsOf s bytes room (First before)))
-  pub records : recordsOf (displaced by s) bytes room Whole ≡ allMoved by (recordsOf s bytes room (First before))
+  pub records : recordsOf (displaced by s) bytes room budget ≡ allMoved by (recordsOf s bytes room (First before))
