@@ -3,13 +3,16 @@ use Prim.Native.Nat.{ℕ, _+_, _-_, _≤_, _<_}
 use mathlib.Core.Path.{_≡_}
 use mathlib.Core.Option.{some}
 use mathlib.Core.List.{List, _++_}
-use lib.ListN.{length, drop}
+use lib.ListN.{length, take, drop}
 use lib.Seq.{sets}
 use Rattle.terms.specs.Terms.{byte}
 use Rattle.lines.specs.Blocks.{blockFrom, blocksFrom, lengthFrom}
 use Rattle.points.specs.declared.Point.{Point}
 use Rattle.setup.specs.declared.Setup.{Setup}
+use Rattle.records.specs.declared.Record.{Record}
+use Rattle.records.specs.declared.Listed.the-variants.{End}
 use Rattle.records.specs.Layout.{roomOf, listBytes}
+use Rattle.records.specs.Reading.{trail, after, readAll}
 use Rattle.cycles.specs.Writing.{movedBytes}
 use Rattle.programs.specs.declared.Programs.{Programs}
 use Rattle.programs.specs.Openings.{table, programsFrom}
@@ -20,6 +23,7 @@ use Rattle.runs.specs.Run.{answerBy, answerOf, recordsOf}
 use Rattle.runs.specs.declared.Budget.{Budget}
 use Rattle.refusals.specs.declared.Answer.{Answer}
 use Rattle.refusals.specs.declared.Answer.the-variants as Answers
+use Rattle.refusals.specs.Answers.{countOf}
 use Rattle.progress.specs.declared.Ending.{Ending}
 use Rattle.progress.specs.declared.Ending.the-variants.{Ended, Returned, Unfinished, Refused}
 
@@ -49,3 +53,11 @@ pub record Owes (s : Setup) (l : List ℕ) (budget : Budget) (was is : List ℕ)
       is
       ≡ listBytes (recordsOf s l (length was) budget)
       ++ drop (length (listBytes (recordsOf s l (length was) budget))) was
+
+-- Demand 2 of the list buffer's final bytes: "The list read back, record by record from its first byte, gives the run's events
+-- and then the end of what was written." As many are read as the answer counts, and more.
+pub record ReadsAs (rs : List Record) (is : List ℕ) (r : Answer) : Type 0 where
+  -- the whole buffer: the records, and then what the reader says where they end
+  pub buffer : (n : ℕ) → readAll (countOf r + n) is 0 ≡ after rs (readAll n is (length (listBytes rs)))
+  -- what was written of it: the records, and then its end
+  pub written : (n : ℕ) → readAll (countOf r + n) (take (length (listBytes rs)) is) 0 ≡ trail rs End

@@ -1,13 +1,12 @@
 -- Demand 2: "The list read back, record by record from its first byte, gives the run's events and then the end of what was
 -- written." The records of every run can be written and read back, they fit the list, and the answer has their count.
-use Prim.Native.Nat.{ℕ, _≤_}
-use mathlib.Core.Path.{_≡_, refl}
+use Prim.Native.Nat.{ℕ, _+_, _≤_}
+use mathlib.Core.Path.{_≡_, refl, _∙_, ap}
 use mathlib.Core.Bool.{Bool, true, false}
-use mathlib.Core.List.{List, [], map}
+use mathlib.Core.List.{List, [], _++_, map}
 use native.Mathlib.Omega.{arith}
 use lib.Dec.{ltb}
-use lib.ListN.{length, length-map}
-use lib.Seq.{sets}
+use lib.ListN.{length, drop, length-map}
 use Rattle.terms.specs.Terms.{if_then_else_}
 use Rattle.refusals.specs.declared.Refusal.the-variants.{BadSetup, DataTooLong}
 use Rattle.refusals.specs.Answers.{countOf}
@@ -17,9 +16,10 @@ use Rattle.setup.specs.Frame.{offset, bedOf}
 use Rattle.records.specs.declared.Record.{Record}
 use Rattle.records.specs.Layout.{listBytes, roomOf}
 use Rattle.records.specs.Path.{recordMoved}
+use Rattle.records.specs.Reading.{after, readAll}
 use Rattle.records.specs.Writing.{ListShort}
 use Rattle.records.proofs.Laid.{list-length}
-use Rattle.records.proofs.Back.{written-back, whole-list}
+use Rattle.records.proofs.Back.{round-trip, whole-list}
 use Rattle.cycles.proofs.Written.{moved-room}
 use Rattle.runs.specs.Walk.{How, ended, returned, unfinished, just}
 use Rattle.runs.specs.Walk as Walk
@@ -37,14 +37,14 @@ count-by (Walk.refusedAt refusal place) n = refl
 
 reads-back : (rs : List Record) (how : How) (room : ℕ) → ListShort rs → roomOf rs ≤ room → ReadsBack rs (answerBy how (length rs)) room
 reads-back rs how room short fits =
-    let bs = listBytes rs in
+    let end : 0 + roomOf rs ≡ length (listBytes rs) = omega (arith, list-length rs) in
     record {
       list = λ n. whole-list rs n short;
       count = count-by how (length rs);
       fits = omega (arith, list-length rs);
-      buffer = λ was e n.
-          written-back {was = was} {is = sets was 0 bs} {at = 0} {next = length bs} rs n short (omega arith)
-          (record { bytes = refl; place = omega arith });
+      buffer = λ was n.
+          let l = listBytes rs ++ drop (length (listBytes rs)) was in
+          round-trip [] (drop (length (listBytes rs)) was) rs n short ∙ ap (λ (k : ℕ). after rs (readAll n l k)) end;
     }
 
 -- The list of every run under a setup with its six origins, valid or not, read back.

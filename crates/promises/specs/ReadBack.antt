@@ -2,9 +2,8 @@
 -- written."
 use Prim.Native.Nat.{ℕ, _+_, _≤_}
 use mathlib.Core.Path.{_≡_}
-use mathlib.Core.List.{List}
-use lib.ListN.{length}
-use lib.Seq.{sets}
+use mathlib.Core.List.{List, _++_}
+use lib.ListN.{length, drop}
 use Rattle.records.specs.declared.Record.{Record}
 use Rattle.records.specs.declared.Listed.the-variants.{End}
 use Rattle.records.specs.Layout.{listBytes}
@@ -19,8 +18,9 @@ pub record ReadsBack (rs : List Record) (answer : Answer) (room : ℕ) : Type 0 
   -- "the records written so far": as many as stand there
   pub count : countOf answer ≡ length rs
   pub fits : length (listBytes rs) ≤ room
-  -- the same of a buffer over whose beginning they were written: the records, and then what the reader says after them
+  -- The same of the list buffer's final bytes, as `Owes` of `interpreter` names them: the records' bytes, and then the bytes that
+  -- stood there before. Reading gives the records, and then what the reader says after them.
   pub buffer :
-      (was : List ℕ) → length was ≡ room → (n : ℕ)
-      → readAll (length rs + n) (sets was 0 (listBytes rs)) 0
-      ≡ after rs (readAll n (sets was 0 (listBytes rs)) (length (listBytes rs)))
+      (was : List ℕ) (n : ℕ)
+      → readAll (length rs + n) (listBytes rs ++ drop (length (listBytes rs)) was) 0
+      ≡ after rs (readAll n (listBytes rs ++ drop (length (listBytes rs)) was) (length (listBytes rs)))

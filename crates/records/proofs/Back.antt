@@ -6,8 +6,8 @@ use mathlib.Core.List.{List, [], _∷_, _++_, append-assoc, append-nil}
 use native.Mathlib.Nat.{add-zero, zero-add, suc-add}
 use native.Mathlib.Omega.{arith}
 use lib.Dec.{eqb}
-use lib.ListN.{length, getD, take, drop, length-append, length-drop}
-use lib.Seq.{sets-eq, length-take-le, getD-drop, drop-drop, drop-at, drop-append-seam}
+use lib.ListN.{length, getD, drop, length-append, length-drop}
+use lib.Seq.{getD-drop, drop-drop, drop-at, drop-append-seam}
 use Rattle.terms.specs.Terms.{first}
 use Rattle.lengths.specs.Units.{len, fourBytes}
 use Rattle.lengths.specs.declared.Len.{Len}
@@ -21,7 +21,7 @@ use Rattle.records.specs.declared.Record.the-variants.{RP, LN, AR, AL, D
 use Rattle.records.specs.declared.Listed.{Listed}
 use Rattle.records.specs.declared.Listed.the-variants.{Next, End}
 use Rattle.records.specs.Layout.{kindOf, markOf, hasPlane, headLength, kindLength, numbersIn, planeByte, planeOf, planeBytes, numbersOf, numberBytes, recordBytes, listBytes, roomOf, recordOf}
-use Rattle.records.specs.Writing.{AllShort, ListShort, Wrote}
+use Rattle.records.specs.Writing.{AllShort, ListShort}
 use Rattle.records.specs.Reading.{marked, kinds, kindAt, planes, planeAt, planeFor, lenAt, numbersAt, readAt, trail, after, onward, readAll}
 use Rattle.records.proofs.Laid.{mark-length, mark-room, head-length, count, record-length, list-length, own}
 use Rattle.records.proofs.Found.{first-same, read-end, read-next}
@@ -148,19 +148,6 @@ pub round-trip :
 round-trip before rest rs n h =
     list-back rs n (before ++ listBytes rs ++ rest) (length before) rest h
     (ap (drop (length before)) (append-assoc before (listBytes rs) rest) ∙ drop-append-seam before (listBytes rs ++ rest))
-
--- records that were written over a list are read back from where they begin
-pub written-back :
-    {was is : List ℕ} {at next : ℕ} (rs : List Record) (n : ℕ) → ListShort rs → at + roomOf rs ≤ length was
-    → Wrote was at (listBytes rs) is next → readAll (length rs + n) is at ≡ after rs (readAll n is next)
-written-back {was} {is} {at} {next} rs n h k w =
-    let bs = listBytes rs in
-    let rest = drop (at + length bs) was in
-    let e : drop at is ≡ bs ++ rest =
-    ap (drop at) (w .bytes ∙ sets-eq bs was at (omega (arith, list-length rs)) ∙ append-assoc (take at was) bs rest)
-    ∙ drop-at (take at was) (bs ++ rest) at (length-take-le at was (omega arith)) in
-    let f : next ≡ at + roomOf rs = omega (arith, w .place, list-length rs) in
-    rw f (list-back rs n is at rest h e)
 
 stop : (n : ℕ) (l : List ℕ) (at : ℕ) → at ≡ length l → readAll n l at ≡ trail [] End
 unfolding readAll onward
