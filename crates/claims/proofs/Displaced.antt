@@ -25,7 +25,7 @@ use Rattle.setup.proofs.Valid as Valid
 use Rattle.records.specs.declared.Record.{Record}
 use Rattle.records.specs.Path.{endOf, pathStaysIn, recordMoved}
 use Rattle.settings.specs.declared.State.{State}
-use Rattle.settings.specs.Settings.{firstModes, firstState}
+use Rattle.settings.specs.Settings.{firstState}
 use Rattle.blocks.specs.Machine.{machineOf}
 use Rattle.blocks.specs.Reach.{Reachable}
 use Rattle.lines.specs.Blocks.{Block, blocksOf}
@@ -43,7 +43,7 @@ use Rattle.claims.proofs.Turns.{open-turn, more-over}
 use Rattle.claims.proofs.Counted.{records-last, Over}
 use Rattle.claims.proofs.Paths.{stays-both}
 use Rattle.claims.proofs.Displacing.{records-twice}
-use Rattle.claims.proofs.Runs.{first-n, sufficient, some-n, begun-with}
+use Rattle.claims.proofs.Runs.{first-n, sufficient, some-n, first-reached, begun-with}
 use Rattle.claims.proofs.Travel.{Stayed, run-stayed, begun-stayed, same-start, same-stays}
 use Rattle.claims.proofs.Answers.{Close, under, atEnd, atRefusal, run-close, over-finished}
 use Rattle.claims.proofs.Stepping.{one-later, Allows, allowed}
@@ -116,17 +116,6 @@ module _ (by : Axes) (s : Setup) where
       ∙ ap (λ (p : Point). pathStaysIn (inTravel t) p (map (recordMoved (offset t)) rs)) (sym (same-start t))
       ∙ same-stays t (startOf t) rs
 
-  -- the second setup's run begins in a state that a run can reach
-  first-reached : validSetup t ≡ true → Reachable (bedOf t) (firstOf t)
-  unfolding firstOf firstState firstModes bedOf
-  first-reached w =
-      record {
-        at = Valid.start-inside t w;
-        origin = omega arith;
-        feed = Valid.valid-feed t w;
-        speed = Valid.valid-speed t w;
-      }
-
 -- ---- a program that ends under the first setup
 
 done-ended : (o : Option How) (k count : ℕ) → Close o → answerBy (howSofar o) k ≡ Done count → o ≡ some ended
@@ -190,7 +179,7 @@ module _ (by : Axes) (s : Setup) (bytes : List ℕ) (room : ℕ)
     reached : Reachable (bedOf second) (begun s bytes room .stand .state)
     reached =
         begun-with (λ ds q. Reachable (bedOf second) q) s bytes room
-        (subst (λ (q : State). Reachable (bedOf second) q) (first-same by s) (first-reached by s w))
+        (subst (λ (q : State). Reachable (bedOf second) q) (first-same by s) (first-reached second w))
 
     -- the run under the second setup, block by block, from the first setup's beginning
     second-run : (k : ℕ) → firstBlocks second bytes room k ≡ more (jobFor second bytes) k (begun s bytes room)

@@ -122,7 +122,7 @@ unfolding Onto past
 block-finishes job left below ahead callers above here s room =
     let st : Stand = standing s room left ahead callers in
     turn-finishes job st (turnAt job st) refl
-    (turn-cases (Onto (Finishes job)) job st (λ refusal place. tt) (λ b bs e. here b bs e s (room - roomOf []))
+    (turn-cases (Onto (Finishes job)) job st (λ place. tt) (λ b blame k. tt) (λ b bs e. here b bs e s (room - roomOf []))
     (λ b bs s′ control made e k.
     led-finishes job left bs callers control s′ (room - roomOf made) (doneWith b st made)
     (λ n c. calls-below job st b n s′ made (rw c at k)) below (here b bs e) above))

@@ -8,10 +8,12 @@ pub mod Paths
 pub mod Travel
 pub mod Displacing
 pub mod Answers
+pub mod Early
 pub mod Refused
 pub mod Stepping
 pub mod Twins
 pub mod Compared
 pub mod Displaced
+pub mod Sixteen
 pub mod Opened
 pub mod Examples

@@ -16,6 +16,7 @@ use Rattle.claims.specs.Steps.{BlockDone, Turn, refuses, goes, ends, tur
 use Rattle.claims.specs.Answers.{RefusedBlock, RefusedWhere, atOnce, atBlock}
 use Rattle.claims.proofs.Turns.{open-turn, one-over, more-over}
 use Rattle.claims.proofs.Runs.{first-n, some-blocks, begun-with}
+use Rattle.claims.proofs.Early.{early-number}
 
 abbrev refusedSofar : Sofar → Refusal → Place → Sofar
 refusedSofar x r place = record { executed = x .executed; stand = x .stand; over = some (refusedAt r place) }
@@ -69,7 +70,7 @@ origin job (suc n) x r place e = go (origin job n (oneMore job x) r place e)
     go (already k) = one-origin (x .over) job x n r place refl k
     go (later l) = later (record { before = suc (l .before); open′ = l .open′; now = l .now; same = l .same })
 
-refused-over : (o : Option How) (r : Refusal) (place : Place) → howSofar o ≡ refusedAt r place → o ≡ some (refusedAt r place)
+pub refused-over : (o : Option How) (r : Refusal) (place : Place) → howSofar o ≡ refusedAt r place → o ≡ some (refusedAt r place)
 unfolding howSofar
 refused-over none r place e = let z : _≡_ {A = ℕ} 0 1 = cc in absurd (omega arith)
 refused-over (some how) r place e = ap some e
@@ -124,5 +125,5 @@ module _ (s : Setup) (bytes : List ℕ) (room : ℕ) (r : Refusal) (place : Plac
           (n : ℕ) → outcome s bytes room budget ≡ outcomeSofar (firstBlocks s bytes room n)
           → Origin (jobFor s bytes) (begun s bytes room) n r place
           → RefusedWhere s bytes room r place (outcome s bytes room budget .made)
-      go n k (already o) = atOnce (at-once o) (ap (λ (q : Outcome). q .made) (at-once o budget))
+      go n k (already o) = atOnce (early-number s bytes room r place o) (at-once o) (ap (λ (q : Outcome). q .made) (at-once o budget))
       go n k (later l) = atBlock (at-block n budget k l)

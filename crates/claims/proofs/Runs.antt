@@ -3,6 +3,7 @@ use Prim.Native.Nat.{ℕ}
 use mathlib.Core.Path.{_≡_, refl, sym, _∙_, ap}
 use mathlib.Core.Bool.{Bool, true, false, not}
 use mathlib.Core.List.{List, [], _∷_}
+use native.Mathlib.Omega.{arith}
 use lib.Dec.{ltb}
 use lib.ListN.{length}
 use Rattle.terms.specs.Terms.{if_then_else_}
@@ -12,8 +13,11 @@ use Rattle.refusals.specs.declared.Place.{Place}
 use Rattle.setup.specs.declared.Setup.{Setup}
 use Rattle.setup.specs.Limits.{validSetup}
 use Rattle.setup.specs.Frame.{bedOf, switchOn}
+use Rattle.setup.proofs.Valid as Valid
 use Rattle.settings.specs.declared.State.{State}
+use Rattle.settings.specs.Settings.{firstModes, firstState}
 use Rattle.blocks.specs.Machine.{machineOf}
+use Rattle.blocks.specs.Reach.{Reachable}
 use Rattle.lines.specs.Blocks.{Block, blocksOf, closes}
 use Rattle.programs.specs.Openings.{Table, table, programsFrom, blocksAt}
 use Rattle.programs.specs.Openings as Openings
@@ -163,6 +167,17 @@ some-blocks s bytes room Whole =
     let n = some-n s bytes room in
     (n .0, sufficient s bytes room (n .0) (n .1))
 some-blocks s bytes room (First n) = (n, first-n s bytes room n)
+
+-- a run begins in a state that a run can reach
+pub first-reached : (s : Setup) → validSetup s ≡ true → Reachable (bedOf s) (firstOf s)
+unfolding firstOf firstState firstModes bedOf
+first-reached s v =
+    record {
+      at = Valid.start-inside s v;
+      origin = omega arith;
+      feed = Valid.valid-feed s v;
+      speed = Valid.valid-speed s v;
+    }
 
 -- before the first block nothing is executed, and the settings are the first ones
 module _ (Q : List BlockDone → State → Type 0) (s : Setup) (bytes : List ℕ) (room : ℕ) (first : Q [] (firstOf s)) where

@@ -8,12 +8,11 @@ use native.Mathlib.Omega.{arith}
 use lib.Dec.{eqb}
 use lib.ListN.{length}
 use borrow.Author.Tests.{eqb-false}
-use Rattle.refusals.specs.declared.Refusal.{Refusal}
 use Rattle.refusals.specs.declared.Refusal.the-variants.{NoEnd}
 use Rattle.refusals.specs.declared.Place.{Place}
 use Rattle.records.specs.declared.Record.{Record}
 use Rattle.settings.specs.declared.State.{State}
-use Rattle.blocks.specs.Exec.{Verdict, refused, accepted}
+use Rattle.blocks.specs.Exec.{Blame, Verdict, refused, accepted}
 use Rattle.blocks.specs.declared.Control.{Control}
 use Rattle.blocks.specs.declared.Control.the-variants.{On, Call, Back, Stop}
 use Rattle.lines.specs.Blocks.{Block, closes, opens}
@@ -47,9 +46,12 @@ use Rattle.claims.proofs.Blockwise.{Placed, calls-below}
 abbrev pub doneWith : Block → Stand → List Record → BlockDone
 doneWith b st made = record { block = b; from = st .state .at; made = made }
 
--- the three kinds of turn: a refusal, a skipped block, an accepted block
+-- the kinds of turn: a missing end, a refused block, a skipped block, an accepted block
 module _ (P : Turn → Type 0) (job : Job) (st : Stand)
-    (at-refusal : (refusal : Refusal) (place : Place) → P (refuses refusal place))
+    (at-end : (place : Place) → P (refuses NoEnd place))
+    (at-refusal :
+    (b : Block) (blame : Blame) → verdictIn job st b ≡ refused blame
+    → P (refuses (blame .refusal) (record { block = b .number; byte = blame .byte })))
     (at-skip : (b : Block) (bs : List Block) → st .ahead ≡ b ∷ bs → P (goes (doneWith b st []) (past st bs (st .state) [])))
     (at-block :
     (b : Block) (bs : List Block) (s : State) (control : Control) (made : List Record)
@@ -59,7 +61,7 @@ module _ (P : Turn → Type 0) (job : Job) (st : Stand)
     by-verdict :
         (b : Block) (bs : List Block) (v : Verdict) → st .ahead ≡ b ∷ bs → verdictIn job st b ≡ v → P (turnBy v job st b bs)
     unfolding turnBy
-    by-verdict b bs (refused blame) e k = at-refusal (blame .refusal) (record { block = b .number; byte = blame .byte })
+    by-verdict b bs (refused blame) e k = at-refusal b blame k
     by-verdict b bs (accepted s control made) e k = at-block b bs s control made e k
 
     by-skip : (skips : Bool) (b : Block) (bs : List Block) → st .ahead ≡ b ∷ bs → P (turnUnder skips job st b bs)
@@ -69,12 +71,12 @@ module _ (P : Turn → Type 0) (job : Job) (st : Stand)
 
     by-closing : (closed : Bool) (b : Block) (bs : List Block) → st .ahead ≡ b ∷ bs → P (turnUnless closed job st b bs)
     unfolding turnUnless
-    by-closing true b bs e = at-refusal NoEnd (placeOf b)
+    by-closing true b bs e = at-end (placeOf b)
     by-closing false b bs e = by-skip (isSkipped job b) b bs e
 
     by-ahead : (ahead : List Block) → st .ahead ≡ ahead → P (turnIn ahead job st)
     unfolding turnIn
-    by-ahead [] e = at-refusal NoEnd (job .finish)
+    by-ahead [] e = at-end (job .finish)
     by-ahead (b ∷ bs) e = by-closing (opens b || closes b) b bs e
 
     pub turn-cases : P (turnAt job st)
@@ -109,7 +111,7 @@ placed-led job st Stop bs s made d h p = tt
 pub placed-kept : (job : Job) (st : Stand) → Placed st → Onto Placed (turnAt job st)
 unfolding Onto past
 placed-kept job st p =
-    turn-cases (Onto Placed) job st (λ refusal place. tt) (λ b bs e. record { four = p .four })
+    turn-cases (Onto Placed) job st (λ place. tt) (λ b blame k. tt) (λ b bs e. record { four = p .four })
     (λ b bs s control made e k.
     placed-led job st control bs s made (doneWith b st made) (λ n c. calls-below job st b n s made (rw c at k)) p)
 
@@ -172,7 +174,7 @@ module _ (Q : List BlockDone → State → Type 0) where
       turn-holds : (x : Sofar) → Holds x → Holds (afterTurn x (turnAt job (x .stand)))
       unfolding afterTurn past
       turn-holds x h =
-          turn-cases (λ t. Holds (afterTurn x t)) job (x .stand) (λ refusal place. h) (λ b bs e. skip (x .executed) (x .stand) b h)
+          turn-cases (λ t. Holds (afterTurn x t)) job (x .stand) (λ place. h) (λ b blame k. h) (λ b bs e. skip (x .executed) (x .stand) b h)
           (λ b bs s control made e k.
           led-holds job x control (past (x .stand) bs s made) (doneWith b (x .stand) made)
           (block (x .executed) (x .stand) b s control made k h))

@@ -37,7 +37,7 @@ use Rattle.blocks.proofs.Accepting.{none-before, all-none, past-all, word-none,
 use Rattle.blocks.specs.Exec.{Blame, Calls, Verdict, accepted, saidBy, movesIn, madeBy, settled, controlOf, inMain, callTo, unknownCall, lacksParameter, cannotDrill, atWord, tooDeep, atStart, blames, unless, judged, execWords, exec}
 
 -- the refusals of a block but for the last three, "16; 9; 10"
-abbrev firstBlames : Machine → Calls → State → ℕ → List Word → Said → List (Option Blame)
+abbrev pub firstBlames : Machine → Calls → State → ℕ → List Word → Said → List (Option Blame)
 firstBlames machine calls s start ws b =
     atWord CannotExecute (firstThatMayNot (inMain calls) [] ws)
     ∷ atWord AddressUndefined (firstUnused (b .code) (b .modes .plane) ws)

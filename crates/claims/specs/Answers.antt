@@ -1,8 +1,11 @@
 -- What a caller gets, in the words of demands 1 and of stepping: the answer, and what one executed block more changes.
 use Prim.Native.Nat.{ℕ, suc, _≤_}
 use mathlib.Core.Path.{_≡_}
-use mathlib.Core.List.{List, [], _++_}
+use mathlib.Core.Bool.{Bool, true}
+use mathlib.Core.List.{List, [], _∷_, _++_}
+use lib.Dec.{eqb}
 use lib.ListN.{length}
+use Rattle.terms.specs.Terms.{any}
 use Rattle.refusals.specs.declared.Refusal.{Refusal}
 use Rattle.refusals.specs.declared.Place.{Place}
 use Rattle.refusals.specs.Numbers.{numberOf}
@@ -25,6 +28,18 @@ pub data Answered (budget : Budget) (records : List Record) : Answer → Type 0 
       (r : Refusal) (place : Place) → 1 ≤ numberOf r → numberOf r ≤ 16
       → Answered budget records (Refused r place (length records))
 
+-- "Order: 13, 12, 11; then per opening 1, 8, 7.": what is refused before any block is executed
+abbrev pub earlyNumbers : List ℕ
+earlyNumbers = 13 ∷ 12 ∷ 11 ∷ 1 ∷ 8 ∷ 7 ∷ []
+
+-- "Then, block by block: 15 leftmost; 4 ..; 2 ..; 1 ..; 3; 5; 6; 4 ..; 1 by geometry; 16; 9; 10.", and 14 at a missing end. 16 is
+-- not here: under a valid setup it does not come, and under another no block is reached.
+abbrev pub blockNumbers : List ℕ
+blockNumbers = 15 ∷ 4 ∷ 2 ∷ 1 ∷ 3 ∷ 5 ∷ 6 ∷ 9 ∷ 10 ∷ 14 ∷ []
+
+abbrev pub numberedIn : List ℕ → Refusal → Bool
+numberedIn ns r = any (eqb (numberOf r)) ns
+
 module _ (s : Setup) (bytes : List ℕ) (room : ℕ) where
   -- "A refused block adds no record and changes no setting": the records are those of the run that stops before the
   -- block, and so is the stand, the settings among it. `made` is the list of the run that was refused.
@@ -36,7 +51,9 @@ module _ (s : Setup) (bytes : List ℕ) (room : ℕ) where
 
   -- "Refusals 11 to 13 and of openings come at n = 0 too", with no record; all others at a block
   pub data RefusedWhere (r : Refusal) (place : Place) (made : List Record) : Type 0 where
-    atOnce : ((budget : Budget) → outcome s bytes room budget ≡ just (refusedAt r place)) → made ≡ [] → RefusedWhere r place made
+    atOnce :
+        numberedIn earlyNumbers r ≡ true → ((budget : Budget) → outcome s bytes room budget ≡ just (refusedAt r place)) → made ≡ []
+        → RefusedWhere r place made
     atBlock : RefusedBlock r place made → RefusedWhere r place made
 
   -- "Each one more adds that block's records and no others; before the end the answer is 'not finished', and past the end

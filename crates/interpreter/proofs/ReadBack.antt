@@ -1,14 +1,13 @@
 -- Demand 2 of what `run` and `run_blocks` leave: what satisfies their statement reads back as the run's records. Assumes nothing.
-use Prim.Native.Nat.{ℕ, _+_}
-use mathlib.Core.Path.{_≡_, sym, _∙_, ap}
-use mathlib.Core.List.{List, _++_}
+use Prim.Native.Nat.{ℕ}
+use mathlib.Core.Path.{_≡_, _∙_, ap}
+use mathlib.Core.List.{List}
 use lib.ListN.{length, take, drop}
 use lib.Seq.{take-append-seam}
 use Rattle.refusals.specs.declared.Answer.{Answer}
 use Rattle.refusals.specs.Answers.{countOf}
 use Rattle.setup.specs.declared.Setup.{Setup}
 use Rattle.records.specs.Layout.{listBytes}
-use Rattle.records.specs.Reading.{after, readAll}
 use Rattle.runs.specs.declared.Budget.{Budget}
 use Rattle.runs.specs.Run.{recordsOf}
 use Rattle.promises.proofs.ReadBack.{read-back}

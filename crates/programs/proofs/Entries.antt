@@ -2,7 +2,7 @@
 use Prim.Native.Nat.{ℕ, _+_, _≤_, _<_}
 use mathlib.Core.Path.{_≡_, refl, _∙_, ap}
 use mathlib.Core.Bool.{Bool, true, false}
-use mathlib.Core.List.{List}
+use mathlib.Core.List.{List, [], _∷_}
 use native.Mathlib.Omega.{arith}
 use native.Mathlib.Numerals.{add-one}
 use borrow.Author.Tests.{eq-eqb, ne-eqb, le-leb, lt-leb, leb-false}
@@ -11,7 +11,9 @@ use lib.ListN.{length, take, drop, getD, set, length-set}
 use lib.Seq.{length-take-le, getD-take, take-suc-set}
 use Rattle.terms.specs.Terms.{if_then_else_, any}
 use Rattle.terms.proofs.Laws.{any-end, any-here, any-past}
-use Rattle.refusals.specs.declared.Refusal.the-variants.{DuplicateNumber, TableOver}
+use Rattle.refusals.specs.declared.Refusal.{Refusal}
+use Rattle.refusals.specs.declared.Refusal.the-variants.{BadParameter, DuplicateNumber, TableOver}
+use Rattle.refusals.specs.Numbers.{numberOf}
 use Rattle.programs.specs.Openings.{isTaken, entryOf}
 use Rattle.programs.specs.Found.{Ready, Entered, subsOf}
 use Rattle.programs.specs.declared.Program.{Program}
@@ -99,3 +101,18 @@ entry-room t ready (Number m) n e = go (isTaken (t .main) (subsOf t) m) (leb 10 
     go true full f g = let never : _≡_ {A = ℕ} 0 1 = cc in absurd (omega arith)
     go false true f g = let never : _≡_ {A = ℕ} 0 1 = cc in absurd (omega arith)
     go false false f g = omega (arith, leb-false, f, in-use t ready m)
+
+-- "per opening 1, 8, 7"
+pub entry-refusal :
+    (main : Program) (subs : List Program) (o : Opening) (refusal : Refusal) → entryOf main subs o ≡ Refuses refusal
+    → any (eqb (numberOf refusal)) (1 ∷ 8 ∷ 7 ∷ []) ≡ true
+unfolding entryOf any
+entry-refusal main subs Bad refusal e = let is : refusal ≡ BadParameter = cc in rw is
+entry-refusal main subs (Number n) refusal e = go (isTaken main subs n) (leb 10 (length subs)) e
+  where
+    go :
+        (taken full : Bool) → (if taken then Refuses DuplicateNumber else if full then Refuses TableOver else Enters n) ≡ Refuses refusal
+        → any (eqb (numberOf refusal)) (1 ∷ 8 ∷ 7 ∷ []) ≡ true
+    go true full f = let is : refusal ≡ DuplicateNumber = cc in rw is
+    go false true f = let is : refusal ≡ TableOver = cc in rw is
+    go false false f = let never : _≡_ {A = ℕ} 0 1 = cc in absurd (omega arith)

@@ -21,7 +21,7 @@ use Rattle.programs.specs.declared.Opening.the-variants.{Number, Bad}
 use Rattle.programs.specs.declared.Entry.{Entry}
 use Rattle.programs.specs.declared.Entry.the-variants.{Refuses, Enters}
 use Rattle.programs.specs.Openings.{openingOf, placeOf, programAfter, Table, refusedAt, isTaken, entryOf, entered, programsFrom}
-use Rattle.programs.proofs.Entries.{taken-main}
+use Rattle.programs.proofs.Entries.{taken-main, entry-refusal}
 use Rattle.setup.specs.declared.Setup.{Setup}
 use Rattle.setup.specs.Limits.{validSetup}
 use Rattle.runs.specs.Walk.{Outcome, just}
@@ -29,7 +29,7 @@ use Rattle.runs.specs.Walk as Walk
 use Rattle.runs.specs.Run.{nowhere, runTable, runBlocks, outcome, recordsOf, answerBy, answerOf}
 use Rattle.runs.specs.declared.Budget.{Budget}
 use Rattle.promises.specs.Duplicates.{openingsIn, openingsOf, percentBegins, mainOpens, mostOpenings, Twice, Early, tooLong, badSetup, firstBlock, opening, earlier, NoList, RefusedEarly, allDifferent, InOrder}
-use Rattle.promises.proofs.Openings.{scanned, mainBy, tableBy, programs-openings, taken-more, taken-still, taken-now, entry-duplicate, entry-enters, entry-refusal, entry-own, number-some}
+use Rattle.promises.proofs.Openings.{scanned, mainBy, tableBy, programs-openings, taken-more, taken-still, taken-now, entry-duplicate, entry-enters, entry-own, number-some}
 
 -- ---- numbers
 

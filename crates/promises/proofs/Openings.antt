@@ -9,9 +9,7 @@ use lib.Dec.{eqb, leb}
 use lib.ListN.{length, drop}
 use Rattle.terms.specs.Terms.{if_then_else_, any, fromTo}
 use Rattle.terms.proofs.Laws.{any-snoc}
-use Rattle.refusals.specs.declared.Refusal.{Refusal}
 use Rattle.refusals.specs.declared.Refusal.the-variants.{BadParameter, DuplicateNumber, TableOver}
-use Rattle.refusals.specs.Numbers.{numberOf}
 use Rattle.lines.specs.Blocks.{Block, beginsWith, isPercent, closes, opens}
 use Rattle.words.specs.Numbers.{isDigit, run, digitsAfter}
 use Rattle.gaps.specs.Gaps.{onlyGaps}
@@ -109,19 +107,6 @@ module _ (main : Program) (subs : List Program) where
       (o : Opening) (n : ℕ) → o ≡ Number n → isTaken main subs n ≡ false → length subs < 10 → entryOf main subs o ≡ Enters n
   unfolding entryOf
   entry-enters o n e f h = rw e (rw (f, lt-leb 10 (length subs) h))
-
-  -- "per opening 1, 8, 7"
-  pub entry-refusal : (o : Opening) (refusal : Refusal) → entryOf main subs o ≡ Refuses refusal → any (eqb (numberOf refusal)) (1 ∷ 8 ∷ 7 ∷ []) ≡ true
-  unfolding entryOf any
-  entry-refusal Bad refusal e = let is : refusal ≡ BadParameter = cc in rw is
-  entry-refusal (Number n) refusal e = go (isTaken main subs n) (leb 10 (length subs)) e
-    where
-      go :
-          (taken full : Bool) → (if taken then Refuses DuplicateNumber else if full then Refuses TableOver else Enters n) ≡ Refuses refusal
-          → any (eqb (numberOf refusal)) (1 ∷ 8 ∷ 7 ∷ []) ≡ true
-      go true full f = let is : refusal ≡ DuplicateNumber = cc in rw is
-      go false true f = let is : refusal ≡ TableOver = cc in rw is
-      go false false f = let never : _≡_ {A = ℕ} 0 1 = cc in absurd (omega arith)
 
   -- an opening enters its own number
   pub entry-own : (o : Opening) (n m : ℕ) → o ≡ Number n → entryOf main subs o ≡ Enters m → n ≡ m

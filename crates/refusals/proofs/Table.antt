@@ -8,10 +8,9 @@ use lib.Dec.{lit≤}
 use lib.ListN.{getD}
 use Rattle.refusals.specs.Numbers.{numberOf}
 use Rattle.refusals.specs.Table.{rows}
-use Rattle.refusals.specs.Answers.{Report, reportOf}
+use Rattle.refusals.specs.Answers.{reportOf}
 use Rattle.refusals.specs.declared.Answer.{Answer}
 use Rattle.refusals.specs.declared.Answer.the-variants.{Done, Unfinished, Refused}
-use Rattle.refusals.specs.declared.Place.{Place}
 use Rattle.refusals.specs.declared.Refusal.{Refusal}
 use Rattle.refusals.specs.declared.Refusal.the-variants.{
   BadParameter,
