@@ -13,6 +13,7 @@ use Rattle.lengths.specs.Units.{len}
 use Rattle.lengths.proofs.Ring.{shift}
 use Rattle.refusals.specs.declared.Refusal.the-variants.{LeavesTravel, DataTooLong}
 use Rattle.refusals.specs.declared.Place.{Place}
+use Rattle.refusals.specs.Numbers.{numberOf}
 use Rattle.refusals.specs.Answers.{refusedWith, reportOf}
 use Rattle.points.specs.declared.Point.{Point}
 use Rattle.points.specs.Points.{moved, movedBack}
@@ -352,7 +353,7 @@ module _ (by : Axes) (s : Setup) (bytes : List ℕ) (room : ℕ)
                 first-stays (suc (p .before)) ∙ ap (pathStaysIn staysThere (startOf second)) with-block ∙ block-leaves;
             answer =
                 ap (λ (o : Outcome). reportOf (answerBy (o .how) (length (o .made)))) second-outcome
-                ∙ ap (refusedWith 9 (placeOf (p .block .block))) (sym (length-map made (recordMoved (offset s))));
+                ∙ ap (refusedWith (numberOf LeavesTravel) (placeOf (p .block .block))) (sym (length-map made (recordMoved (offset s))));
             records =
                 ap (λ (o : Outcome). map (recordMoved (offset second)) (o .made)) second-outcome ∙ sym (moved-records by s made);
           }
