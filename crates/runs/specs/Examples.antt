@@ -6,23 +6,12 @@ use mathlib.Core.List.{List, [], _∷_}
 use lib.IntN.{ℤ, pos, negsuc}
 use Rattle.terms.specs.Terms.{bytes}
 use Rattle.lengths.specs.Units.{len}
-use Rattle.refusals.specs.declared.Refusal.{Refusal}
-use Rattle.refusals.specs.declared.Refusal.the-variants.{
-  BadParameter,
-  NumberNotFound,
-  NestOver,
-  DuplicateNumber,
-  LeavesTravel,
-  FirstBlock,
-  NoEnd,
-}
+use Rattle.refusals.specs.Answers.{Report, done, notFinished, refusedWith, reportOf}
 use Rattle.points.specs.declared.Point.{Point}
 use Rattle.setup.specs.Examples.{setupT}
 use Rattle.records.specs.declared.Record.{Record}
 use Rattle.records.specs.declared.Record.the-variants.{RP, LN, SP, SO, EN}
 use Rattle.runs.specs.Run.{answerOf}
-use Rattle.refusals.specs.declared.Answer.{Answer}
-use Rattle.refusals.specs.declared.Answer.the-variants.{Done, Unfinished, Refused}
 use Rattle.runs.specs.declared.Budget.{Budget}
 use Rattle.runs.specs.declared.Budget.the-variants.{Whole, First}
 
@@ -45,36 +34,36 @@ sampleRecords =
 pub record Row : Type 0 where
   pub text : String
   pub budget : Budget
-  pub answer : Answer
+  pub answer : Report
 
-abbrev row : String → Budget → Answer → Row
+abbrev row : String → Budget → Report → Row
 row text budget answer = record { text = text; budget = budget; answer = answer }
 
-abbrev refuses : Refusal → ℕ → ℕ → ℕ → Answer
-refuses refusal block byte count = Refused refusal (record { block = block; byte = byte }) count
+abbrev refused : ℕ → ℕ → ℕ → ℕ → Report
+refused number block byte count = refusedWith number (record { block = block; byte = byte }) count
 
-unfoldable pub answerOfRow : Row → Answer
-answerOfRow r = answerOf setupT (bytes (r .text)) roomT (r .budget)
+unfoldable pub answerOfRow : Row → Report
+answerOfRow r = reportOf (answerOf setupT (bytes (r .text)) roomT (r .budget))
 
 abbrev pub rows : List Row
 rows =
     -- "T, tool at workpiece X0 Y0: `G03 I-5.0` is accepted, its path touching X 0; `G03 I-5.001` is 9."
-    row "%\nG00 X0 Y0\nG03 I-5.0\nM30\n" Whole (Done 3)
-    ∷ row "%\nG00 X0 Y0\nG03 I-5.001\nM30\n" Whole (refuses LeavesTravel 3 12 1)
+    row "%\nG00 X0 Y0\nG03 I-5.0\nM30\n" Whole (done 3)
+    ∷ row "%\nG00 X0 Y0\nG03 I-5.001\nM30\n" Whole (refused 9 3 12 1)
     -- "`G03 X5.01 Y5.0 J5.0` is accepted, `X5.011` is 1."
-    ∷ row "%\nG00 X0 Y0\nG03 X5.01 Y5.0 J5.0\nM30\n" Whole (Done 3)
-    ∷ row "%\nG00 X0 Y0\nG03 X5.011 Y5.0 J5.0\nM30\n" Whole (refuses BadParameter 3 12 1)
+    ∷ row "%\nG00 X0 Y0\nG03 X5.01 Y5.0 J5.0\nM30\n" Whole (done 3)
+    ∷ row "%\nG00 X0 Y0\nG03 X5.011 Y5.0 J5.0\nM30\n" Whole (refused 1 3 12 1)
     -- two subprograms that are one number, though nothing calls them
-    ∷ row "%\nM30\nO1\nM99\nO0001\nM99\n" (First 0) (refuses DuplicateNumber 5 13 0)
+    ∷ row "%\nM30\nO1\nM99\nO0001\nM99\n" (First 0) (refused 8 5 13 0)
     -- a call counts one block, its opening none, and comes back to the block after it
-    ∷ row "%\nM98P2\nM30\nO2\nM00\nM99\n" (First 2) (Unfinished 1)
-    ∷ row "%\nM98P2\nM30\nO2\nM00\nM99\n" (First 3) (Unfinished 1)
-    ∷ row "%\nM98P2\nM30\nO2\nM00\nM99\n" (First 4) (Done 2)
-    ∷ row "%\nO1\nM98 P1\nM30\n" Whole (refuses NumberNotFound 3 5 0)
+    ∷ row "%\nM98P2\nM30\nO2\nM00\nM99\n" (First 2) (notFinished 1)
+    ∷ row "%\nM98P2\nM30\nO2\nM00\nM99\n" (First 3) (notFinished 1)
+    ∷ row "%\nM98P2\nM30\nO2\nM00\nM99\n" (First 4) (done 2)
+    ∷ row "%\nO1\nM98 P1\nM30\n" Whole (refused 5 3 5 0)
     -- four levels, and no fifth
-    ∷ row "%\nM98P1\nM30\nO1\nM98P2\nM99\nO2\nM98P3\nM99\nO3\nM98P4\nM99\nO4\nM00\nM99\n" Whole (Done 2)
-    ∷ row "%\nM98P1\nM30\nO1\nM98P2\nM99\nO2\nM98P3\nM99\nO3\nM98P4\nM99\nO4\nM98P1\nM99\n" Whole (refuses NestOver 14 54 0)
+    ∷ row "%\nM98P1\nM30\nO1\nM98P2\nM99\nO2\nM98P3\nM99\nO3\nM98P4\nM99\nO4\nM00\nM99\n" Whole (done 2)
+    ∷ row "%\nM98P1\nM30\nO1\nM98P2\nM99\nO2\nM98P3\nM99\nO3\nM98P4\nM99\nO4\nM98P1\nM99\n" Whole (refused 6 14 54 0)
     -- a missing end counts as a block
-    ∷ row "%\nM00\n" (First 1) (Unfinished 1)
-    ∷ row "%\nM00\n" (First 2) (refuses NoEnd 3 6 1)
-    ∷ row "" Whole (refuses FirstBlock 1 0 0) ∷ []
+    ∷ row "%\nM00\n" (First 1) (notFinished 1)
+    ∷ row "%\nM00\n" (First 2) (refused 14 3 6 1)
+    ∷ row "" Whole (refused 11 1 0 0) ∷ []
