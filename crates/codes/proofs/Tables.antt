@@ -6,11 +6,14 @@ use mathlib.Core.Bool.{Bool, true, false, _||_, and-false}
 use mathlib.Core.List.{List, [], _∷_, _++_}
 use native.Mathlib.Omega.{arith}
 use lib.Dec.{eqb, leb}
+use lib.ListN.{getD}
 use borrow.Author.Tests.{ne-eqb, lt-leb}
 use Rattle.terms.specs.Terms.{any, all, lookup, fromTo}
 use Rattle.terms.proofs.Laws.{both-left, both-right}
 use Rattle.codes.specs.Codes.{gTable, mTable, codeOf, miscOf}
-use Rattle.codes.specs.declared.Code.the-variants.{GroupE, Unknown}
+use Rattle.codes.specs.declared.Plane.{Plane}
+use Rattle.codes.specs.declared.Plane.the-variants.{G17, G18, G19}
+use Rattle.codes.specs.declared.Code.the-variants.{GroupB, GroupE, Unknown}
 use Rattle.codes.specs.declared.Misc.the-variants.{Other}
 
 -- ---- a number that a table does not have
@@ -86,8 +89,22 @@ code-at k e = ap codeOf (sym e)
 pub misc-at : (k : ℕ) {n : ℕ} → n ≡ k → miscOf k ≡ miscOf n
 misc-at k e = ap miscOf (sym e)
 
-pub last-plane : (n : ℕ) → 17 ≤ n → n < 20 → Others n (18 ∷ 17 ∷ []) → codeOf 19 ≡ codeOf n
-last-plane n h k o = ap codeOf (omega arith)
+-- G17 to G19 name the planes in their order
+abbrev planes : List Plane
+planes = G17 ∷ G18 ∷ G19 ∷ []
+
+pub plane-there : (n : ℕ) → n < 20 → n - 17 < 3
+plane-there n h = omega arith
+
+plane : (k : ℕ) → k ≤ 2 → (none : Plane) → GroupB (getD planes k none) ≡ codeOf (17 + k)
+unfolding codeOf lookup
+plane zero h none = refl
+plane (suc zero) h none = refl
+plane (suc (suc zero)) h none = refl
+plane (suc (suc (suc k))) h none = absurd (omega arith)
+
+pub plane-of : (n : ℕ) → 17 ≤ n → n < 20 → (none : Plane) → GroupB (getD planes (n - 17) none) ≡ codeOf n
+plane-of n h k none = plane (n - 17) (omega arith) none ∙ ap codeOf (omega arith)
 
 -- G54 to G59 name the places in their order
 place : (k : ℕ) → k ≤ 5 → GroupE k ≡ codeOf (54 + k)

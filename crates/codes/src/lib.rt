@@ -69,6 +69,9 @@ pub enum Misc {
     Other,
 }
 
+// Group B in the order of its numbers.
+const PLANES: [Plane; 3] = [Plane::G17, Plane::G18, Plane::G19];
+
 // What a G number means.
 pub fn code_of(n: u64) -> Code
     ensures { λ r. ⌜ r ≡ codeOf n ⌝ }
@@ -83,11 +86,7 @@ pub fn code_of(n: u64) -> Code
         82 => Code::GroupA(Motion::Drilling(Cycle::G82)),
         85 => Code::GroupA(Motion::Drilling(Cycle::G85)),
         89 => Code::GroupA(Motion::Drilling(Cycle::G89)),
-        17..=19 => match n {
-            17 => Code::GroupB(Plane::G17),
-            18 => Code::GroupB(Plane::G18),
-            _ => Code::GroupB(Plane::G19),
-        },
+        17..=19 => Code::GroupB(PLANES[(n - 17) as usize]),
         20 => Code::GroupC(Unit::Inch),
         21 => Code::GroupC(Unit::Millimetre),
         90 => Code::GroupD(Distance::Absolute),

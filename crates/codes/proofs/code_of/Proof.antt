@@ -2,7 +2,7 @@
 -- that it does not have, below, between and above the ranges. Assumes nothing.
 use Rattle.terms.specs.Terms.{lookup}
 use Rattle.codes.specs.Codes.{codeOf}
-use Rattle.codes.proofs.Tables.{code-at, last-plane, place-of, code-none, below-ranges, between-ranges, above-ranges}
+use Rattle.codes.proofs.Tables.{code-at, plane-there, plane-of, place-of, code-none, below-ranges, between-ranges, above-ranges}
 use Rattle.codes.proofs.code_of.Statement.{statement}
 use Rattle.codes.proofs.code_of.Tie as tie
 
@@ -11,6 +11,7 @@ unfolding codeOf lookup
 code-of-spec =
     tie.close
     (tie.spec
+    (λ c. plane-there _ (c .if2 .taken))
     (λ c. code-at 0 (c .match .keys1))
     (λ c. code-at 1 (c .match .keys2))
     (λ c. code-at 2 (c .match .keys3))
@@ -27,9 +28,7 @@ code-of-spec =
     (λ c. code-at 98 (c .match .keys14))
     (λ c. code-at 99 (c .match .keys15))
     (λ c. code-at 4 (c .match .keys16))
-    (λ c. code-at 17 (c .match2 .keys1))
-    (λ c. code-at 18 (c .match2 .keys2))
-    (λ c. last-plane _ (c .before .before .if1 .left) (c .before .if2 .taken) (c .match2 .rest))
+    (λ c. plane-of _ (c .before .before .if1 .left) (c .before .if2 .taken) _)
     (λ c. place-of _ (c .before .if3 .left) (c .if4 .taken))
     (λ c. code-none _ (c .before .match .rest) (below-ranges _ (c .if1 .taken)))
     (λ c. code-none _ (c .before .before .before .match .rest) (between-ranges _ (c .before .if2 .left) (c .if3 .taken)))
