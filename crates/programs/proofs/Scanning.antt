@@ -133,6 +133,38 @@ module _ {l : List ℕ} {from number : ℕ} {first now : Programs} {at block : �
             left = at-opening f (Enters n) was ∙ rw (d .subs, ← g);
           }
 
+-- a block that is neither the closing `%` nor an opening
+abbrev pub Plain : List ℕ → ℕ → Type 0
+Plain l start = (isPercent (textFrom (drop start l)) ≡ false) × (getD l start 0 ≡ 79 → ⊥)
+
+-- A block that began at a place is passed byte by byte: the next one begins where it would from the byte reached, and once
+-- its first byte is passed the block is plain.
+pub record Passing (l : List ℕ) (start at : ℕ) : Type 0 where
+  pub inside : at ≤ length l
+  pub begun : start ≤ at
+  pub left : start + lengthFrom (drop start l) ≡ at + lengthFrom (drop at l)
+  pub plain : start < at → Plain l start
+
+pub passing-start : (l : List ℕ) (at : ℕ) → at ≤ length l → Passing l at at
+passing-start l at h = record { inside = h; begun = omega arith; left = refl; plain = λ k. absurd (omega arith) }
+
+-- the first byte is looked at, and no other
+pub first-plain : (l : List ℕ) {start at : ℕ} → at ≡ start → isPercent (textFrom (drop at l)) ≡ false → (getD l at 0 ≡ 79 → ⊥) → Plain l start
+first-plain l e p f = rw (← e) (p, f)
+
+module _ {l : List ℕ} {start at : ℕ} (p : Passing l start at) where
+  pub later-plain : (at ≡ start → ⊥) → Plain l start
+  later-plain f = p .plain (omega (arith, p .begun, f))
+
+  pub passing-more : at < length l → Plain l start → (getD l at 0 ≡ 10 → ⊥) → Passing l start (at + 1)
+  passing-more h t f =
+      record {
+        inside = omega arith;
+        begun = omega (arith, p .begun);
+        left = omega (arith, p .left, length-at-more l at h f);
+        plain = λ k. t;
+      }
+
 -- the main program: without an opening, or under one in the second block
 module _ (l : List ℕ) (at : ℕ) where
   pub opens-at : beginsWith 79 (textFrom (drop at l)) ≡ true → (at < length l) × (getD l at 0 ≡ 79)

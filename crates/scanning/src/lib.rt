@@ -16,18 +16,24 @@ ghost use Rattle.programs.specs.Openings.{scan, programsFrom, known};
 ghost use Rattle.programs.specs.Found.{subsOf, Ready, Entered};
 ghost use Rattle.programs.specs.Answers.{Gives, foundAs};
 
-fn with_program(t: Programs, p: Program) -> Programs
+// The table with one subprogram more: its number, and the block and byte that follow its opening.
+fn with_program(t: Programs, number: u64, block: usize, byte: usize) -> Programs
     requires { ⌜ (Ready t) × (t .count < 10) ⌝ }
-    ensures { λ r. ⌜ Entered t p r ⌝ }
+    ensures { λ r. ⌜ Entered t (record { number = number; block = block; byte = byte }) r ⌝ }
 {
     let at = t.count;
     let mut next = t;
-    next.subs[at] = p;
+    next.subs[at] = Program {
+        number,
+        block,
+        byte,
+    };
     next.count = at + 1;
     next
 }
 
-// The openings from a block on, whose number and place are given. Each byte of a block without an opening is passed once.
+// The openings from a block on, whose number and place are given. Each byte of a block without an opening is passed once;
+// the scan is left from inside a block, at an opening that is refused or at the closing `%`.
 fn scan_openings(s: &[u8], from: usize, number: usize, found: Programs) -> Scanned
     requires { ⌜ (from ≤ length (now s)) × (number ≤ from + 1) ⌝ }
     requires { ⌜ Ready found ⌝ }
@@ -36,35 +42,30 @@ fn scan_openings(s: &[u8], from: usize, number: usize, found: Programs) -> Scann
     let mut programs = found;
     let mut at = from;
     let mut block = number;
+    let mut verdict = Verdict::Fine;
     'blocks: while at < s.len() {
-        if lines::is_percent(s, at) {
-            break 'blocks;
-        }
-        if s[at] == b'O' {
-            match programs::entry_of(programs, programs::read_opening(s, at + 1)) {
-                Entry::Refuses(refusal) => {
-                    return Scanned {
-                        verdict: Verdict::Refused(refusal, Place { block, byte: at }),
-                        programs,
-                    };
-                }
-                Entry::Enters(n) => {
-                    block += 1;
-                    at = lines::next_block(s, at);
-                    programs = with_program(
-                        programs,
-                        Program {
-                            number: n,
-                            block,
-                            byte: at,
-                        },
-                    );
-                    continue 'blocks;
-                }
-            }
-        }
+        let start = at;
         while at < s.len() {
             let b = s[at];
+            if at == start {
+                if lines::is_percent(s, at) {
+                    break 'blocks;
+                }
+                if b == b'O' {
+                    match programs::entry_of(programs, programs::read_opening(s, at + 1)) {
+                        Entry::Refuses(refusal) => {
+                            verdict = Verdict::Refused(refusal, Place { block, byte: at });
+                            break 'blocks;
+                        }
+                        Entry::Enters(n) => {
+                            block += 1;
+                            at = lines::next_block(s, at);
+                            programs = with_program(programs, n, block, at);
+                            continue 'blocks;
+                        }
+                    }
+                }
+            }
             at += 1;
             if b == b'\n' {
                 block += 1;
@@ -72,10 +73,7 @@ fn scan_openings(s: &[u8], from: usize, number: usize, found: Programs) -> Scann
             }
         }
     }
-    Scanned {
-        verdict: Verdict::Fine,
-        programs,
-    }
+    Scanned { verdict, programs }
 }
 
 // The programs of data whose first block is `%` alone: the main program, under an opening in the second block or without

@@ -1,40 +1,75 @@
-use Prim.Native.Nat.{_+_, _-_, _≤_}
+-- `scanning::scan_openings` meets its contract. The blocks: what is left of the data gives the same. The bytes of a block: the
+-- block lies as it would from the byte reached, and past its first byte it is neither an opening nor the closing `%`. Assumes
+-- nothing.
+use Prim.Native.Nat.{_+_, _-_}
 use mathlib.Core.Path.{_≡_, refl, sym, _∙_, ap}
 use native.Mathlib.Omega.{arith}
 use borrow.Author.Needs.{needs}
-use lib.ListN.{length, drop}
-use Rattle.lines.specs.Blocks.{lengthFrom}
+use mathlib.Core.Logic.{⊎-elim}
+use lib.ListN.{length}
 use Rattle.lines.proofs.Lines.{length-at-lf, length-at-more, length-at-end}
-use Rattle.programs.proofs.Scanning.{Scan, scan-start, stopped-end, stopped-percent, passed-plain, passed-last, passed-opening, refused-opening}
+use Rattle.programs.proofs.Scanning.{Scan, scan-start, stopped-end, stopped-percent, passed-plain, passed-last, passed-opening, refused-opening, Plain, Passing, passing-start, passing-more, first-plain, later-plain}
 use Rattle.programs.proofs.Entries.{entry-room}
 use Rattle.programs.specs.Openings.{entryOf}
 use Rattle.programs.specs.Found.{subsOf, tableBy}
+use Rattle.programs.specs.declared.Programs.{Programs}
+use Rattle.programs.specs.declared.Verdict.{Verdict}
+use Rattle.programs.specs.declared.Verdict.the-variants.{Fine}
 use Rattle.scanning.proofs.scan_openings.Statement.{statement}
 use Rattle.scanning.proofs.scan_openings.Tie as tie
 
 abbrev Inv-loop : tie.InvT-loop
-Inv-loop s from number programs at₀ block₀ at block =
-    (at ≤ length s) × (at₀ ≤ at) × (block ≡ block₀) × (at₀ + lengthFrom (drop at₀ s) ≡ at + lengthFrom (drop at s))
+Inv-loop s from number programs₀ at₀ block₀ verdict₀ start programs at block verdict =
+    Passing s start at × (verdict ≡ Fine)
+    × ((first : Programs) → Scan s from number first programs₀ at₀ block₀ → Scan s from number first programs start block)
 
 abbrev μ-loop : tie.MeasureT-loop
-μ-loop s from number programs at₀ block₀ at block = length s - at
+μ-loop s from number programs₀ at₀ block₀ verdict₀ start programs at block verdict = length s - at
 
 abbrev Inv-blocks2 : tie.InvT-blocks2
-Inv-blocks2 s from number programs₀ at₀ block₀ programs at block = Scan s from number programs₀ programs at block
+Inv-blocks2 s from number programs₀ at₀ block₀ verdict₀ programs at block verdict =
+    Scan s from number programs₀ programs at block × (verdict ≡ Fine)
 
 abbrev μ-blocks2 : tie.MeasureT-blocks2
-μ-blocks2 s from number programs₀ at₀ block₀ programs at block = length s - at
+μ-blocks2 s from number programs₀ at₀ block₀ verdict₀ programs at block verdict = length s - at
 
 blocks2-holds : tie.Need-blocks2-holds Inv-loop μ-loop Inv-blocks2 μ-blocks2
 blocks2-holds c =
     let a = c .before in
-    scan-start (a .args .s .now) (a .args .from) (a .args .number) (a .args .found) (a .pre .0 .0) (a .pre .0 .1) (a .pre .1)
+    (scan-start (a .args .s .now) (a .args .from) (a .args .number) (a .args .found) (a .pre .0 .0) (a .pre .0 .1) (a .pre .1), refl)
+
+loop-holds : tie.Need-loop-holds Inv-loop μ-loop Inv-blocks2 μ-blocks2
+loop-holds c =
+    let b = c .before .blocks2 in
+    (passing-start (c .before .before .before .args .s .now) (b .at) (b .inv .0 .inside), b .inv .1, λ first s. s)
+
+-- what the scan has where its block began, and at the block's first byte, which is looked at
+begun : (c : tie.At-loop Inv-loop μ-loop Inv-blocks2 μ-blocks2) → Scan (c .before .before .before .before .args .s .now) (c .before .before .before .before .args .from) (c .before .before .before .before .args .number) (c .before .before .before .before .args .found) (c .loop .programs) (c .before .before .blocks2 .at) (c .loop .block)
+begun c = c .loop .inv .2 _ (c .before .before .blocks2 .inv .0)
+
+here : (c : tie.Then1 Inv-loop μ-loop Inv-blocks2 μ-blocks2) → Scan (c .before .before .before .before .before .before .before .args .s .now) (c .before .before .before .before .before .before .before .args .from) (c .before .before .before .before .before .before .before .args .number) (c .before .before .before .before .before .before .before .args .found) (c .before .before .before .loop .programs) (c .before .before .before .loop .at) (c .before .before .before .loop .block)
+here c = rw (c .if1 .taken) (begun (c .before .before .before))
+
+-- the block is plain once its first byte was looked at
+plain : (c : tie.Joined1 Inv-loop μ-loop Inv-blocks2 μ-blocks2) → Plain (c .before .before .before .before .before .before .before .args .s .now) (c .before .before .before .before .before .blocks2 .at)
+plain c =
+    ⊎-elim (λ w. first-plain (c .before .before .before .before .before .before .before .args .s .now) (w .0 .taken) (sym (w .1 .ensures) ∙ w .2 .left) (w .3 .left)) (λ w. later-plain (c .before .before .before .loop .inv .0) (w .left)) (c .if1 .came)
+
+blocks2-less : tie.Need-blocks2-less Inv-loop μ-loop Inv-blocks2 μ-blocks2
+blocks2-less c = omega arith
+
+blocks2-again : tie.Need-blocks2-again Inv-loop μ-loop Inv-blocks2 μ-blocks2
+blocks2-again c =
+    let l = c .before .before .before .before .before .args .s .now in
+    let i = c .before .loop .inv in
+    let p = i .0 .plain (omega arith) in
+    (passed-last (begun (c .before)) (omega arith) (p .0) (c .before .loop .at) (p .1) (omega (arith, i .0 .left, length-at-end l (c .before .loop .at) (omega arith))) (omega arith), i .1)
+
+shared-slice-read-b : tie.Need-shared-slice-read-b Inv-loop μ-loop Inv-blocks2 μ-blocks2
+shared-slice-read-b c = omega arith
 
 is-percent-requires : tie.Need-is-percent-requires Inv-loop μ-loop Inv-blocks2 μ-blocks2
 is-percent-requires c κs = omega arith
-
-shared-slice-read-if2 : tie.Need-shared-slice-read-if2 Inv-loop μ-loop Inv-blocks2 μ-blocks2
-shared-slice-read-if2 c = omega arith
 
 add-read-opening : tie.Need-add-read-opening Inv-loop μ-loop Inv-blocks2 μ-blocks2
 add-read-opening c = omega arith
@@ -43,111 +78,93 @@ read-opening-requires : tie.Need-read-opening-requires Inv-loop μ-loop Inv-bloc
 read-opening-requires c κs = omega arith
 
 entry-of-requires : tie.Need-entry-of-requires Inv-loop μ-loop Inv-blocks2 μ-blocks2
-entry-of-requires c κs = search needs
+entry-of-requires c κs = begun (c .before .before .before .before .before .before .before) .ready
 
 enum-known-refusal : tie.Need-enum-known-refusal Inv-loop μ-loop Inv-blocks2 μ-blocks2
 enum-known-refusal c = search needs
-
-returns : tie.Need-returns Inv-loop μ-loop Inv-blocks2 μ-blocks2
-unfolding tableBy
-returns c =
-    let d = c .before .before .before .before .before .before .before .before .before .before in
-    record {
-      table =
-          refused-opening (d .blocks2 .inv) (omega arith) (sym (c .before .before .before .before .before .before .before .before .is-percent .ensures) ∙ c .before .before .before .before .before .before .before .if1 .left) (c .before .refusal .given .0 .0)
-          (c .before .before .before .before .before .if2 .taken)
-          (ap (entryOf (d .blocks2 .programs .main) (subsOf (d .blocks2 .programs))) (sym (c .before .before .before .before .read-opening .ensures))
-          ∙ sym (c .before .before .before .entry-of .ensures) ∙ c .before .refusal .given .1);
-      ready = d .blocks2 .inv .ready;
-    }
 
 enum-known-n : tie.Need-enum-known-n Inv-loop μ-loop Inv-blocks2 μ-blocks2
 enum-known-n c = search needs
 
 add-block : tie.Need-add-block Inv-loop μ-loop Inv-blocks2 μ-blocks2
-add-block c = omega arith
+add-block c = let h = here (c .before .before .before .before .before .before .before .before) in omega (arith, h .counted)
 
 next-block-requires : tie.Need-next-block-requires Inv-loop μ-loop Inv-blocks2 μ-blocks2
 next-block-requires c κs = omega arith
 
 with-program-requires : tie.Need-with-program-requires Inv-loop μ-loop Inv-blocks2 μ-blocks2
 with-program-requires c κs =
-    let d = c .before .before .before .before .before .before .before .before .before .before .before in (
-      d .blocks2 .inv .ready,
-      entry-room (d .blocks2 .programs) (d .blocks2 .inv .ready) (c .before .before .before .before .before .read-opening .result) _
-          (sym (c .before .before .before .before .entry-of .ensures) ∙ c .before .before .n .given .1),
-    )
-
-blocks2-less : tie.Need-blocks2-less Inv-loop μ-loop Inv-blocks2 μ-blocks2
-blocks2-less c =
-    let d = c .before .before .before .before .before .before .before .before .before .before .before .before in
-    omega (arith, c .before .next-block .ensures, length-at-more (d .before .before .args .s .now) (d .blocks2 .at) (omega arith) (λ e. omega (arith, c .before .before .before .before .before .before .before .if2 .taken)))
-
-blocks2-again : tie.Need-blocks2-again Inv-loop μ-loop Inv-blocks2 μ-blocks2
-blocks2-again c =
-    let d = c .before .before .before .before .before .before .before .before .before .before .before .before in
-    passed-opening (d .blocks2 .inv) (omega arith) (sym (c .before .before .before .before .before .before .before .before .before .before .is-percent .ensures) ∙ c .before .before .before .before .before .before .before .before .before .if1 .left) _ (c .before .next-block .result) (c .with-program .result)
-    (c .before .before .before .before .before .before .before .if2 .taken)
-    (ap (entryOf (d .blocks2 .programs .main) (subsOf (d .blocks2 .programs))) (sym (c .before .before .before .before .before .before .read-opening .ensures))
-    ∙ sym (c .before .before .before .before .before .entry-of .ensures) ∙ c .before .before .before .n .given .1)
-    (c .before .next-block .ensures) (c .with-program .ensures)
-
-loop-holds : tie.Need-loop-holds Inv-loop μ-loop Inv-blocks2 μ-blocks2
-loop-holds c = (c .before .before .before .before .before .blocks2 .inv .inside, omega arith, refl, refl)
+    let h = here (c .before .before .before .before .before .before .before .before .before) in
+    (h .ready, entry-room (c .before .before .before .before .before .before .before .before .before .before .before .before .loop .programs) (h .ready) (c .before .before .before .before .before .read-opening .result) _ (sym (c .before .before .before .before .entry-of .ensures) ∙ c .before .before .n .given .1))
 
 blocks2-less-2 : tie.Need-blocks2-less-2 Inv-loop μ-loop Inv-blocks2 μ-blocks2
-blocks2-less-2 c = omega arith
+blocks2-less-2 c =
+    let l = c .before .before .before .before .before .before .before .before .before .before .before .before .before .before .before .before .before .args .s .now in
+    omega (arith, c .before .before .before .before .before .before .before .before .before .before .before .before .before .loop .inv .0 .begun, c .before .next-block .ensures, length-at-more l (c .before .before .before .before .before .before .before .before .before .before .before .before .before .loop .at) (omega arith) (λ e. omega (arith, c .before .before .before .before .before .before .before .if3 .taken)))
 
 blocks2-again-2 : tie.Need-blocks2-again-2 Inv-loop μ-loop Inv-blocks2 μ-blocks2
 blocks2-again-2 c =
-    let d = c .before .before .before .before .before .before .before in
-    let i = c .before .loop .inv in
-    rw (i .2)
-    (passed-last (d .blocks2 .inv) (omega arith) (sym (c .before .before .before .before .before .is-percent .ensures) ∙ c .before .before .before .before .if1 .left) (c .before .loop .at) (c .before .before .if2 .left)
-    (omega (arith, i .3, length-at-end (d .before .before .args .s .now) (c .before .loop .at) (omega arith))) (omega arith))
-
-shared-slice-read-b : tie.Need-shared-slice-read-b Inv-loop μ-loop Inv-blocks2 μ-blocks2
-shared-slice-read-b c = omega arith
+    let h = here (c .before .before .before .before .before .before .before .before .before .before) in (
+      passed-opening h (omega arith) (sym (c .before .before .before .before .before .before .before .before .before .is-percent .ensures) ∙ c .before .before .before .before .before .before .before .before .if2 .left) _ (c .before .next-block .result) (c .with-program .result)
+          (c .before .before .before .before .before .before .before .if3 .taken)
+          (ap (entryOf (c .before .before .before .before .before .before .before .before .before .before .before .before .before .loop .programs .main) (subsOf (c .before .before .before .before .before .before .before .before .before .before .before .before .before .loop .programs))) (sym (c .before .before .before .before .before .before .read-opening .ensures))
+          ∙ sym (c .before .before .before .before .before .entry-of .ensures) ∙ c .before .before .before .n .given .1)
+          (c .before .next-block .ensures) (c .with-program .ensures),
+      c .before .before .before .before .before .before .before .before .before .before .before .before .before .loop .inv .1,
+    )
 
 add-at : tie.Need-add-at Inv-loop μ-loop Inv-blocks2 μ-blocks2
 add-at c = omega arith
 
 add-block-2 : tie.Need-add-block-2 Inv-loop μ-loop Inv-blocks2 μ-blocks2
-add-block-2 c = omega arith
+add-block-2 c = let h = begun (c .before .before .before .before) in omega (arith, h .counted, c .before .before .before .before .loop .inv .0 .begun)
 
 blocks2-less-3 : tie.Need-blocks2-less-3 Inv-loop μ-loop Inv-blocks2 μ-blocks2
-blocks2-less-3 c = omega arith
+blocks2-less-3 c = omega (arith, c .before .before .before .before .loop .inv .0 .begun)
 
 blocks2-again-3 : tie.Need-blocks2-again-3 Inv-loop μ-loop Inv-blocks2 μ-blocks2
 blocks2-again-3 c =
-    let d = c .before .before .before .before .before .before .before .before .before in
-    let i = c .before .before .before .loop .inv in
-    rw (i .2)
-    (passed-plain (d .blocks2 .inv) (omega arith) (sym (c .before .before .before .before .before .before .before .is-percent .ensures) ∙ c .before .before .before .before .before .before .if1 .left) (c .before .before .before .loop .at + 1) (c .before .before .before .before .if2 .left)
-    (omega (arith, i .3, length-at-lf (d .before .before .args .s .now) (c .before .before .before .loop .at) (omega arith) (c .if3 .taken))) (omega arith))
+    let l = c .before .before .before .before .before .before .before .before .args .s .now in
+    let i = c .before .before .before .before .loop .inv in
+    let p = plain (c .before) in
+    (passed-plain (begun (c .before .before .before .before)) (omega arith) (p .0) (c .before .before .before .before .loop .at + 1) (p .1) (omega (arith, i .0 .left, length-at-lf l (c .before .before .before .before .loop .at) (omega arith) (c .if4 .taken))) (omega (arith, i .0 .begun)), i .1)
 
 loop-less : tie.Need-loop-less Inv-loop μ-loop Inv-blocks2 μ-blocks2
 loop-less c = omega arith
 
 loop-again : tie.Need-loop-again Inv-loop μ-loop Inv-blocks2 μ-blocks2
 loop-again c =
-    let d = c .before .before .before .before .before .before .before .before .before in
-    let i = c .before .before .before .loop .inv in (
-      omega arith,
-      omega arith,
-      i .2,
-      omega (arith, i .3, length-at-more (d .before .before .args .s .now) (c .before .before .before .loop .at) (omega arith) (c .if3 .left)),
-    )
+    let i = c .before .before .before .before .loop .inv in
+    (passing-more (i .0) (omega arith) (plain (c .before)) (c .if4 .left), i .1, i .2)
+
+returns : tie.Need-returns Inv-loop μ-loop Inv-blocks2 μ-blocks2
+unfolding tableBy
+returns c =
+    let i = c .before .blocks2 .inv in
+    record { table = ap (λ (v : Verdict). tableBy v (c .before .blocks2 .programs)) (i .1) ∙ stopped-end (i .0) (omega arith); ready = i .0 .ready }
 
 returns-2 : tie.Need-returns-2 Inv-loop μ-loop Inv-blocks2 μ-blocks2
 unfolding tableBy
-returns-2 c = record { table = stopped-end (c .before .blocks2 .inv) (omega arith); ready = c .before .blocks2 .inv .ready }
+returns-2 c =
+    let h = here (c .before .before) in
+    record {
+      table =
+          ap (λ (v : Verdict). tableBy v (c .before .before .before .before .before .loop .programs)) (c .before .before .before .before .before .loop .inv .1)
+          ∙ stopped-percent h (omega arith) (sym (c .before .is-percent .ensures) ∙ c .if2 .taken);
+      ready = h .ready;
+    }
 
 returns-3 : tie.Need-returns-3 Inv-loop μ-loop Inv-blocks2 μ-blocks2
 unfolding tableBy
 returns-3 c =
-    let i = c .before .before .before .blocks2 .inv in
-    record { table = stopped-percent i (omega arith) (sym (c .before .is-percent .ensures) ∙ c .if1 .taken); ready = i .ready }
+    let h = here (c .before .before .before .before .before .before .before .before) in
+    record {
+      table =
+          refused-opening h (omega arith) (sym (c .before .before .before .before .before .before .before .is-percent .ensures) ∙ c .before .before .before .before .before .before .if2 .left) (c .before .refusal .given .0 .0) (c .before .before .before .before .before .if3 .taken)
+          (ap (entryOf (c .before .before .before .before .before .before .before .before .before .before .before .loop .programs .main) (subsOf (c .before .before .before .before .before .before .before .before .before .before .before .loop .programs))) (sym (c .before .before .before .before .read-opening .ensures))
+          ∙ sym (c .before .before .before .entry-of .ensures) ∙ c .before .refusal .given .1);
+      ready = h .ready;
+    }
 
 pub scan-openings-spec : {M : Type 1} → statement M
 scan-openings-spec =
@@ -158,28 +175,27 @@ scan-openings-spec =
     Inv-blocks2
     μ-blocks2
     blocks2-holds
+    loop-holds
+    blocks2-less
+    blocks2-again
+    shared-slice-read-b
     is-percent-requires
-    shared-slice-read-if2
     add-read-opening
     read-opening-requires
     entry-of-requires
     enum-known-refusal
-    returns
     enum-known-n
     add-block
     next-block-requires
     with-program-requires
-    blocks2-less
-    blocks2-again
-    loop-holds
     blocks2-less-2
     blocks2-again-2
-    shared-slice-read-b
     add-at
     add-block-2
     blocks2-less-3
     blocks2-again-3
     loop-less
     loop-again
+    returns
     returns-2
     returns-3)
