@@ -129,8 +129,7 @@ pub fn exec(
     let read = gathering::read_words(s, from, left == 4, modes);
     let status = read.status;
     match status {
-        Status::Unreadable(byte) => Executed::Refused(Refusal::Unreadable, byte),
-        Status::MayNot(byte) => Executed::Refused(Refusal::CannotExecute, byte),
+        Status::Refused(refusal, byte) => Executed::Refused(refusal, byte),
         Status::Fine => {
             let after = lines::next_block(s, read.end);
             hear(list, at, bed, programs, left, start, after, state, read)

@@ -5,6 +5,7 @@ use reading::Reading;
 use reading::Role;
 use reading::Seen;
 use reading::Status;
+use refusals::Refusal;
 use settings::Modes;
 use words::Number;
 use words::Sign;
@@ -49,8 +50,8 @@ pub fn read_words(s: &[u8], from: usize, main: bool, before: Modes) -> Reading
     let mut i = from;
     while !lines::text_ends(s, i) {
         match reading::item_at(s, i) {
-            Item::Unreadable => {
-                status = Status::Unreadable(i);
+            Item::Refused(refusal) => {
+                status = Status::Refused(refusal, i);
                 break;
             }
             Item::Gap(next) => {
@@ -65,7 +66,7 @@ pub fn read_words(s: &[u8], from: usize, main: bool, before: Modes) -> Reading
                 match reading::role_of(main, letters[k], letters[6], groups, misc, w) {
                     Role::MayNot => {
                         stopped = true;
-                        status = Status::MayNot(w.at);
+                        status = Status::Refused(Refusal::CannotExecute, w.at);
                     }
                     Role::Code(c) => {
                         let g = codes::group_of(c) as usize;

@@ -149,12 +149,8 @@ fn show_block(s: &[u8], at: usize, modes: Modes) -> Modes
     let read = gathering::read_words(s, after_slash(s, at), true, modes);
     let status = read.status;
     match status {
-        Status::Unreadable(place) => {
-            show_refused(Refusal::Unreadable, place);
-            modes
-        }
-        Status::MayNot(place) => {
-            show_refused(Refusal::CannotExecute, place);
+        Status::Refused(refusal, place) => {
+            show_refused(refusal, place);
             modes
         }
         Status::Fine => {

@@ -12,6 +12,8 @@ use lib.ListN.{length, drop, getD, length-drop}
 use lib.Seq.{drop-drop, take-length, slice}
 use Rattle.terms.specs.Terms.{if_then_else_}
 use Rattle.lines.specs.Blocks.{beginsWith, textFrom, noText, lengthFrom, endsAt}
+use Rattle.refusals.specs.declared.Refusal.{Refusal}
+use Rattle.refusals.specs.declared.Refusal.the-variants as refusals
 use Rattle.words.specs.Numbers.{isDigit, isPoint, signOf, signLength, run, numberBy, numberIn, Written}
 use Rattle.words.specs.Words as Words
 use Rattle.words.specs.Words.{isBlank, isCapital, closing, gap, word, unreadable, commentItem, wordItem, itemAt, these, badAt, withWord, itemThen, wordsAfter}
@@ -120,7 +122,7 @@ module _ (l : List ℕ) (i : ℕ) where
   placed-blank e = rw e (ap item.Gap (omega arith))
 
   module _ (e : here ≡ 40) where
-    pub placed-open : commentAt (i + 1) rest ≡ Open → placed i (itemAt i here rest) ≡ item.Unreadable
+    pub placed-open : commentAt (i + 1) rest ≡ Open → placed i (itemAt i here rest) ≡ item.Refused refusals.Unreadable
     unfolding placed itemAt commentItem
     placed-open f = rw e (rw (open-by (i + 1) (closing rest) f))
 
@@ -131,7 +133,7 @@ module _ (l : List ℕ) (i : ℕ) where
         rw e (rw (w .closes) (ap item.Gap (sym (w .is))))
 
   module _ (blank : isBlank here ≡ false) (paren : here ≡ 40 → ⊥) where
-    pub placed-other : isCapital here ≡ false → placed i (itemAt i here rest) ≡ item.Unreadable
+    pub placed-other : isCapital here ≡ false → placed i (itemAt i here rest) ≡ item.Refused refusals.Unreadable
     unfolding placed itemAt
     placed-other e = rw (blank, ne-eqb here 40 paren, e)
 
@@ -140,7 +142,7 @@ module _ (l : List ℕ) (i : ℕ) where
       unfolding itemAt
       by-number = rw (blank, ne-eqb here 40 paren, capital)
 
-      pub placed-none : numberIn (drop (i + 1) l) ≡ Unreadable → placed i (itemAt i here rest) ≡ item.Unreadable
+      pub placed-none : numberIn (drop (i + 1) l) ≡ Unreadable → placed i (itemAt i here rest) ≡ item.Refused refusals.Unreadable
       unfolding placed wordItem
       placed-none e = by-number ∙ rw (number-text (drop (i + 1) l)) (rw e)
 
@@ -203,14 +205,15 @@ module _ (l : List ℕ) (i : ℕ) (going : noText (drop i l) ≡ false) where
   unfolding wordsAfter
   at-item = rw (text-at l i going)
 
-  pub step-bad : placed i (itemAt i (here l i) (rest l i)) ≡ item.Unreadable → wordsAt l i ≡ badAt i
+  -- the refusal of what begins here is 15
+  pub step-bad : (refusal : Refusal) → placed i (itemAt i (here l i) (rest l i)) ≡ item.Refused refusal → (wordsAt l i ≡ badAt i) × (refusal ≡ refusals.Unreadable)
   unfolding placed itemThen
-  step-bad e = at-item ∙ go (itemAt i (here l i) (rest l i)) e
+  step-bad refusal e = let g = go (itemAt i (here l i) (rest l i)) e in (at-item ∙ g .0, g .1)
     where
-      go : (x : Words.Item) → placed i x ≡ item.Unreadable → itemThen i x (λ k. wordsAfter k (i + 1) (rest l i)) ≡ badAt i
+      go : (x : Words.Item) → placed i x ≡ item.Refused refusal → (itemThen i x (λ k. wordsAfter k (i + 1) (rest l i)) ≡ badAt i) × (refusal ≡ refusals.Unreadable)
       go (gap k) f = let never : _≡_ {A = ℕ} 0 1 = cc in absurd (omega arith)
       go (word w k) f = let never : _≡_ {A = ℕ} 0 1 = cc in absurd (omega arith)
-      go unreadable f = refl
+      go unreadable f = (refl, cc)
 
   pub step-gap : (next : ℕ) → placed i (itemAt i (here l i) (rest l i)) ≡ item.Gap next → (wordsAt l i ≡ wordsAt l next) × Gone l i next
   unfolding placed itemThen
@@ -250,6 +253,6 @@ unfolding statusAfter withWord
 status-word wrong w (these ws) = refl
 status-word wrong w (badAt at) = refl
 
-pub status-end : (wrong : ℕ) (l : List ℕ) (i : ℕ) → noText (drop i l) ≡ true → statusAfter wrong (wordsAt l i) ≡ status.MayNot wrong
+pub status-end : (wrong : ℕ) (l : List ℕ) (i : ℕ) → noText (drop i l) ≡ true → statusAfter wrong (wordsAt l i) ≡ status.Refused refusals.CannotExecute wrong
 unfolding statusAfter wordsAfter
 status-end wrong l i e = rw (text-none (drop i l) e)

@@ -13,6 +13,8 @@ use lib.Seq.{take-suc-set, getD-set-same, getD-set-other}
 use Rattle.terms.specs.Terms.{if_then_else_, any}
 use Rattle.terms.proofs.Laws.{either-left, either-right}
 use Rattle.lines.specs.Blocks.{noText, lengthFrom}
+use Rattle.refusals.specs.declared.Refusal.{Refusal}
+use Rattle.refusals.specs.declared.Refusal.the-variants.{CannotExecute, Unreadable}
 use Rattle.words.specs.Numbers.{Written}
 use Rattle.words.specs.Words as Words
 use Rattle.words.specs.Words.{isCapital, these, badAt, withWord, wordsAfter}
@@ -30,7 +32,7 @@ use Rattle.reading.specs.Seen.{placeOf, hasLetter, Sums}
 use Rattle.reading.specs.Whole.{standing, statusOf, Kept, IsRead}
 use Rattle.reading.specs.declared.Seen.{Seen}
 use Rattle.reading.specs.declared.Status.{Status}
-use Rattle.reading.specs.declared.Status.the-variants.{Fine, Unreadable, MayNot}
+use Rattle.reading.specs.declared.Status.the-variants.{Fine, Refused}
 use Rattle.reading.specs.declared.Reading.{Reading}
 use Rattle.reading.proofs.Items.{Gone, status-word, status-end}
 use Rattle.reading.proofs.Letters.{place-inside, place-back}
@@ -129,7 +131,7 @@ pub record Sofar (main : Bool) (m : Modes) (l : List ℕ) (from i : ℕ) (seen :
 pub record Halted (main : Bool) (l : List ℕ) (from i : ℕ) (status : Status) : Type 0 where
   pub inside : i ≤ length l
   pub wrong : ℕ
-  pub named : status ≡ MayNot wrong
+  pub named : status ≡ Refused CannotExecute wrong
   pub left : statusOf main (wordsAt l from) ≡ statusAfter wrong (wordsAt l i)
 
 -- along the block, halted or not
@@ -195,7 +197,7 @@ module _ {main : Bool} {m : Modes} {l : List ℕ} {from i : ℕ} {seen : Seen} {
             block = s .block;
           }
 
-  status-bad : wordsAt l i ≡ badAt i → statusOf main (wordsAt l from) ≡ Unreadable i
+  status-bad : wordsAt l i ≡ badAt i → statusOf main (wordsAt l from) ≡ Refused Unreadable i
   unfolding prepend statusOf
   status-bad e = ap (statusOf main) (s .whole ∙ ap (prepend (s .done)) e)
 
@@ -207,7 +209,7 @@ module _ {main : Bool} {m : Modes} {l : List ℕ} {from i : ℕ} {seen : Seen} {
   module _ (w : Word) (next : ℕ) (e : wordsAt l i ≡ withWord w (wordsAt l next)) (g : Gone l i next) where
     -- ---- a word that may not stand
 
-    pub halts : mayNotStand main (s .done) w ≡ true → Halted main l from next (MayNot (w .at))
+    pub halts : mayNotStand main (s .done) w ≡ true → Halted main l from next (Refused CannotExecute (w .at))
     unfolding statusAfter prepend withWord statusOf standing firstThatMayNot
     halts f =
         record {
@@ -390,14 +392,14 @@ module _ {stopped main : Bool} {m : Modes} {l : List ℕ} {from i : ℕ} {status
             kept = λ k ws d. let never : _≡_ {A = ℕ} 0 1 = cc (h .named) in absurd (omega arith);
           }
 
-  pub bad-along : wordsAt l i ≡ badAt i → IsRead main m l from (record { status = Unreadable i; seen = seen; count = count; words = words; end = i })
+  pub bad-along : (refusal : Refusal) → (wordsAt l i ≡ badAt i) × (refusal ≡ Unreadable) → IsRead main m l from (record { status = Refused refusal i; seen = seen; count = count; words = words; end = i })
   unfolding statusAfter
-  bad-along e =
+  bad-along refusal e =
       record {
-        status = sym (go stopped refl);
+        status = ap (λ (r : Refusal). Refused r i) (e .1) ∙ sym (go stopped refl);
         kept = λ f ws g. let never : _≡_ {A = ℕ} 0 1 = cc in absurd (omega arith);
       }
     where
-      go : (t : Bool) → stopped ≡ t → statusOf main (wordsAt l from) ≡ Unreadable i
-      go false f = status-bad (s .going f) e
-      go true f = s .halted f .left ∙ ap (statusAfter (s .halted f .wrong)) e
+      go : (t : Bool) → stopped ≡ t → statusOf main (wordsAt l from) ≡ Refused Unreadable i
+      go false f = status-bad (s .going f) (e .0)
+      go true f = s .halted f .left ∙ ap (statusAfter (s .halted f .wrong)) (e .0)

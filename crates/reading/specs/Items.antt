@@ -3,10 +3,11 @@ use Prim.Native.Nat.{ℕ, _+_}
 use mathlib.Core.List.{List}
 use lib.ListN.{drop}
 use Rattle.lines.specs.Blocks.{textFrom}
+use Rattle.refusals.specs.declared.Refusal.the-variants.{CannotExecute, Unreadable}
 use Rattle.words.specs.Words as Words
 use Rattle.words.specs.Words.{gap, word, unreadable, these, badAt, wordsOf}
 use Rattle.reading.specs.declared.Item.{Item}
-use Rattle.reading.specs.declared.Item.the-variants.{Gap, Says, Unreadable}
+use Rattle.reading.specs.declared.Item.the-variants.{Gap, Says, Refused}
 use Rattle.reading.specs.declared.Status.{Status}
 use Rattle.reading.specs.declared.Status.the-variants as status
 
@@ -14,7 +15,7 @@ use Rattle.reading.specs.declared.Status.the-variants as status
 unfoldable pub placed : ℕ → Words.Item → Item
 placed i (gap k) = Gap (i + 1 + k)
 placed i (word w k) = Says w (i + 1 + k)
-placed i unreadable = Unreadable
+placed i unreadable = Refused Unreadable
 
 -- the words from a place to the end of its block
 abbrev pub wordsAt : List ℕ → ℕ → Words.Words
@@ -22,5 +23,5 @@ wordsAt l i = wordsOf i (textFrom (drop i l))
 
 -- "15 leftmost; 4 leftmost": after a word that may not stand
 unfoldable pub statusAfter : ℕ → Words.Words → Status
-statusAfter wrong (these ws) = status.MayNot wrong
-statusAfter wrong (badAt at) = status.Unreadable at
+statusAfter wrong (these ws) = status.Refused CannotExecute wrong
+statusAfter wrong (badAt at) = status.Refused Unreadable at

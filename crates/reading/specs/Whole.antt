@@ -6,6 +6,7 @@ use mathlib.Core.Option.{Option, none, some}
 use mathlib.Core.List.{List, []}
 use lib.ListN.{length, take, drop}
 use Rattle.lines.specs.Blocks.{lengthFrom}
+use Rattle.refusals.specs.declared.Refusal.the-variants.{CannotExecute, Unreadable}
 use Rattle.words.specs.Words as Words
 use Rattle.words.specs.Words.{these, badAt}
 use Rattle.words.specs.declared.Word.{Word}
@@ -15,17 +16,17 @@ use Rattle.letters.specs.Judging.{valued, Stored}
 use Rattle.reading.specs.Items.{wordsAt}
 use Rattle.reading.specs.Seen.{Sums}
 use Rattle.reading.specs.declared.Status.{Status}
-use Rattle.reading.specs.declared.Status.the-variants.{Fine, Unreadable, MayNot}
+use Rattle.reading.specs.declared.Status.the-variants.{Fine, Refused}
 use Rattle.reading.specs.declared.Reading.{Reading}
 
 -- "15 leftmost; 4 leftmost"
 unfoldable pub standing : Option Word → Status
 standing none = Fine
-standing (some w) = MayNot (w .at)
+standing (some w) = Refused CannotExecute (w .at)
 
 unfoldable pub statusOf : Bool → Words.Words → Status
 statusOf main (these ws) = standing (firstThatMayNot main [] ws)
-statusOf main (badAt at) = Unreadable at
+statusOf main (badAt at) = Refused Unreadable at
 
 -- what is known of a block all of whose words may stand: what is kept of them, the words with a value in their order, and
 -- the place of the next block

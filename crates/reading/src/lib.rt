@@ -2,6 +2,7 @@
 use codes::Code;
 use codes::Misc;
 use gaps::Comment;
+use refusals::Refusal;
 use settings::Modes;
 use words::Numbered;
 use words::Word;
@@ -16,19 +17,18 @@ ghost use Rattle.letters.specs.Letters.{isKnown, isG, isMisc, codeIn, miscIn, s
 ghost use Rattle.reading.specs.Items.{placed};
 ghost use Rattle.reading.specs.Seen.{placeOf, Tells, TellsG, badMisc};
 
-// What begins at a place of a block: a blank or a comment, or a word, each with the place after it; or nothing readable.
+// What begins at a place of a block: a blank or a comment, or a word, each with the place after it; or what is refused,
+// being unreadable.
 pub enum Item {
     Gap(usize),
     Says(Word, usize),
-    Unreadable,
+    Refused(Refusal),
 }
 
-// How the reading of a block ends: as words that may all stand, at an unreadable byte or number, or with the first word
-// that may not stand.
+// How the reading of a block ends: as words that may all stand, or with a refusal, 15 or 4, and the byte that it names.
 pub enum Status {
     Fine,
-    Unreadable(usize),
-    MayNot(usize),
+    Refused(Refusal, usize),
 }
 
 // What is kept of the words that were read: which letters of the alphabet and which groups of codes stood, the M code, and
@@ -72,18 +72,18 @@ pub fn item_at(s: &[u8], i: usize) -> Item
     }
     if b == b'(' {
         let Comment::Closed(after) = gaps::comment_end(s, next) else {
-            return Item::Unreadable;
+            return Item::Refused(Refusal::Unreadable);
         };
         return Item::Gap(after);
     }
     if b < b'A' {
-        return Item::Unreadable;
+        return Item::Refused(Refusal::Unreadable);
     }
     if b'Z' < b {
-        return Item::Unreadable;
+        return Item::Refused(Refusal::Unreadable);
     }
     let Numbered::Is(number, taken) = numbers::read_number(s, next, s.len()) else {
-        return Item::Unreadable;
+        return Item::Refused(Refusal::Unreadable);
     };
     let word = Word {
         letter: b,

@@ -269,35 +269,29 @@ standing-fine none e = refl
 standing-fine (some w) e = let no : _≡_ {A = ℕ} 0 1 = cc in absurd (omega arith)
 
 standing-word :
-    (o : Option Word) (byte : ℕ) → status.MayNot byte ≡ standing o
-    → atWord CannotExecute o ≡ some (record { refusal = CannotExecute; byte = byte })
+    (o : Option Word) (refusal : Refusal) (byte : ℕ) → status.Refused refusal byte ≡ standing o
+    → atWord CannotExecute o ≡ some (record { refusal = refusal; byte = byte })
 unfolding standing atWord
-standing-word none byte e = let no : _≡_ {A = ℕ} 0 1 = cc in absurd (omega arith)
-standing-word (some w) byte e = let same : w .at ≡ byte = cc in rw same
-
-standing-read : (o : Option Word) (byte : ℕ) → status.Unreadable byte ≡ standing o → _≡_ {A = ℕ} 0 1
-unfolding standing
-standing-read none byte e = cc
-standing-read (some w) byte e = cc
+standing-word none refusal byte e = let no : _≡_ {A = ℕ} 0 1 = cc in absurd (omega arith)
+standing-word (some w) refusal byte e =
+    let same : CannotExecute ≡ refusal = cc in
+    let here : w .at ≡ byte = cc in
+    rw (same, here)
 
 module _ (machine : Machine) (calls : Calls) (room : ℕ) (s : State) (start : ℕ) where
   abbrev verdict : Words → Verdict
   verdict words = execWords machine calls room s start words
 
-  pub unreadable-stops :
-      (words : Words) (byte : ℕ) → status.Unreadable byte ≡ statusOf (inMain calls) words
-      → verdict words ≡ refused (record { refusal = Unreadable; byte = byte })
-  unfolding statusOf execWords
-  unreadable-stops (badAt at) byte e = let same : byte ≡ at = cc in rw same
-  unreadable-stops (these ws) byte e =
-      let no = standing-read (firstThatMayNot (inMain calls) [] ws) byte e in absurd (omega arith)
-
-  pub standing-stops :
-      (words : Words) (byte : ℕ) → status.MayNot byte ≡ statusOf (inMain calls) words
-      → verdict words ≡ refused (record { refusal = CannotExecute; byte = byte })
+  pub reading-stops :
+      (words : Words) (refusal : Refusal) (byte : ℕ) → status.Refused refusal byte ≡ statusOf (inMain calls) words
+      → verdict words ≡ refused (record { refusal = refusal; byte = byte })
   unfolding statusOf execWords judged blames
-  standing-stops (badAt at) byte e = let no : _≡_ {A = ℕ} 0 1 = cc in absurd (omega arith)
-  standing-stops (these ws) byte e = stop _ _ _ _ (standing-word (firstThatMayNot (inMain calls) [] ws) byte e)
+  reading-stops (badAt at) refusal byte e =
+      let same : refusal ≡ Unreadable = cc in
+      let here : byte ≡ at = cc in
+      rw (same, here)
+  reading-stops (these ws) refusal byte e =
+      stop _ _ _ _ (standing-word (firstThatMayNot (inMain calls) [] ws) refusal byte e)
 
   -- a block that reads as words all of which may stand
   pub record Stands (words : Words) : Type 0 where

@@ -4,12 +4,11 @@ use native.Mathlib.Omega.{arith}
 use Prim.Native.Nat.{_-_}
 use lib.ListN.{length}
 use Rattle.reading.specs.Whole.{Kept}
-use Rattle.refusals.specs.declared.Refusal.the-variants.{Unreadable, CannotExecute}
 use Rattle.programs.specs.Found.{subsOf}
 use Rattle.reading.specs.Items.{wordsAt}
 use Rattle.blocks.specs.Machine.{machineOf}
 use Rattle.blocks.specs.Exec.{callsIn, exec}
-use Rattle.steps.proofs.Verdicts.{does-refused, does-as, unreadable-stops, standing-stops, Stands, stands}
+use Rattle.steps.proofs.Verdicts.{does-refused, does-as, reading-stops, Stands, stands}
 use borrow.Author.Needs.{needs}
 use Rattle.execution.proofs.exec.Statement.{statement}
 use Rattle.execution.proofs.exec.Tie as tie
@@ -37,9 +36,6 @@ read-words-requires c κs = search needs
 enum-known-status : tie.Need-enum-known-status
 enum-known-status c = search needs
 
-enum-known-status-2 : tie.Need-enum-known-status-2
-enum-known-status-2 c = search needs
-
 enum-told : tie.Need-enum-told
 enum-told c = search needs
 
@@ -66,22 +62,15 @@ returns : tie.Need-returns
 unfolding exec callsIn
 returns c =
     let a = c .before .before .before .before .before .before .before .args in
-    does-refused Unreadable _
-    (unreadable-stops (machineOf (a .bed)) (callsIn (subsOf (a .programs)) (a .left)) _ (a .state) (a .start) _ _ (sym (c .before .status .given .1) ∙ c .before .before .before .read-words .ensures .status))
-
-returns-2 : tie.Need-returns-2
-unfolding exec callsIn
-returns-2 c =
-    let a = c .before .before .before .before .before .before .before .args in
-    does-refused CannotExecute _
-    (standing-stops (machineOf (a .bed)) (callsIn (subsOf (a .programs)) (a .left)) _ (a .state) (a .start) _ _ (sym (c .before .status2 .given .1) ∙ c .before .before .before .read-words .ensures .status))
+    does-refused _ _
+    (reading-stops (machineOf (a .bed)) (callsIn (subsOf (a .programs)) (a .left)) _ (a .state) (a .start) _ _ _ (sym (c .before .status .given .1) ∙ c .before .before .before .read-words .ensures .status))
 
 same-length : tie.Need-same-length
 same-length c = search needs
 
-returns-3 : tie.Need-returns-3
+returns-2 : tie.Need-returns-2
 unfolding exec
-returns-3 c =
+returns-2 c =
     let told = c .before .before .before .before .before in
     let kept = whole told in
     let next = c .before .before .before .before .next-block .ensures ∙ kept .block in
@@ -93,11 +82,9 @@ exec-spec =
     (tie.spec
     read-words-requires
     enum-known-status
-    enum-known-status-2
     enum-told
     next-block-requires
     hear-requires
     returns
-    returns-2
     same-length
-    returns-3)
+    returns-2)

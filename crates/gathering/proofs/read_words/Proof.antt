@@ -44,14 +44,14 @@ going c = sym (c .before .text-ends .ensures) ∙ not-true _ (c .if1 .taken)
 item-at-requires : tie.Need-item-at-requires Inv-loop μ-loop
 item-at-requires c κs = text-inside (c .before .before .before .before .before .args .s .now) (c .before .before .loop .i) (going c)
 
-enum-told : tie.Need-enum-told Inv-loop μ-loop
-enum-told c = search needs
+enum-known-refusal : tie.Need-enum-known-refusal Inv-loop μ-loop
+enum-known-refusal c = search needs
 
 enum-known-next : tie.Need-enum-known-next Inv-loop μ-loop
 enum-known-next c = search needs
 
 -- the gap, and what follows it
-passed : (c : tie.After-known-told Inv-loop μ-loop) → (wordsAt (c .before .before .before .before .before .before .before .before .before .args .s .now) (c .before .before .before .before .before .before .loop .i) ≡ wordsAt (c .before .before .before .before .before .before .before .before .before .args .s .now) (c .before .next .given .0 .0)) × Gone (c .before .before .before .before .before .before .before .before .before .args .s .now) (c .before .before .before .before .before .before .loop .i) (c .before .next .given .0 .0)
+passed : (c : tie.After-known-told2 Inv-loop μ-loop) → (wordsAt (c .before .before .before .before .before .before .before .before .before .args .s .now) (c .before .before .before .before .before .before .loop .i) ≡ wordsAt (c .before .before .before .before .before .before .before .before .before .args .s .now) (c .before .next .given .0 .0)) × Gone (c .before .before .before .before .before .before .before .before .before .args .s .now) (c .before .before .before .before .before .before .loop .i) (c .before .next .given .0 .0)
 passed c =
     let e = c .before .before .before .before in
     step-gap (e .before .before .before .before .before .args .s .now) (e .before .before .loop .i) (going e) (c .before .next .given .0 .0) (sym (c .before .before .before .item-at .ensures) ∙ c .before .next .given .1)
@@ -66,12 +66,12 @@ enum-known-w : tie.Need-enum-known-w Inv-loop μ-loop
 enum-known-w c = search needs
 
 -- the next word, and what follows it
-abbrev Stepped : tie.After-known-told2 Inv-loop μ-loop → Type 0
+abbrev Stepped : tie.After-known-told3 Inv-loop μ-loop → Type 0
 Stepped c =
     (wordsAt (c .before .before .before .before .before .before .before .before .before .args .s .now) (c .before .before .before .before .before .before .loop .i) ≡ withWord (c .before .w .given .0 .0) (wordsAt (c .before .before .before .before .before .before .before .before .before .args .s .now) (c .before .w .given .0 .1 .0)))
     × Gone (c .before .before .before .before .before .before .before .before .before .args .s .now) (c .before .before .before .before .before .before .loop .i) (c .before .w .given .0 .1 .0) × Written (c .before .w .given .0 .0 .number) × (isCapital (c .before .w .given .0 .0 .letter) ≡ true)
 
-stepped : (c : tie.After-known-told2 Inv-loop μ-loop) → Stepped c
+stepped : (c : tie.After-known-told3 Inv-loop μ-loop) → Stepped c
 stepped c =
     let e = c .before .before .before .before in
     step-word (e .before .before .before .before .before .args .s .now) (e .before .before .loop .i) (going e) (c .before .w .given .0 .0) (c .before .w .given .0 .1 .0) (sym (c .before .before .before .item-at .ensures) ∙ c .before .w .given .1)
@@ -115,8 +115,8 @@ playing c r is =
     (read c .sums .letters 6 (lit< tt)) in
     subst (λ x. Plays (c .before .before .before .before .before .before .before .before .before .before .before .before .args .main) (read c .done) (c .before .before .before .before .w .given .0 .0) x) is told
 
-enum-told-2 : tie.Need-enum-told-2 Inv-loop μ-loop
-enum-told-2 c = search needs
+enum-told : tie.Need-enum-told Inv-loop μ-loop
+enum-told c = search needs
 
 loop-less-3 : tie.Need-loop-less-3 Inv-loop μ-loop
 loop-less-3 c = let g = stepped (c .before .before .before .before .before) .1 in omega (arith, g .forward, g .inside)
@@ -124,7 +124,7 @@ loop-less-3 c = let g = stepped (c .before .before .before .before .before) .1 i
 loop-again-3 : tie.Need-loop-again-3 Inv-loop μ-loop
 loop-again-3 c =
     let step = stepped (c .before .before .before .before .before) in
-    stops (halts (read (c .before .before)) (c .before .before .before .before .before .before .w .given .0 .0) (c .before .before .before .before .before .before .w .given .0 .1 .0) (step .0) (step .1) (playing (c .before .before) _ (c .enum-told2 .given .1)))
+    stops (halts (read (c .before .before)) (c .before .before .before .before .before .before .w .given .0 .0) (c .before .before .before .before .before .before .w .given .0 .1 .0) (step .0) (step .1) (playing (c .before .before) _ (c .enum-told .given .1)))
 
 enum-known-c : tie.Need-enum-known-c Inv-loop μ-loop
 enum-known-c c = search needs
@@ -166,17 +166,17 @@ loop-again-5 c =
     let misc = playing (c .before .before .before) _ (c .before .m .given .1) in
     rw (c .before .before .before .before .before .if2 .left, c .before .before .before .before .before .before .before .before .before .before .before .before .loop .inv .fine (c .before .before .before .before .before .if2 .left)) (goes-on (over-misc (read (c .before .before .before)) (c .before .before .before .before .before .before .before .w .given .0 .0) (c .before .before .before .before .before .before .before .w .given .0 .1 .0) (step .0) (step .1) (step .2) (step .3) (misc .0) (c .before .m .given .0 .0) (misc .1) (misc .2)))
 
-enum-told-3 : tie.Need-enum-told-3 Inv-loop μ-loop
-enum-told-3 c = search needs
+enum-told-2 : tie.Need-enum-told-2 Inv-loop μ-loop
+enum-told-2 c = search needs
 
 array-write-letters-3 : tie.Need-array-write-letters-3 Inv-loop μ-loop
 array-write-letters-3 c = rw (c .before .before .before .place-of .ensures) (place-inside _ (stepped (c .before .before .before .before .before) .3))
 
 -- a word with a value has a place
-placed : (c : tie.After-enum-told3 Inv-loop μ-loop) → c .before .before .before .before .before .before .before .before .before .before .before .loop .count < 13
+placed : (c : tie.After-enum-told2 Inv-loop μ-loop) → c .before .before .before .before .before .before .before .before .before .before .before .loop .count < 13
 placed c =
     let step = stepped (c .before .before .before .before .before) in
-    let value = playing (c .before .before) _ (c .enum-told3 .given .1) in
+    let value = playing (c .before .before) _ (c .enum-told2 .given .1) in
     room (read (c .before .before)) (c .before .before .before .before .before .before .w .given .0 .0) (c .before .before .before .before .before .before .w .given .0 .1 .0) (step .0) (step .1) (step .2) (step .3) (value .0) (value .1)
 
 mul-words : tie.Need-mul-words Inv-loop μ-loop
@@ -194,7 +194,7 @@ loop-less-6 c = let g = stepped (c .before .before .before .before .before) .1 i
 loop-again-6 : tie.Need-loop-again-6 Inv-loop μ-loop
 loop-again-6 c =
     let step = stepped (c .before .before .before .before .before) in
-    let value = playing (c .before .before) _ (c .enum-told3 .given .1) in
+    let value = playing (c .before .before) _ (c .enum-told2 .given .1) in
     rw (c .before .before .before .before .if2 .left, c .before .before .before .before .before .before .before .before .before .before .before .loop .inv .fine (c .before .before .before .before .if2 .left), c .before .before .before .place-of .ensures)
     (goes-on (over-valued (read (c .before .before)) (c .before .before .before .before .before .before .w .given .0 .0) (c .before .before .before .before .before .before .w .given .0 .1 .0) (step .0) (step .1) (step .2) (step .3) (value .0) (value .1)))
 
@@ -203,8 +203,8 @@ returns c = end-along (c .before .before .loop .inv) (sym (c .before .text-ends 
 
 returns-2 : tie.Need-returns-2 Inv-loop μ-loop
 returns-2 c =
-    let e = c .before .before .before in
-    bad-along (e .before .before .loop .inv) (step-bad (e .before .before .before .before .before .args .s .now) (e .before .before .loop .i) (going e) (sym (c .before .before .item-at .ensures) ∙ c .enum-told .given .1))
+    let e = c .before .before .before .before in
+    bad-along (e .before .before .loop .inv) (c .before .refusal .given .0 .0) (step-bad (e .before .before .before .before .before .args .s .now) (e .before .before .loop .i) (going e) (c .before .refusal .given .0 .0) (sym (c .before .before .before .item-at .ensures) ∙ c .before .refusal .given .1))
 
 pub read-words-spec : {M : Type 1} → statement M
 read-words-spec =
@@ -216,7 +216,7 @@ read-words-spec =
     loop-holds
     text-ends-requires
     item-at-requires
-    enum-told
+    enum-known-refusal
     enum-known-next
     loop-less
     loop-again
@@ -227,7 +227,7 @@ read-words-spec =
     array-read-role-of
     array-read-role-of-2
     role-of-requires
-    enum-told-2
+    enum-told
     loop-less-3
     loop-again-3
     enum-known-c
@@ -241,7 +241,7 @@ read-words-spec =
     array-write-letters-2
     loop-less-5
     loop-again-5
-    enum-told-3
+    enum-told-2
     array-write-letters-3
     mul-words
     array-set-from-words

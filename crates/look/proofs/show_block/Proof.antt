@@ -17,12 +17,6 @@ enum-known-status c = search needs
 show-refused-requires : tie.Need-show-refused-requires
 show-refused-requires c κs = search needs
 
-enum-known-status-2 : tie.Need-enum-known-status-2
-enum-known-status-2 c = search needs
-
-show-refused-requires-2 : tie.Need-show-refused-requires-2
-show-refused-requires-2 c κs = search needs
-
 enum-told : tie.Need-enum-told
 enum-told c = search needs
 
@@ -44,9 +38,6 @@ returns c = search needs
 returns-2 : tie.Need-returns-2
 returns-2 c = search needs
 
-returns-3 : tie.Need-returns-3
-returns-3 c = search needs
-
 pub show-block-spec : {M : Type 1} → statement M
 show-block-spec =
     tie.close
@@ -55,12 +46,9 @@ show-block-spec =
     read-words-requires
     enum-known-status
     show-refused-requires
-    enum-known-status-2
-    show-refused-requires-2
     enum-told
     speeds-requires
     judged-requires
     show-judged-requires
     returns
-    returns-2
-    returns-3)
+    returns-2)

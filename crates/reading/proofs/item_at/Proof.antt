@@ -61,8 +61,8 @@ returns-7 c =
     (placed-none (a .s .now) (a .i) (blank-not _ (c .before .before .before .before .before .before .before .if1 .left) (c .before .before .before .before .before .before .if2 .left)) (c .before .before .before .before .before .if3 .left) (capital-is _ (c .before .before .before .before .if4 .left) (c .before .before .before .if5 .left))
     (from-place (a .s .now) (a .i) ∙ sym (c .before .before .read-number .ensures) ∙ c .enum-told2 .given .1))
 
-add-t14 : tie.Need-add-t14
-add-t14 c =
+add-t17 : tie.Need-add-t17
+add-t17 c =
     let a = c .before .before .before .before .before .before .before .before .before .before .before in
     omega (
       arith,
@@ -96,5 +96,5 @@ item-at-spec =
     enum-known-number
     enum-told-2
     returns-7
-    add-t14
+    add-t17
     returns-8)
