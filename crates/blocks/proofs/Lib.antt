@@ -4,3 +4,4 @@ pub mod Nearness
 pub mod Shortness
 pub mod Making
 pub mod Accepting
+pub mod Table

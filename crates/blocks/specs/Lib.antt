@@ -4,3 +4,4 @@ pub mod Exec
 pub mod Reach
 pub mod Keeping
 pub mod Doing
+pub mod Examples
