@@ -47,11 +47,11 @@ pub record Accepted (t : Travel) (from : Point) (a : Arc) : Type 0 where
   pub holds : arcHolds from a ≡ true
 
 -- the same of a record's path, where it is an arc
-abbrev pub Ready : Travel → Point → Path → Type 0
-Ready t from (straight p) = Unit
-Ready t from (clockwise a) = Accepted t from a
-Ready t from (counter a) = Accepted t from a
-Ready t from still = Unit
+abbrev pub PathBounds : Travel → Point → Path → Type 0
+PathBounds t from (straight p) = Unit
+PathBounds t from (clockwise a) = Accepted t from a
+PathBounds t from (counter a) = Accepted t from a
+PathBounds t from still = Unit
 
 -- a direction as a function answers it: the value, and that it can be multiplied
 pub record Direction (a b r : Flat) : Type 0 where

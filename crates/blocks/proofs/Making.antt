@@ -32,7 +32,7 @@ use Rattle.letters.specs.declared.BlockCode.{BlockCode}
 use Rattle.letters.specs.declared.BlockCode.the-variants.{Calling, Returning, Dwelling, Moving}
 use Rattle.blocks.specs.declared.Said.{Said}
 use Rattle.blocks.specs.Machine.{machineOf}
-use Rattle.blocks.specs.Motions.{Moves, none, one, endStands, arcStands, arcFor, arcMoves, cycleDone, cycleMoves, motionOf, movesOf}
+use Rattle.blocks.specs.Motions.{Moves, noMoves, one, endStands, arcStands, arcFor, arcMoves, cycleDone, cycleMoves, motionOf, movesOf}
 use Rattle.blocks.specs.Exec.{working, spindleRecords, movesIn, lastRecords, madeBy, settled}
 use Rattle.blocks.specs.Reach.{Reachable, Steady}
 use Rattle.blocks.proofs.Nearness.{feed-near, speed-near, hole-feed, hole-dwell}
@@ -122,18 +122,18 @@ module _ (bed : Bed) (s : State) (b : Said) where
     motion-others : (motion : Motion) → b .code ≡ Moving motion → AllOthers by (motionOf motion (b .named) w origin v .records)
     unfolding motionOf arcMoves
     motion-others Off e = tt
-    motion-others G00 e = either-moves by (endStands v) (one (RP (target (w .modes .distance) origin (w .at) v))) none (tt, tt) tt
+    motion-others G00 e = either-moves by (endStands v) (one (RP (target (w .modes .distance) origin (w .at) v))) noMoves (tt, tt) tt
     motion-others G01 e =
-        either-moves by (endStands v) (one (LN (target (w .modes .distance) origin (w .at) v) (w .feed))) none
+        either-moves by (endStands v) (one (LN (target (w .modes .distance) origin (w .at) v) (w .feed))) noMoves
         (omega (arith, feed-near bed s b steady), tt) tt
     motion-others G02 e =
         let a = arcFor w origin v in
-        either-moves by (arcStands v) (arcMoves AR w a) none (arc-others bed s b steady, tt) tt
+        either-moves by (arcStands v) (arcMoves AR w a) noMoves (arc-others bed s b steady, tt) tt
     motion-others G03 e =
         let a = arcFor w origin v in
-        either-moves by (arcStands v) (arcMoves AL w a) none (arc-others bed s b steady, tt) tt
+        either-moves by (arcStands v) (arcMoves AL w a) noMoves (arc-others bed s b steady, tt) tt
     motion-others (Drilling cycle) e =
-        either-moves by (cycleDone (b .named) v) (cycleMoves cycle w origin v) none (cycle-others cycle e) tt
+        either-moves by (cycleDone (b .named) v) (cycleMoves cycle w origin v) noMoves (cycle-others cycle e) tt
 
     code-others : (code : BlockCode) → b .code ≡ code → AllOthers by (movesOf code (b .named) w origin v .records)
     unfolding movesOf

@@ -33,8 +33,8 @@ pub record Moves : Type 0 where
   pub records : List Record
   pub sound : Bool
 
-abbrev pub none : Moves
-none = record { records = []; sound = true }
+abbrev pub noMoves : Moves
+noMoves = record { records = []; sound = true }
 
 abbrev pub one : Record → Moves
 one r = record { records = r ∷ []; sound = true }
@@ -68,18 +68,18 @@ cycleMoves cycle s origin v =
 
 -- The motion by the code that is on; `named` tells that the block names it.
 unfoldable pub motionOf : Motion → Bool → State → Point → Values → Moves
-motionOf Off named s origin v = none
+motionOf Off named s origin v = noMoves
 -- "with any of X Y Z, one record"
-motionOf G00 named s origin v = if endStands v then one (RP (target (s .modes .distance) origin (s .at) v)) else none
+motionOf G00 named s origin v = if endStands v then one (RP (target (s .modes .distance) origin (s .at) v)) else noMoves
 motionOf G01 named s origin v =
-    if endStands v then one (LN (target (s .modes .distance) origin (s .at) v) (s .feed)) else none
+    if endStands v then one (LN (target (s .modes .distance) origin (s .at) v) (s .feed)) else noMoves
 -- `AR` is clockwise, as G02 is
-motionOf G02 named s origin v = if arcStands v then arcMoves AR s (arcFor s origin v) else none
-motionOf G03 named s origin v = if arcStands v then arcMoves AL s (arcFor s origin v) else none
-motionOf (Drilling cycle) named s origin v = if cycleDone named v then cycleMoves cycle s origin v else none
+motionOf G02 named s origin v = if arcStands v then arcMoves AR s (arcFor s origin v) else noMoves
+motionOf G03 named s origin v = if arcStands v then arcMoves AL s (arcFor s origin v) else noMoves
+motionOf (Drilling cycle) named s origin v = if cycleDone named v then cycleMoves cycle s origin v else noMoves
 
 unfoldable pub movesOf : BlockCode → Bool → State → Point → Values → Moves
-movesOf Calling named s origin v = none
-movesOf Returning named s origin v = none
+movesOf Calling named s origin v = noMoves
+movesOf Returning named s origin v = noMoves
 movesOf Dwelling named s origin v = one (DW (v .p .v))
 movesOf (Moving motion) named s origin v = motionOf motion named s origin v

@@ -5,6 +5,6 @@ use Rattle.runs.specs.declared.Budget.{Budget}
 use Rattle.runs.specs.declared.Budget.the-variants.{Whole, First}
 
 -- so many, or all where the word is no count
-unfoldable pub budgetOf : Digits → Budget
-budgetOf (Are n) = First n
-budgetOf Others = Whole
+unfoldable pub budgetBy : Digits → Budget
+budgetBy (Are n) = First n
+budgetBy Others = Whole

@@ -3,7 +3,7 @@
 ghost use Prim.Native.Nat.{_≤_};
 ghost use lib.ListN.{length};
 ghost use Rattle.interpreter.specs.Owing.{Owes};
-ghost use Rattle.cases.specs.Budgets.{budgetOf};
+ghost use Rattle.cases.specs.Budgets.{budgetBy};
 use headers::Case;
 use libc::STDIN_FILENO;
 use libc::STDOUT_FILENO;
@@ -48,7 +48,7 @@ fn run_case(case: Case, input: &[u8], list: &mut [u8])
 }
 
 fn answer_to(setup: Setup, blocks: Digits, bytes: &[u8], list: &mut [u8]) -> Answer
-    ensures { λ r. ⌜ Owes setup (now (bytes .entry)) (budgetOf blocks) (now (list .entry)) (now (list .exit)) r ⌝ }
+    ensures { λ r. ⌜ Owes setup (now (bytes .entry)) (budgetBy blocks) (now (list .entry)) (now (list .exit)) r ⌝ }
 {
     match blocks {
         Digits::Are(n) => interpreter::run_blocks(setup, bytes, list, n),

@@ -25,7 +25,7 @@ use Rattle.runs.specs.declared.Budget.{Budget}
 use Rattle.runs.specs.declared.Budget.the-variants.{Whole, First}
 use Rattle.runs.specs.Walk.{Job, Going, How, ended, returned, unfinished, refusedAt, Outcome}
 use Rattle.runs.specs.Run.{nowhere, outcome, recordsOf, answerBy, answerOf}
-use Rattle.claims.specs.Steps.{
+use Rattle.claims.specs.Blockwise.{
   Turn,
   refuses,
   goes,

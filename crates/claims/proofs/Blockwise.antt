@@ -1,4 +1,4 @@
--- One block of the run, by the rules of the run and block by block (specs/Steps.antt).
+-- One block of the run, by the rules of the run and block by block (specs/Blockwise.antt).
 use Prim.Native.Nat.{ℕ, zero, suc, _+_, _-_}
 use mathlib.Core.Path.{_≡_, refl, sym, _∙_, ap}
 use mathlib.Core.Bool.{Bool, true, false, false≢true, _||_}
@@ -45,7 +45,7 @@ use Rattle.runs.specs.Walk.{
   blocksFor,
   callees,
 }
-use Rattle.claims.specs.Steps.{
+use Rattle.claims.specs.Blockwise.{
   BlockDone,
   Stand,
   Turn,

@@ -26,7 +26,7 @@ use Rattle.lines.specs.Blocks.{Block, closes, opens}
 use Rattle.programs.specs.declared.Program.{Program}
 use Rattle.programs.specs.Openings.{placeOf}
 use Rattle.runs.specs.Walk.{Job, How, ended, refusedAt, isSkipped, slashLength, verdictOn}
-use Rattle.claims.specs.Steps.{
+use Rattle.claims.specs.Blockwise.{
   BlockDone,
   Stand,
   Turn,

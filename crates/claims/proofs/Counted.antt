@@ -1,4 +1,4 @@
--- The run block by block (specs/Steps.antt) gives what the rules of the run give, for every budget.
+-- The run block by block (specs/Blockwise.antt) gives what the rules of the run give, for every budget.
 use Prim.Native.Nat.{ℕ, zero, suc, _+_, _-_}
 use mathlib.Core.Path.{_≡_, refl, sym, _∙_, ap}
 use mathlib.Core.Bool.{false}
@@ -10,7 +10,7 @@ use Rattle.records.specs.declared.Record.{Record}
 use Rattle.runs.specs.declared.Budget.{Budget}
 use Rattle.runs.specs.declared.Budget.the-variants.{Whole, First}
 use Rattle.runs.specs.Walk.{Job, How, ended, unfinished, refusedAt, Outcome, just, isSpent, oneLess, after}
-use Rattle.claims.specs.Steps.{
+use Rattle.claims.specs.Blockwise.{
   BlockDone,
   Stand,
   Turn,

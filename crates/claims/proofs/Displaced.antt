@@ -37,7 +37,7 @@ use Rattle.runs.specs.declared.Budget.the-variants.{Whole, First}
 use Rattle.refusals.specs.declared.Answer.the-variants.{Done}
 use Rattle.runs.specs.Walk.{How, ended, refusedAt, Outcome}
 use Rattle.runs.specs.Run.{firstOf, finishOf, nowhere, outcome, recordsOf, answerBy, answerOf}
-use Rattle.claims.specs.Steps.{BlockDone, refuses, turnAt, Sofar, afterTurn, oneMore, more, recordsBy, howSofar, outcomeSofar, tableIn, subsOf, jobFor, standAt, refusedAtOnce, begunBy, begun, firstBlocks}
+use Rattle.claims.specs.Blockwise.{BlockDone, refuses, turnAt, Sofar, afterTurn, oneMore, more, recordsBy, howSofar, outcomeSofar, tableIn, subsOf, jobFor, standAt, refusedAtOnce, begunBy, begun, firstBlocks}
 use Rattle.claims.specs.Travel.{inTravel}
 use Rattle.claims.specs.Displaced.{displaced, allMoved, stayIn, LeavesFirst}
 use Rattle.claims.proofs.Turns.{open-turn, more-over}

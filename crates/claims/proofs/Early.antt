@@ -25,7 +25,7 @@ use Rattle.programs.specs.Openings as Openings
 use Rattle.programs.proofs.Entries.{entry-refusal}
 use Rattle.runs.specs.Walk.{refusedAt}
 use Rattle.runs.specs.Run.{nowhere}
-use Rattle.claims.specs.Steps.{tableIn, refusedAtOnce, begunBy, begun}
+use Rattle.claims.specs.Blockwise.{tableIn, refusedAtOnce, begunBy, begun}
 use Rattle.claims.specs.Answers.{earlyNumbers, numberedIn}
 
 -- ---- the openings

@@ -12,7 +12,7 @@ use Rattle.blocks.specs.declared.Control.the-variants.{On, Call, Back, Stop}
 use Rattle.lines.specs.Blocks.{Block}
 use Rattle.programs.specs.Openings.{known}
 use Rattle.runs.specs.Walk.{Job, ended, refusedAt, blocksFor}
-use Rattle.claims.specs.Steps.{BlockDone, Stand, Turn, refuses, goes, ends, past, inCallee, returning, led, turnAt, Sofar, afterTurn, turnedUnless, oneMore, more}
+use Rattle.claims.specs.Blockwise.{BlockDone, Stand, Turn, refuses, goes, ends, past, inCallee, returning, led, turnAt, Sofar, afterTurn, turnedUnless, oneMore, more}
 use Rattle.claims.proofs.Blockwise.{calls-below, one-down}
 use Rattle.claims.proofs.Turns.{Onto, turn-cases, doneWith}
 use Rattle.claims.proofs.Counted.{during, Over}

@@ -12,7 +12,7 @@ use Rattle.records.specs.declared.Record.{Record}
 use Rattle.runs.specs.declared.Budget.{Budget}
 use Rattle.runs.specs.Walk.{Job, How, refusedAt, Outcome, just}
 use Rattle.runs.specs.Run.{outcome}
-use Rattle.claims.specs.Steps.{BlockDone, Turn, refuses, goes, ends, turnAt, Sofar, afterTurn, oneMore, more, recordsBy, howSofar, outcomeSofar, jobFor, begun, firstBlocks}
+use Rattle.claims.specs.Blockwise.{BlockDone, Turn, refuses, goes, ends, turnAt, Sofar, afterTurn, oneMore, more, recordsBy, howSofar, outcomeSofar, jobFor, begun, firstBlocks}
 use Rattle.claims.specs.Answers.{RefusedBlock, RefusedWhere, atOnce, atBlock}
 use Rattle.claims.proofs.Turns.{open-turn, one-over, more-over}
 use Rattle.claims.proofs.Runs.{first-n, some-blocks, begun-with}

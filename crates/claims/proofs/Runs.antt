@@ -25,7 +25,7 @@ use Rattle.runs.specs.declared.Budget.{Budget}
 use Rattle.runs.specs.declared.Budget.the-variants.{Whole, First}
 use Rattle.runs.specs.Walk.{Job, refusedAt, just, after}
 use Rattle.runs.specs.Run.{firstOf, finishOf, nowhere, runTable, runBlocks, outcome}
-use Rattle.claims.specs.Steps.{BlockDone, Sofar, more, recordsBy, howSofar, outcomeSofar, tableIn, subsOf, jobFor, standAt, refusedAtOnce, begunBy, begun, firstBlocks}
+use Rattle.claims.specs.Blockwise.{BlockDone, Sofar, more, recordsBy, howSofar, outcomeSofar, tableIn, subsOf, jobFor, standAt, refusedAtOnce, begunBy, begun, firstBlocks}
 use Rattle.claims.proofs.Blockwise.{Placed, whole, unwound, going}
 use Rattle.claims.proofs.Turns.{more-over}
 use Rattle.claims.proofs.Counted.{Over, counted, counted-whole}

@@ -56,7 +56,7 @@ use Rattle.programs.specs.declared.Program.{Program}
 use Rattle.runs.specs.declared.Budget.{Budget}
 use Rattle.runs.specs.Walk.{Job, How, ended, returned, unfinished, refusedAt, Outcome, just, slashLength, verdictOn}
 use Rattle.runs.specs.Run.{finishOf, nowhere, outcome, answerBy, answerOf}
-use Rattle.claims.specs.Steps.{BlockDone, Stand, returning, led, verdictIn, turnAt, Sofar, afterTurn, turnedUnless, oneMore, more, outcomeSofar, tableIn, subsOf, jobFor, refusedAtOnce, begunBy, begun, firstBlocks}
+use Rattle.claims.specs.Blockwise.{BlockDone, Stand, returning, led, verdictIn, turnAt, Sofar, afterTurn, turnedUnless, oneMore, more, outcomeSofar, tableIn, subsOf, jobFor, refusedAtOnce, begunBy, begun, firstBlocks}
 use Rattle.claims.specs.Answers.{earlyNumbers, blockNumbers, numberedIn}
 use Rattle.claims.proofs.Verdicts.{firstBlames, blamesThen, lastBlames, blames-then}
 use Rattle.claims.proofs.Turns.{turn-cases, more-over}

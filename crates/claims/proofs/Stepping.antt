@@ -12,7 +12,7 @@ use Rattle.runs.specs.declared.Budget.{Budget}
 use Rattle.runs.specs.declared.Budget.the-variants.{Whole, First}
 use Rattle.runs.specs.Walk.{How, ended, unfinished, refusedAt, Outcome}
 use Rattle.runs.specs.Run.{outcome}
-use Rattle.claims.specs.Steps.{BlockDone, Turn, refuses, goes, ends, turnAt, afterTurn, oneMore, recordsBy, howSofar, outcomeSofar, jobFor, begun, firstBlocks}
+use Rattle.claims.specs.Blockwise.{BlockDone, Turn, refuses, goes, ends, turnAt, afterTurn, oneMore, recordsBy, howSofar, outcomeSofar, jobFor, begun, firstBlocks}
 use Rattle.claims.specs.Answers.{OneMore, stays, refusing, going, ending}
 use Rattle.claims.proofs.Turns.{open-turn, one-over, more-last}
 use Rattle.claims.proofs.Counted.{records-last, Over}

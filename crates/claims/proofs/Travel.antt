@@ -22,7 +22,7 @@ use Rattle.programs.specs.Openings as Openings
 use Rattle.runs.specs.declared.Budget.{Budget}
 use Rattle.runs.specs.Walk.{Job, Outcome, slashLength, verdictOn}
 use Rattle.runs.specs.Run.{firstOf, outcome, recordsOf}
-use Rattle.claims.specs.Steps.{BlockDone, Stand, verdictIn, Sofar, more, recordsBy, outcomeSofar, jobFor, begun, firstBlocks}
+use Rattle.claims.specs.Blockwise.{BlockDone, Stand, verdictIn, Sofar, more, recordsBy, outcomeSofar, jobFor, begun, firstBlocks}
 use Rattle.claims.specs.Travel.{machineTravel, inTravel}
 use Rattle.claims.proofs.Verdicts.{accepted-path}
 use Rattle.claims.proofs.Turns.{doneWith, run-holds}

@@ -18,7 +18,7 @@ use Rattle.blocks.specs.declared.Control.the-variants.{On, Call, Back, Stop}
 use Rattle.lines.specs.Blocks.{Block, closes, opens}
 use Rattle.programs.specs.Openings.{placeOf}
 use Rattle.runs.specs.Walk.{Job, How, isSkipped}
-use Rattle.claims.specs.Steps.{
+use Rattle.claims.specs.Blockwise.{
   BlockDone,
   Stand,
   Turn,

@@ -17,7 +17,7 @@ use Rattle.refusals.specs.declared.Answer.{Answer}
 use Rattle.refusals.specs.declared.Answer.the-variants.{Done, Unfinished, Refused}
 use Rattle.runs.specs.Walk.{ended, unfinished, refusedAt, just}
 use Rattle.runs.specs.Run.{outcome}
-use Rattle.claims.specs.Steps.{BlockDone, Stand, refuses, goes, ends, turnAt, jobFor, firstBlocks}
+use Rattle.claims.specs.Blockwise.{BlockDone, Stand, refuses, goes, ends, turnAt, jobFor, firstBlocks}
 
 -- "Each program, setup and list buffer gets a finished list or one of sixteen numbered refusals with its place"; "not
 -- finished" only where the host asked for the first n blocks. The answer counts the records that stand in the list.

@@ -16,7 +16,7 @@ use Rattle.programs.specs.Openings.{placeOf}
 use Rattle.runs.specs.declared.Budget.{Budget}
 use Rattle.runs.specs.declared.Budget.the-variants.{First}
 use Rattle.runs.specs.Run.{recordsOf, answerOf}
-use Rattle.claims.specs.Steps.{BlockDone, firstBlocks}
+use Rattle.claims.specs.Blockwise.{BlockDone, firstBlocks}
 use Rattle.claims.specs.Travel.{inTravel}
 
 abbrev pub axesMoved : Axes → Axes → Axes

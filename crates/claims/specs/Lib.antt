@@ -1,4 +1,4 @@
-pub mod Steps
+pub mod Blockwise
 pub mod Travel
 pub mod Answers
 pub mod Displaced

@@ -13,11 +13,11 @@ use Rattle.points.specs.Near.{Near}
 use Rattle.records.specs.declared.Record.{Record}
 use Rattle.records.specs.Layout.{roomOf}
 use Rattle.records.specs.Path.{endOf}
-use Rattle.records.specs.Writing.{Wrote}
+use Rattle.records.specs.Serving.{Wrote}
 use Rattle.cycles.specs.declared.Hole.{Hole}
 use Rattle.cycles.specs.Cycles.{passTo}
 use Rattle.cycles.specs.Ways.{staysIn}
-use Rattle.cycles.specs.Writing.{movedBytes, Ready, Framed}
+use Rattle.cycles.specs.Writing.{movedBytes, RoomFor, Framed}
 use Rattle.cycles.proofs.Paths.{stays-both}
 use Rattle.cycles.proofs.Passes.{pass-near}
 use Rattle.cycles.proofs.Rooms.{room-append}
@@ -45,7 +45,7 @@ module _ (by : Point) {was : List ℕ} {at₀ : ℕ} {p₀ : Point} {all : List 
       both : (staysIn t p (passTo h level q) ≡ true) × (staysIn t (endOf p (passTo h level q)) more ≡ true)
       both = stays-both t p (passTo h level q) more (ap (staysIn t p) (sym f) ∙ g .stays t e)
 
-      pub going-asks : Framed by t → Short (h .feed .v) → Short (h .dwell .v .v) → Ready is at by (passTo h level q)
+      pub going-asks : Framed by t → Short (h .feed .v) → Short (h .dwell .v .v) → RoomFor is at by (passTo h level q)
       going-asks frame feed dwell =
           record {
             room = omega (arith, rw f at (g .room), room-append (passTo h level q) more);

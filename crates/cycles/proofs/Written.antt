@@ -15,11 +15,12 @@ use Rattle.records.specs.declared.Record.{Record}
 use Rattle.records.specs.declared.Record.the-variants.{RP, LN, AR, AL, DW, SP, SO, PA, EN}
 use Rattle.records.specs.Layout.{kindOf, kindLength, numbersOf, recordBytes, listBytes, roomOf}
 use Rattle.records.specs.Path.{recordMoved}
-use Rattle.records.specs.Writing.{AllShort, ListShort, Wrote}
+use Rattle.records.specs.Writing.{AllShort, ListShort}
+use Rattle.records.specs.Serving.{Wrote}
 use Rattle.records.proofs.Laid.{list-length}
 use Rattle.records.proofs.Written.{wrote-then, wrote-none, wrote-length}
 use Rattle.cycles.specs.Cycles.{dwelling}
-use Rattle.cycles.specs.Writing.{movedBytes, Ready}
+use Rattle.cycles.specs.Writing.{movedBytes, RoomFor}
 use Rattle.cycles.proofs.Passes.{dwell-is, no-dwell-is}
 use Rattle.cycles.proofs.Rooms.{room-append}
 
@@ -78,10 +79,10 @@ module _ (by : Point) where
   short-both (r ∷ a) b h k = (h .0, short-both a b (h .1) k)
 
   module _ {list : List ℕ} {at : ℕ} where
-    pub ready-as : {a b : List Record} → a ≡ b → Ready list at by a → Ready list at by b
+    pub ready-as : {a b : List Record} → a ≡ b → RoomFor list at by a → RoomFor list at by b
     ready-as e h = rw e at h
 
-    pub ready-left : (a b : List Record) → Ready list at by (a ++ b) → Ready list at by a
+    pub ready-left : (a b : List Record) → RoomFor list at by (a ++ b) → RoomFor list at by a
     ready-left a b h =
         record { room = omega (arith, h .room, room-append a b); offset = h .offset; short = short-left a b (h .short) }
 
@@ -96,19 +97,19 @@ module _ (by : Point) where
 
   -- a rapid and a cut to a point that is computed and displaced
   module _ {was : List ℕ} {at : ℕ} {p q : Point} (f : q ≡ p) where
-    pub rapid-sums : Ready was at by (RP p ∷ []) → Near (2 ^ 61) by × Near (2 ^ 61) q
+    pub rapid-sums : RoomFor was at by (RP p ∷ []) → Near (2 ^ 61) by × Near (2 ^ 61) q
     rapid-sums h = sums-fit f (h .offset) (h .short)
 
-    pub cut-sums : (feed : Len) → Ready was at by (LN p feed ∷ []) → Near (2 ^ 61) by × Near (2 ^ 61) q
+    pub cut-sums : (feed : Len) → RoomFor was at by (LN p feed ∷ []) → Near (2 ^ 61) by × Near (2 ^ 61) q
     unfolding recordMoved numbersOf
     cut-sums feed h = let s = h .short .0 in sums-fit f (h .offset) ((s .0, (s .1 .0, (s .1 .1 .0, tt))), tt)
 
     module _ {r : Point} (e : r ≡ moved by q) where
-      pub rapid-fits : Ready was at by (RP p ∷ []) → (at + 14 ≤ length was) × AllShort (numbersOf (RP r))
+      pub rapid-fits : RoomFor was at by (RP p ∷ []) → (at + 14 ≤ length was) × AllShort (numbersOf (RP r))
       unfolding recordMoved numbersOf roomOf
       rapid-fits h = (omega (arith, h .room), rw (e, f) (h .short .0))
 
-      pub cut-fits : (feed : Len) → Ready was at by (LN p feed ∷ []) → (at + 18 ≤ length was) × AllShort (numbersOf (LN r feed))
+      pub cut-fits : (feed : Len) → RoomFor was at by (LN p feed ∷ []) → (at + 18 ≤ length was) × AllShort (numbersOf (LN r feed))
       unfolding recordMoved numbersOf roomOf
       cut-fits feed h = (omega (arith, h .room), rw (e, f) (h .short .0))
 
@@ -124,7 +125,7 @@ module _ (by : Point) where
 
   -- a dwell, or none
   module _ (g : Given) {was : List ℕ} {at : ℕ} where
-    pub dwell-fits : g .stands ≡ true → Ready was at by (dwelling g) → (at + 6 ≤ length was) × AllShort (numbersOf (DW (g .v)))
+    pub dwell-fits : g .stands ≡ true → RoomFor was at by (dwelling g) → (at + 6 ≤ length was) × AllShort (numbersOf (DW (g .v)))
     unfolding recordMoved numbersOf roomOf
     dwell-fits e h = let f = ready-as (dwell-is g e) h in (omega (arith, f .room), f .short .0)
 
@@ -146,5 +147,5 @@ module _ (by : Point) where
     pub room-right : at + roomOf (a ++ b) ≤ length was → k + roomOf b ≤ length mid
     room-right h = omega (arith, w .place, wrote-length w, list-length (map (recordMoved by) a), moved-room a, room-append a b)
 
-    pub ready-right : Ready was at by (a ++ b) → Ready mid k by b
+    pub ready-right : RoomFor was at by (a ++ b) → RoomFor mid k by b
     ready-right h = record { room = room-right (h .room); offset = h .offset; short = short-right a b (h .short) }

@@ -25,7 +25,7 @@ abbrev pub movedBytes : Point → List Record → List ℕ
 movedBytes by rs = listBytes (map (recordMoved by) rs)
 
 -- records that can be written at a place: there is room, and each number fits four bytes in machine units
-pub record Ready (list : List ℕ) (at : ℕ) (by : Point) (rs : List Record) : Type 0 where
+pub record RoomFor (list : List ℕ) (at : ℕ) (by : Point) (rs : List Record) : Type 0 where
   pub room : at + roomOf rs ≤ length list
   pub offset : Near 1_000_000_000 by
   pub short : ListShort (map (recordMoved by) rs)

@@ -15,12 +15,12 @@ ghost use lib.ListN.{length};
 ghost use Rattle.points.specs.Points.{atHeight};
 ghost use Rattle.records.specs.declared.Record.the-variants.{RP, LN};
 ghost use Rattle.records.specs.Layout.{roomOf};
-ghost use Rattle.records.specs.Writing.{Wrote};
+ghost use Rattle.records.specs.Serving.{Wrote};
 ghost use Rattle.cycles.specs.Cycles.{dwelling, upUnder, leaving, passTo, passes};
-ghost use Rattle.cycles.specs.Writing.{movedBytes, Ready, Puts};
+ghost use Rattle.cycles.specs.Writing.{movedBytes, RoomFor, Puts};
 
 fn put_rapid(list: &mut [u8], at: usize, offset: Point, p: Point, level: Len) -> usize
-    requires { ⌜ Ready (now list) at offset (RP (atHeight p level) ∷ []) ⌝ }
+    requires { ⌜ RoomFor (now list) at offset (RP (atHeight p level) ∷ []) ⌝ }
     ensures { λ next. ⌜ Wrote (now (list .entry)) at (movedBytes offset (RP (atHeight p level) ∷ [])) (now (list .exit)) next ⌝ }
 {
     let q = points::moved(offset, points::at_height(p, level));
@@ -28,7 +28,7 @@ fn put_rapid(list: &mut [u8], at: usize, offset: Point, p: Point, level: Len) ->
 }
 
 fn put_cut(list: &mut [u8], at: usize, offset: Point, p: Point, level: Len, feed: Len) -> usize
-    requires { ⌜ Ready (now list) at offset (LN (atHeight p level) feed ∷ []) ⌝ }
+    requires { ⌜ RoomFor (now list) at offset (LN (atHeight p level) feed ∷ []) ⌝ }
     ensures { λ next. ⌜ Wrote (now (list .entry)) at (movedBytes offset (LN (atHeight p level) feed ∷ [])) (now (list .exit)) next ⌝ }
 {
     let q = points::moved(offset, points::at_height(p, level));
@@ -37,7 +37,7 @@ fn put_cut(list: &mut [u8], at: usize, offset: Point, p: Point, level: Len, feed
 
 // A dwell is where a P stands; no offset changes it.
 fn put_dwell(list: &mut [u8], at: usize, offset: Point, g: Given) -> usize
-    requires { ⌜ Ready (now list) at offset (dwelling g) ⌝ }
+    requires { ⌜ RoomFor (now list) at offset (dwelling g) ⌝ }
     ensures { λ next. ⌜ Wrote (now (list .entry)) at (movedBytes offset (dwelling g)) (now (list .exit)) next ⌝ }
 {
     let ms = g.v;
@@ -50,7 +50,7 @@ fn put_dwell(list: &mut [u8], at: usize, offset: Point, g: Given) -> usize
 
 // How G85 and G89 leave: a cut to R and, under G98, the rapid to the initial level.
 fn put_cut_up(list: &mut [u8], at: usize, offset: Point, h: Hole, p: Point) -> usize
-    requires { ⌜ Ready (now list) at offset (LN (atHeight p (h .r)) (h .feed) ∷ upUnder (h .back) h p) ⌝ }
+    requires { ⌜ RoomFor (now list) at offset (LN (atHeight p (h .r)) (h .feed) ∷ upUnder (h .back) h p) ⌝ }
     ensures { λ next. ⌜ Wrote (now (list .entry)) at (movedBytes offset (LN (atHeight p (h .r)) (h .feed) ∷ upUnder (h .back) h p)) (now (list .exit)) next ⌝ }
 {
     let back = h.back;
@@ -64,7 +64,7 @@ fn put_cut_up(list: &mut [u8], at: usize, offset: Point, h: Hole, p: Point) -> u
 
 // The way back up.
 fn put_leaving(list: &mut [u8], at: usize, offset: Point, h: Hole, p: Point) -> usize
-    requires { ⌜ Ready (now list) at offset (leaving (h .cycle) h p) ⌝ }
+    requires { ⌜ RoomFor (now list) at offset (leaving (h .cycle) h p) ⌝ }
     ensures { λ next. ⌜ Wrote (now (list .entry)) at (movedBytes offset (leaving (h .cycle) h p)) (now (list .exit)) next ⌝ }
 {
     let cycle = h.cycle;
@@ -79,7 +79,7 @@ fn put_leaving(list: &mut [u8], at: usize, offset: Point, h: Hole, p: Point) -> 
 
 // One pass at X, Y of a point, which comes at a level.
 fn put_pass(list: &mut [u8], at: usize, offset: Point, h: Hole, level: Len, p: Point) -> usize
-    requires { ⌜ Ready (now list) at offset (passTo h level p) ⌝ }
+    requires { ⌜ RoomFor (now list) at offset (passTo h level p) ⌝ }
     ensures { λ next. ⌜ Wrote (now (list .entry)) at (movedBytes offset (passTo h level p)) (now (list .exit)) next ⌝ }
 {
     let z = h.z;

@@ -13,7 +13,7 @@ ghost use mathlib.Core.List.{List};
 ghost use Prim.Native.Nat.{_-_, _≤_, _+_};
 ghost use lib.ListN.{length, drop};
 ghost use Rattle.words.specs.declared.Word.{Word};
-ghost use Rattle.programs.specs.Found.{Ready, subsOf};
+ghost use Rattle.programs.specs.Found.{WellFound, subsOf};
 ghost use Rattle.blocks.specs.Machine.{machineOf};
 ghost use Rattle.blocks.specs.Reach.{Steady, Reachable};
 ghost use Rattle.blocks.specs.Exec.{callsIn, working, saidBy, exec};
@@ -36,7 +36,7 @@ fn obey(
 ) -> Executed
     requires { ⌜ at ≤ length (now list) ⌝ }
     requires { ⌜ Steady bed s b ⌝ }
-    requires { ⌜ Ready programs ⌝ }
+    requires { ⌜ WellFound programs ⌝ }
     ensures { λ r. ⌜ ((ws : List Word) → Does (bed .offset) (judgedFrom 3 (machineOf bed) (callsIn (subsOf programs) left) (length (now (list .entry)) - at) s start ws b) (now (list .entry)) at after (now (list .exit)) r) ⌝ }
 {
     let code = b.code;
@@ -122,7 +122,7 @@ pub fn exec(
     requires { ⌜ at ≤ length (now list) ⌝ }
     requires { ⌜ Fair bed ⌝ }
     requires { ⌜ Reachable bed state ⌝ }
-    requires { ⌜ Ready programs ⌝ }
+    requires { ⌜ WellFound programs ⌝ }
     ensures { λ r. ⌜ Does (bed .offset) (exec (machineOf bed) (callsIn (subsOf programs) left) (length (now (list .entry)) - at) state start from (textFrom (drop from (now (s .entry))))) (now (list .entry)) at (from + lengthFrom (drop from (now (s .entry)))) (now (list .exit)) r ⌝ }
 {
     let modes = state.modes;

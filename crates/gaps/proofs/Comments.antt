@@ -20,8 +20,9 @@ use Rattle.words.specs.declared.Sign.the-variants.{Plain, Plus, Minus}
 use Rattle.words.specs.declared.Number.{Number}
 use Rattle.words.specs.declared.Numbered.{Numbered}
 use Rattle.words.specs.declared.Numbered.the-variants.{Is, Unreadable}
-use Rattle.gaps.specs.Comments.{Alike, nothing, outside, begins, inside, finishes, breaks, AlikeBlocks, openAfter, insideAt}
-use Rattle.gaps.specs.Comments as Comments
+use Rattle.gaps.specs.Comments.{openAfter, insideAt}
+use Rattle.gaps.specs.Alike.{Alike, nothing, outside, begins, inside, finishes, breaks, AlikeBlocks}
+use Rattle.gaps.specs.Alike as Alikes
 use Rattle.gaps.specs.Gaps.{noWords, onlyGaps}
 use Rattle.gaps.proofs.Laws.{text-here, text-none}
 
@@ -279,12 +280,12 @@ blocks-after :
     (pass n at : ℕ) (s t : List ℕ) → length s ≡ length t → Alike false (drop pass s) (drop pass t)
     → AlikeBlocks (blocksAfter pass n at s) (blocksAfter pass n at t)
 unfolding blocksAfter
-blocks-after pass n at [] [] e r = Comments.none
+blocks-after pass n at [] [] e r = Alikes.none
 blocks-after pass n at [] (c ∷ t) e r = absurd (omega arith)
 blocks-after pass n at (b ∷ s) [] e r = absurd (omega arith)
 blocks-after zero n at (b ∷ s) (c ∷ t) e r =
     rw (← next-alike r)
-    (Comments.more
+    (Alikes.more
     (record { number = refl; start = refl; text = text-alike r; next = refl })
     (blocks-after (lengthFrom (b ∷ s) - 1) (n + 1) (at + lengthFrom (b ∷ s)) s t (omega arith) (after-first b c s t (past-block r))))
 blocks-after (suc pass) n at (b ∷ s) (c ∷ t) e r = blocks-after pass n at s t (omega arith) r

@@ -19,7 +19,8 @@ use Rattle.words.specs.Numbers.{numberIn}
 use Rattle.words.specs.declared.Numbered.{Numbered}
 use Rattle.words.specs.declared.Numbered.the-variants.{Is, Unreadable}
 use Rattle.words.specs.declared.Word.{Word}
-use Rattle.gaps.specs.Gaps.{commentBy, commentAt, noWords, onlyGaps}
+use Rattle.gaps.specs.Gaps.{noWords, onlyGaps}
+use Rattle.gaps.specs.Serving.{commentBy, commentAt}
 use Rattle.gaps.specs.declared.Comment.{Comment}
 use Rattle.gaps.specs.declared.Comment.the-variants.{Closed, Open}
 

@@ -5,7 +5,8 @@ use Rattle.codes.proofs.Opened.{opened as codes-opened}
 use Rattle.lines.proofs.Opened.{opened as lines-opened}
 use Rattle.words.proofs.Opened.{opened as words-opened}
 use Rattle.gaps.specs.Comments.{insideAt}
-use Rattle.gaps.specs.Gaps.{commentBy, noWords, onlyGaps}
+use Rattle.gaps.specs.Gaps.{noWords, onlyGaps}
+use Rattle.gaps.specs.Serving.{commentBy}
 
 unfoldable pub opened : Unit {0}
 unfolding

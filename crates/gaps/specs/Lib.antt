@@ -1,2 +1,4 @@
 pub mod Gaps
 pub mod Comments
+pub mod Alike
+pub mod Serving

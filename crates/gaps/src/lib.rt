@@ -3,7 +3,8 @@ ghost use mathlib.Core.Path.{_≡_};
 ghost use Prim.Native.Nat.{_+_, _≤_, _<_};
 ghost use lib.ListN.{length, drop};
 ghost use Rattle.lines.specs.Blocks.{textFrom};
-ghost use Rattle.gaps.specs.Gaps.{commentAt, onlyGaps};
+ghost use Rattle.gaps.specs.Gaps.{onlyGaps};
+ghost use Rattle.gaps.specs.Serving.{commentAt};
 
 // What follows an opening parenthesis: the place after the closing one, or none in the block.
 pub enum Comment {

@@ -62,7 +62,7 @@ pub fn read_words(s: &[u8], from: usize, main: bool, before: Modes) -> Reading
                 if stopped {
                     continue;
                 }
-                let k = reading::place_of(w.letter);
+                let k = reading::letter_place(w.letter);
                 match reading::role_of(main, letters[k], letters[6], groups, misc, w) {
                     Role::MayNot => {
                         stopped = true;

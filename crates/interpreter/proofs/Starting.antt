@@ -12,7 +12,8 @@ use lib.Seq.{sets-eq}
 use Rattle.refusals.specs.declared.Refusal.{Refusal}
 use Rattle.refusals.specs.declared.Refusal.the-variants.{FirstBlock, BadSetup, DataTooLong}
 use Rattle.refusals.specs.declared.Place.{Place}
-use Rattle.lines.specs.Blocks.{Block, blockFrom, blocksOf, blocksFrom, lengthFrom, isPercent, textFrom}
+use Rattle.lines.specs.Blocks.{Block, blockFrom, blocksOf, lengthFrom, isPercent, textFrom}
+use Rattle.lines.specs.Serving.{blocksFrom}
 use Rattle.lines.proofs.Lines.{blocks-step, blocks-end, percent-end}
 use Rattle.points.specs.declared.Point.{Point}
 use Rattle.setup.specs.declared.Bed.{Bed}
@@ -38,8 +39,9 @@ use Rattle.blocks.specs.Reach.{Reachable}
 use Rattle.runs.specs.Walk.{How, ended, returned, unfinished, Outcome, just}
 use Rattle.runs.specs.Walk as Walk
 use Rattle.runs.specs.Run.{firstOf, nowhere, runTable, runBlocks, outcome, recordsOf, answerBy, answerOf}
-use Rattle.progress.specs.Steps.{jobOf, goingOf, walkFrom, endingBy, Ran, Sound, Fits}
-use Rattle.interpreter.specs.Owing.{answerFor, Opened, Gives, Owes}
+use Rattle.progress.specs.Progressing.{jobOf, goingOf, walkFrom, endingBy, Ran, Sound, Fits}
+use Rattle.interpreter.specs.Owing.{Owes}
+use Rattle.interpreter.specs.Serving.{answerFor, Opened, Gives}
 use Rattle.runs.specs.declared.Budget.{Budget}
 use Rattle.refusals.specs.declared.Answer.{Answer}
 use Rattle.refusals.specs.declared.Answer.the-variants.{Refused}

@@ -23,7 +23,8 @@ ghost use Rattle.programs.specs.Openings.{table};
 ghost use Rattle.programs.specs.Found.{subsOf};
 ghost use Rattle.runs.specs.declared.Budget.the-variants.{Whole, First};
 ghost use Rattle.runs.specs.Run.{firstOf, runTable, outcome};
-ghost use Rattle.interpreter.specs.Owing.{Opened, Gives, Owes, answerFor};
+ghost use Rattle.interpreter.specs.Owing.{Owes};
+ghost use Rattle.interpreter.specs.Serving.{Opened, Gives, answerFor};
 
 // The settings that a run starts with.
 fn first_state(setup: Setup) -> State

@@ -74,7 +74,7 @@ soFar true place stands v = Bad place
 soFar false place stands v = Fine (valuesIn stands v)
 
 -- what is kept of the words passed, the one at place i being the next
-pub record Kept
+pub record KeptValues
     (speeds : Speeds) (m : Modes) (code : BlockCode) (words : List Word) (count : ℕ)
     (stands : List Bool) (v : List Len) (bad : Bool) (place i : ℕ) : Type 0
   where
@@ -87,7 +87,7 @@ pub record Kept
 module _ (speeds : Speeds) (m : Modes) (code : BlockCode) (words : List Word) (count : ℕ) where
   pub kept-first :
       (z : Len) → z ≡ len (pos 0) → count ≤ length words
-      → Kept speeds m code words count (replicate 11 false) (replicate 11 z) false 0 0
+      → KeptValues speeds m code words count (replicate 11 false) (replicate 11 z) false 0 0
   unfolding soFar valuesBy
   kept-first z e few =
       record {
@@ -100,7 +100,7 @@ module _ (speeds : Speeds) (m : Modes) (code : BlockCode) (words : List Word) (c
 
   module _
       (stands : List Bool) (v : List Len) (bad : Bool) (place i : ℕ)
-      (kept : Kept speeds m code words count stands v bad place i)
+      (kept : KeptValues speeds m code words count stands v bad place i)
     where
       ended : count ≤ i → soFar bad place stands v ≡ judgedBy speeds m code (take count words)
       ended h = judge-done speeds m code words count (soFar bad place stands v) i (kept .few) h (kept .left)
@@ -130,7 +130,7 @@ module _ (speeds : Speeds) (m : Modes) (code : BlockCode) (words : List Word) (c
           past new e =
               judge-past speeds m code words count (soFar bad place stands v) i d (kept .few) h (kept .left) u t meaning test new used e
 
-          pub past-bad : x ≡ value.Bad → bad ≡ false → Kept speeds m code words count stands v true (w .at) (i + 1)
+          pub past-bad : x ≡ value.Bad → bad ≡ false → KeptValues speeds m code words count stands v true (w .at) (i + 1)
           unfolding soFar judgedNext valueNext
           past-bad e f =
               record {
@@ -141,7 +141,7 @@ module _ (speeds : Speeds) (m : Modes) (code : BlockCode) (words : List Word) (c
                 left = past (Bad (w .at)) (rw (f, ← its-value, e));
               }
 
-          pub past-bad-again : bad ≡ true → Kept speeds m code words count stands v bad place (i + 1)
+          pub past-bad-again : bad ≡ true → KeptValues speeds m code words count stands v bad place (i + 1)
           unfolding soFar judgedNext
           past-bad-again f =
               record {
@@ -161,7 +161,7 @@ module _ (speeds : Speeds) (m : Modes) (code : BlockCode) (words : List Word) (c
 
           pub past-fit :
               (z : Len) (k : ℕ) → x ≡ value.Fit z → IsPlace (w .letter) k
-              → Kept speeds m code words count (set stands k true) (set v k z) bad place (i + 1)
+              → KeptValues speeds m code words count (set stands k true) (set v k z) bad place (i + 1)
           past-fit z k e p =
               record {
                 inside = omega arith;

@@ -27,7 +27,7 @@ fn is_nothing(meaning: Use) -> bool
 
 // The place of a letter's value in the arrays. N, G and M are no values: what they are worth goes to the last place,
 // which nothing reads.
-fn place_of(letter: u8) -> usize
+fn value_place(letter: u8) -> usize
     ensures { λ r. ⌜ IsPlace letter r ⌝ }
 {
     match letter {
@@ -103,7 +103,7 @@ pub fn judge(speeds: Speeds, m: Modes, code: BlockCode, words: [Word; 13], count
             }
             continue;
         };
-        let k = place_of(w.letter);
+        let k = value_place(w.letter);
         stands[k] = true;
         v[k] = z;
     }

@@ -12,7 +12,8 @@ use lib.ListN.{length, getD}
 use lib.Signed.{leZ}
 use borrow.Author.Tests.{ltb-true, ltb-false, lt-ltb, le-ltb}
 use Rattle.lengths.specs.Units.{len, fitsFour, wordOf, fourOf, fourBytes, signedOf, ofFour}
-use Rattle.lengths.specs.View.{over, under, Short, Read}
+use Rattle.lengths.specs.View.{over, under, Short}
+use Rattle.lengths.specs.Serving.{Read}
 use Rattle.lengths.proofs.Laws.{view, diff-bal}
 
 -- ---- which numbers fit

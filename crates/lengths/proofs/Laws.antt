@@ -14,7 +14,8 @@ use mir.Val.{Fits, SFits, toZ, ofZ}
 use mir.Facts.{toZ-ofZ}
 use Rattle.lengths.specs.declared.Len.{Len}
 use Rattle.lengths.specs.Units.{sq}
-use Rattle.lengths.specs.View.{over, under, Within, Room}
+use Rattle.lengths.specs.View.{over, under, Within}
+use Rattle.lengths.specs.Serving.{Room}
 
 -- ---- the balance of each operation
 

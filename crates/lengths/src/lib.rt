@@ -5,7 +5,8 @@ ghost use mathlib.Core.Path.{_≡_};
 ghost use Prim.Native.Nat.{_+_, _<_, _^_};
 ghost use lib.Signed.{leZ, ltZ};
 ghost use Rattle.lengths.specs.Units.{sq, fitsFour, fourBytes};
-ghost use Rattle.lengths.specs.View.{over, under, Within, Room, Short, Is, Counted, Sum, Difference, Negation, Apart, Product, Read};
+ghost use Rattle.lengths.specs.View.{over, under, Within, Short};
+ghost use Rattle.lengths.specs.Serving.{Room, Is, Counted, Sum, Difference, Negation, Apart, Product, Read};
 
 pub struct Len {
     pub v: i64,

@@ -9,7 +9,7 @@ use Rattle.words.specs.declared.Word.{Word}
 use Rattle.words.specs.declared.Value.{Value}
 use Rattle.words.specs.declared.Value.the-variants as value
 use Rattle.words.specs.declared.Values.{Values}
-use Rattle.words.specs.Numbers.{Written}
+use Rattle.words.specs.Serving.{Written}
 use Rattle.settings.specs.declared.Modes.{Modes}
 use Rattle.letters.specs.declared.Speeds.{Speeds}
 use Rattle.letters.specs.declared.BlockCode.{BlockCode}

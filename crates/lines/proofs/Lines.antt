@@ -11,7 +11,8 @@ use lib.Dec.{eqb}
 use lib.ListN.{length, drop, getD, drop-of-length-le}
 use lib.Seq.{drop-cons, drop-drop}
 use Rattle.terms.specs.Terms.{if_then_else_}
-use Rattle.lines.specs.Blocks.{beginsWith, textFrom, noText, lengthFrom, blockFrom, blocksAfter, blocksFrom, isPercent}
+use Rattle.lines.specs.Blocks.{beginsWith, textFrom, noText, lengthFrom, blockFrom, blocksAfter, isPercent}
+use Rattle.lines.specs.Serving.{blocksFrom}
 
 -- ---- the bytes from a place on
 

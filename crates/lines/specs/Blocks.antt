@@ -3,7 +3,6 @@ use Prim.Native.Nat.{ℕ, zero, suc, _+_, _-_}
 use mathlib.Core.Bool.{Bool, true, false, _&&_, _||_}
 use mathlib.Core.List.{List, [], _∷_}
 use lib.Dec.{eqb}
-use lib.ListN.{drop}
 use Rattle.terms.specs.Terms.{if_then_else_, byte}
 
 unfoldable pub beginsWith : ℕ → List ℕ → Bool
@@ -53,10 +52,6 @@ blocksAfter (suc pass) n at (b ∷ bs) = blocksAfter pass n at bs
 -- "Blocks count from 1, bytes from 0."
 unfoldable pub blocksOf : List ℕ → List Block
 blocksOf bytes = blocksAfter 0 1 0 bytes
-
--- the blocks of the data from a place where the block n begins
-abbrev pub blocksFrom : List ℕ → ℕ → ℕ → List Block
-blocksFrom bytes n at = blocksAfter 0 n at (drop at bytes)
 
 -- "`%` alone": the text has this byte and no other
 unfoldable pub isPercent : List ℕ → Bool

@@ -13,7 +13,8 @@ ghost use Prim.Native.Nat.{_+_, _*_, _≤_, _<_};
 ghost use mathlib.Core.Path.{_≡_};
 ghost use lib.ListN.{length};
 ghost use Rattle.records.specs.Layout.{pointOf, arcOf, recordOf, numbersIn, hasPlane, headLength};
-ghost use Rattle.records.specs.Reading.{kindAt, planeAt, planeFor, lenAt, numbersAt, readAt, foundKind, foundPlane};
+ghost use Rattle.records.specs.Reading.{kindAt, planeAt, planeFor, lenAt, numbersAt, readAt};
+ghost use Rattle.records.specs.Serving.{foundKind, foundPlane};
 
 fn number_at(list: &[u8], at: usize) -> Len
     requires { ⌜ at + 4 ≤ length (now list) ⌝ }

@@ -16,8 +16,8 @@ ghost use mathlib.Core.List.{List};
 ghost use Prim.Native.Nat.{_-_, _≤_, _+_};
 ghost use lib.ListN.{length};
 ghost use Rattle.words.specs.declared.Word.{Word};
-ghost use Rattle.programs.specs.Found.{Ready};
-ghost use Rattle.records.specs.Writing.{Wrote};
+ghost use Rattle.programs.specs.Found.{WellFound};
+ghost use Rattle.records.specs.Serving.{Wrote};
 ghost use Rattle.records.specs.Layout.{roomOf};
 ghost use Rattle.cycles.specs.declared.Way.the-variants.{Ends};
 ghost use Rattle.cycles.specs.Ways.{wayOf};
@@ -58,7 +58,7 @@ fn put_block(
     from: Point,
     v: Values,
 ) -> usize
-    requires { ⌜ Cycles.Ready (now list) at offset (threeRecords first motion last d origin from v) ⌝ }
+    requires { ⌜ Cycles.RoomFor (now list) at offset (threeRecords first motion last d origin from v) ⌝ }
     requires { ⌜ ThreePuts offset first motion last d origin from v ⌝ }
     ensures { λ next. ⌜ Wrote (now (list .entry)) at (Cycles.movedBytes offset (threeRecords first motion last d origin from v)) (now (list .exit)) next ⌝ }
 {

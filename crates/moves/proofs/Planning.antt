@@ -19,7 +19,7 @@ use Rattle.letters.specs.declared.BlockCode.{BlockCode}
 use Rattle.letters.specs.declared.BlockCode.the-variants.{Calling, Returning, Dwelling, Moving}
 use Rattle.cycles.specs.declared.Hole.{Hole}
 use Rattle.cycles.specs.Cycles.{holeOf, levelsHold, passes}
-use Rattle.blocks.specs.Motions.{Moves, none, one, endStands, centreStands, arcStands, arcFor, arcMoves, cycleDone, cycleMoves, motionOf, movesOf}
+use Rattle.blocks.specs.Motions.{Moves, noMoves, one, endStands, centreStands, arcStands, arcFor, arcMoves, cycleDone, cycleMoves, motionOf, movesOf}
 use Rattle.moves.specs.declared.Plan.{Plan}
 use Rattle.moves.specs.declared.Plan.the-variants.{Rest, Single, Passes}
 use Rattle.moves.proofs.Plan.{the-type}
@@ -50,7 +50,7 @@ brief-none (Single r) h = absurd (miss (0 ∷ 2 ∷ []) 1 tt h)
 brief-none (Passes h) g = refl
 
 module _ {code : BlockCode} {s : State} {origin : Point} {v : Values} {moves : Moves} where
-  plans-rest : moves ≡ none → Plans code moves s origin v Rest
+  plans-rest : moves ≡ noMoves → Plans code moves s origin v Rest
   unfolding planRecords planHolds
   plans-rest e = record { records = rw e; sound = rw e; from = tt }
 

@@ -20,10 +20,11 @@ use Rattle.records.specs.declared.Record.the-variants.{RP, LN, AR, AL, DW, SP, 
 use Rattle.records.specs.Layout.{kindOf, kindLength, pointNumbers, arcNumbers, numbersOf, recordBytes, listBytes, roomOf}
 use Rattle.records.specs.Path.{pathOf, arcMoved, recordMoved}
 use Rattle.records.specs.Displacing.{LooseArc, Loose}
-use Rattle.records.specs.Writing.{AllShort, Wrote}
+use Rattle.records.specs.Writing.{AllShort}
+use Rattle.records.specs.Serving.{Wrote}
 use Rattle.cycles.specs.declared.Hole.{Hole}
 use Rattle.cycles.specs.Cycles.{passCount, passes}
-use Rattle.cycles.specs.Writing.{movedBytes, Ready}
+use Rattle.cycles.specs.Writing.{movedBytes, RoomFor}
 use Rattle.cycles.proofs.Written.{moved-kind, put-one}
 use Rattle.moves.specs.declared.Plan.{Plan}
 use Rattle.moves.specs.declared.Plan.the-variants.{Rest, Single, Passes}
@@ -101,11 +102,11 @@ loose by PA h k = tt
 loose by EN h k = tt
 
 module _ {was : List ℕ} {at : ℕ} (by : Point) (r : Record) where
-  pub one-sums : Ready was at by (r ∷ []) → (Near (2 ^ 61) by) × Loose (pathOf r)
+  pub one-sums : RoomFor was at by (r ∷ []) → (Near (2 ^ 61) by) × Loose (pathOf r)
   one-sums h = (omega (arith, h .offset), loose by r (h .offset) (h .short .0))
 
   module _ {q : Record} (e : q ≡ recordMoved by r) where
-    pub one-fits : Ready was at by (r ∷ []) → (at + kindLength (kindOf q) ≤ length was) × AllShort (numbersOf q)
+    pub one-fits : RoomFor was at by (r ∷ []) → (at + kindLength (kindOf q) ≤ length was) × AllShort (numbersOf q)
     unfolding roomOf
     one-fits h = (rw (ap kindOf e ∙ moved-kind by r) (omega (arith, h .room)), rw e (h .short .0))
 

@@ -51,7 +51,7 @@ PlanLoose (Passes h) = Unit
 -- a plan whose geometry holds, and of which it is asked whether it stays in the travel
 abbrev pub PlanReady : Travel → Point → Point → Values → Plan → Type 0
 PlanReady t origin from v Rest = Unit
-PlanReady t origin from v (Single r) = Arcs.Ready t from (pathOf r)
+PlanReady t origin from v (Single r) = Arcs.PathBounds t from (pathOf r)
 PlanReady t origin from v (Passes h) = Passing t origin from v
 
 -- a cycle's K is a count

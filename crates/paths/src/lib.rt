@@ -13,7 +13,7 @@ ghost use Rattle.records.specs.Path.{pathOf};
 ghost use Rattle.arcs.specs.Root.{root};
 ghost use Rattle.arcs.specs.Turning.{dot, left, onLeftWay};
 ghost use Rattle.arcs.specs.Arcs.{centreOf, notAbove, notBelow, coordinateInside, extremeInside, towards, extremesInside, leftWay, rightWay, arcStays, pathStays};
-ghost use Rattle.arcs.specs.Bounds.{Close, Reach, Small, Bounds, Accepted, Ready, Direction, Framed};
+ghost use Rattle.arcs.specs.Bounds.{Close, Reach, Small, Bounds, Accepted, PathBounds, Direction, Framed};
 
 // From the centre of an arc to a point.
 pub fn from_centre(a: Arc, p: Point) -> Flat
@@ -163,7 +163,7 @@ pub fn right_arc_stays(t: Travel, from: Point, a: Arc) -> bool
 
 // Whether the path that a record tells stays in the travel.
 pub fn path_stays(t: Travel, from: Point, r: Record) -> bool
-    requires { ⌜ Ready t from (pathOf r) ⌝ }
+    requires { ⌜ PathBounds t from (pathOf r) ⌝ }
     ensures { λ b. ⌜ b ≡ pathStays t from (pathOf r) ⌝ }
 {
     match r {

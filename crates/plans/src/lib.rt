@@ -19,8 +19,8 @@ ghost use Rattle.arcs.specs.Bounds as Arcs;
 ghost use Rattle.cycles.specs.Ways.{wayOf};
 ghost use Rattle.moves.specs.Plans.{planRecords, briefRecords, pathHolds, planHolds};
 ghost use Rattle.moves.specs.Needs.{Round, PlanRound, PlanLoose, PlanReady, PlanCounts, Amount, PlanPuts};
-ghost use Rattle.records.specs.Writing.{Wrote};
-ghost use Rattle.cycles.specs.Writing.{movedBytes, Ready};
+ghost use Rattle.records.specs.Serving.{Wrote};
+ghost use Rattle.cycles.specs.Writing.{movedBytes, RoomFor};
 
 fn record_holds(from: Point, r: Record) -> bool
     requires { ⌜ Round from (pathOf r) ⌝ }
@@ -58,7 +58,7 @@ pub fn plan_fits(offset: Point, p: Plan) -> bool
 }
 
 fn record_way(t: Travel, from: Point, r: Record) -> Way
-    requires { ⌜ Arcs.Ready t from (pathOf r) ⌝ }
+    requires { ⌜ Arcs.PathBounds t from (pathOf r) ⌝ }
     ensures { λ w. ⌜ w ≡ wayOf t from (r ∷ []) ⌝ }
 {
     if paths::path_stays(t, from, r) {
@@ -104,7 +104,7 @@ pub fn plan_count(p: Plan, v: Values) -> usize
 }
 
 fn put_record(list: &mut [u8], at: usize, offset: Point, r: Record) -> usize
-    requires { ⌜ Ready (now list) at offset (r ∷ []) ⌝ }
+    requires { ⌜ RoomFor (now list) at offset (r ∷ []) ⌝ }
     ensures { λ next. ⌜ Wrote (now (list .entry)) at (movedBytes offset (r ∷ [])) (now (list .exit)) next ⌝ }
 {
     storing::put(list, at, records::displaced(offset, r))
@@ -112,7 +112,7 @@ fn put_record(list: &mut [u8], at: usize, offset: Point, r: Record) -> usize
 
 // Writes the record of a plan that has no passes. It needs no values, so that none are copied for it.
 pub fn put_brief(list: &mut [u8], at: usize, offset: Point, p: Plan) -> usize
-    requires { ⌜ Ready (now list) at offset (briefRecords p) ⌝ }
+    requires { ⌜ RoomFor (now list) at offset (briefRecords p) ⌝ }
     ensures { λ next. ⌜ Wrote (now (list .entry)) at (movedBytes offset (briefRecords p)) (now (list .exit)) next ⌝ }
 {
     match p {
@@ -131,7 +131,7 @@ pub fn put_plan(
     from: Point,
     v: Values,
 ) -> usize
-    requires { ⌜ Ready (now list) at offset (planRecords p d origin from v) ⌝ }
+    requires { ⌜ RoomFor (now list) at offset (planRecords p d origin from v) ⌝ }
     requires { ⌜ PlanPuts offset d origin from v p ⌝ }
     ensures { λ next. ⌜ Wrote (now (list .entry)) at (movedBytes offset (planRecords p d origin from v)) (now (list .exit)) next ⌝ }
 {

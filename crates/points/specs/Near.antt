@@ -2,7 +2,8 @@
 -- (specs/View.antt of `lengths`), from which a caller's bounds follow by linear arithmetic.
 use Prim.Native.Nat.{ℕ}
 use mathlib.Core.Path.{_≡_}
-use Rattle.lengths.specs.View.{Within, Sum, Difference}
+use Rattle.lengths.specs.View.{Within}
+use Rattle.lengths.specs.Serving.{Sum, Difference}
 use Rattle.points.specs.declared.Point.{Point}
 use Rattle.points.specs.Points.{moved, movedBack}
 

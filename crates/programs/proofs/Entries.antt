@@ -15,7 +15,7 @@ use Rattle.refusals.specs.declared.Refusal.{Refusal}
 use Rattle.refusals.specs.declared.Refusal.the-variants.{BadParameter, DuplicateNumber, TableOver}
 use Rattle.refusals.specs.Numbers.{numberOf}
 use Rattle.programs.specs.Openings.{isTaken, entryOf}
-use Rattle.programs.specs.Found.{Ready, Entered, subsOf}
+use Rattle.programs.specs.Found.{WellFound, Entered, subsOf}
 use Rattle.programs.specs.declared.Program.{Program}
 use Rattle.programs.specs.declared.Opening.{Opening}
 use Rattle.programs.specs.declared.Opening.the-variants.{Number, Bad}
@@ -64,7 +64,7 @@ module _ (n : ℕ) (subs : List Program) (count i : ℕ) (d : Program) (s : Sear
         }
 
 -- one subprogram more
-pub entered-is : (t : Programs) (p : Program) → Ready t → t .count < 10 → Entered t p (record { main = t .main; count = t .count + 1; subs = set (t .subs) (t .count) p })
+pub entered-is : (t : Programs) (p : Program) → WellFound t → t .count < 10 → Entered t p (record { main = t .main; count = t .count + 1; subs = set (t .subs) (t .count) p })
 entered-is t p r h =
     record {
       ready = record { places = length-set (t .subs) (t .count) p ∙ r .places; used = omega (arith, r .used) };
@@ -73,7 +73,7 @@ entered-is t p r h =
     }
 
 -- what an opening of a subprogram leads to
-module _ (t : Programs) (ready : Ready t) (n : ℕ) where
+module _ (t : Programs) (ready : WellFound t) (n : ℕ) where
   pub entry-taken : isTaken (t .main) (subsOf t) n ≡ true → entryOf (t .main) (subsOf t) (Number n) ≡ Refuses DuplicateNumber
   unfolding entryOf
   entry-taken e = rw e
@@ -90,7 +90,7 @@ module _ (t : Programs) (ready : Ready t) (n : ℕ) where
   entry-new e h = rw (e, lt-leb 10 (length (subsOf t)) (omega (arith, in-use)))
 
 -- an opening that enters finds room
-pub entry-room : (t : Programs) → Ready t → (o : Opening) (n : ℕ) → entryOf (t .main) (subsOf t) o ≡ Enters n → t .count < 10
+pub entry-room : (t : Programs) → WellFound t → (o : Opening) (n : ℕ) → entryOf (t .main) (subsOf t) o ≡ Enters n → t .count < 10
 unfolding entryOf
 entry-room t ready Bad n e = let never : _≡_ {A = ℕ} 0 1 = cc in absurd (omega arith)
 entry-room t ready (Number m) n e = go (isTaken (t .main) (subsOf t) m) (leb 10 (length (subsOf t))) refl e

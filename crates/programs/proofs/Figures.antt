@@ -13,7 +13,8 @@ use Rattle.lines.specs.Blocks.{beginsWith, textFrom}
 use Rattle.lines.proofs.Lines.{at-place}
 use Rattle.words.specs.Numbers.{isDigit, run, digitsAfter}
 use Rattle.words.proofs.Numbers.{ten-more}
-use Rattle.programs.specs.Found.{figuresOf, IsDigits}
+use Rattle.programs.specs.Found.{IsDigits}
+use Rattle.programs.specs.Openings.{figuresOf}
 
 pub digit-is : (b : ℕ) → 48 ≤ b → b ≤ 57 → isDigit b ≡ true
 digit-is b h k = rw (le-leb 48 b h, le-leb b 57 k)

@@ -13,8 +13,8 @@ use Rattle.words.specs.Numbers.{digitsAfter}
 use Rattle.words.proofs.Numbers.{run-short}
 use Rattle.gaps.specs.Gaps.{onlyGaps}
 use Rattle.gaps.proofs.Laws.{text-drop, text-length}
-use Rattle.programs.specs.Openings.{numberAfterO}
-use Rattle.programs.specs.Found.{figuresOf, IsDigits}
+use Rattle.programs.specs.Openings.{numberAfterO, figuresOf}
+use Rattle.programs.specs.Found.{IsDigits}
 use Rattle.programs.specs.declared.Digits.{Digits}
 use Rattle.programs.specs.declared.Opening.the-variants.{Number, Bad}
 

@@ -10,7 +10,8 @@ use lib.Dec.{eqb}
 use lib.ListN.{length, drop, length-drop}
 use lib.Seq.{drop-drop}
 use Rattle.terms.specs.Terms.{if_then_else_, first}
-use Rattle.lines.specs.Blocks.{lengthFrom, Block, blockFrom, blocksOf, blocksFrom, closes, opens}
+use Rattle.lines.specs.Blocks.{lengthFrom, Block, blockFrom, blocksOf, closes, opens}
+use Rattle.lines.specs.Serving.{blocksFrom}
 use Rattle.lines.proofs.Lines.{blocks-step, blocks-end, length-some}
 use Rattle.programs.specs.Openings.{Table, table, openingOf, programAfter, entryOf, entered, scanBlock, scan, mainAs, programsFrom, known}
 use Rattle.programs.specs.Found.{subsOf, tableBy}

@@ -7,11 +7,12 @@ use native.Mathlib.Omega.{arith}
 use native.Mathlib.Decide.{decLt}
 use borrow.Author.Tests.{eq-eqb, ne-eqb, eqb-true}
 use lib.ListN.{length, drop, getD, length-drop}
-use Rattle.lines.specs.Blocks.{beginsWith, textFrom, lengthFrom, Block, blockFrom, blocksFrom, isPercent}
+use Rattle.lines.specs.Blocks.{beginsWith, textFrom, lengthFrom, Block, blockFrom, isPercent}
+use Rattle.lines.specs.Serving.{blocksFrom}
 use Rattle.lines.proofs.Lines.{blocks-step, blocks-end, text-begins-end, text-begins-at, no-text-other, length-bound, length-at-more}
 use Rattle.gaps.proofs.Laws.{text-at}
 use Rattle.programs.specs.Openings.{table, refusedAt, numberAfterO, openingOf, entryOf, entered, scanBlock, scan, mainAs, programsFrom, programAfter}
-use Rattle.programs.specs.Found.{Ready, subsOf, Entered, Empty}
+use Rattle.programs.specs.Found.{WellFound, subsOf, Entered, Empty}
 use Rattle.programs.specs.declared.Program.{Program}
 use Rattle.programs.specs.declared.Entry.{Entry}
 use Rattle.programs.specs.declared.Entry.the-variants.{Refuses, Enters}
@@ -56,11 +57,11 @@ module _ (main : Program) (l : List ℕ) (n at : ℕ) (subs : List Program) wher
 pub record Scan (l : List ℕ) (from number : ℕ) (first now : Programs) (at block : ℕ) : Type 0 where
   pub inside : at ≤ length l
   pub counted : block ≤ at + 1
-  pub ready : Ready now
+  pub ready : WellFound now
   pub main : now .main ≡ first .main
   pub left : scan (first .main) (blocksFrom l number from) (subsOf first) ≡ scan (first .main) (blocksFrom l block at) (subsOf now)
 
-pub scan-start : (l : List ℕ) (from number : ℕ) (t : Programs) → from ≤ length l → number ≤ from + 1 → Ready t → Scan l from number t t from number
+pub scan-start : (l : List ℕ) (from number : ℕ) (t : Programs) → from ≤ length l → number ≤ from + 1 → WellFound t → Scan l from number t t from number
 scan-start l from number t h k r = record { inside = h; counted = k; ready = r; main = refl; left = refl }
 
 -- a block lies inside the data

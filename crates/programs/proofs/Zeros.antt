@@ -10,8 +10,7 @@ use Rattle.terms.specs.Terms.{if_then_else_, byte, fromTo}
 use Rattle.words.specs.Numbers.{run, digitsAfter}
 use Rattle.words.proofs.Numbers.{leading-zero}
 use Rattle.gaps.specs.Gaps.{onlyGaps}
-use Rattle.programs.specs.Openings.{numberAfterO}
-use Rattle.programs.specs.Found.{figuresOf}
+use Rattle.programs.specs.Openings.{numberAfterO, figuresOf}
 use Rattle.programs.specs.declared.Opening.the-variants.{Number, Bad}
 
 -- what an opening's number says of its digits' value and of what follows them

@@ -2,7 +2,7 @@
 use mathlib.Core.Path.{_≡_}
 use mathlib.Core.Option.{Option, none, some}
 use Rattle.programs.specs.Openings.{Table}
-use Rattle.programs.specs.Found.{tableOf, Ready}
+use Rattle.programs.specs.Found.{tableOf, WellFound}
 use Rattle.programs.specs.declared.Program.{Program}
 use Rattle.programs.specs.declared.Scanned.{Scanned}
 use Rattle.programs.specs.declared.Found.{Found}
@@ -11,7 +11,7 @@ use Rattle.programs.specs.declared.Found.the-variants.{At, Missing}
 -- The scan gives the rules' table. Its struct has ten places, of which no more than ten are in use, where it refuses too.
 pub record Gives (t : Table) (r : Scanned) : Type 0 where
   pub table : tableOf r ≡ t
-  pub ready : Ready (r .programs)
+  pub ready : WellFound (r .programs)
 
 -- the subprogram of a number, or none
 unfoldable pub foundAs : Option Program → Found

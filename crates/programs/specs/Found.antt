@@ -3,18 +3,14 @@ use Prim.Native.Nat.{ℕ, _≤_, _<_}
 use mathlib.Core.Path.{_≡_}
 use mathlib.Core.List.{List, [], _∷_, _++_}
 use lib.ListN.{length, take}
-use Rattle.words.specs.Numbers.{isDigit, run, digitsAfter}
-use Rattle.programs.specs.Openings.{Table, table, refusedAt, most}
+use Rattle.words.specs.Numbers.{digitsAfter}
+use Rattle.programs.specs.Openings.{figuresOf, Table, table, refusedAt, most}
 use Rattle.programs.specs.declared.Program.{Program}
 use Rattle.programs.specs.declared.Digits.{Digits}
 use Rattle.programs.specs.declared.Verdict.{Verdict}
 use Rattle.programs.specs.declared.Verdict.the-variants.{Fine, Refused}
 use Rattle.programs.specs.declared.Programs.{Programs}
 use Rattle.programs.specs.declared.Scanned.{Scanned}
-
--- the digits that a text begins with, as far as an opening may have them: a ninth makes the count 9, whatever follows
-abbrev pub figuresOf : List ℕ → List ℕ
-figuresOf text = run isDigit text
 
 pub record IsDigits (text : List ℕ) (d : Digits) : Type 0 where
   pub few : d .count ≤ 8 → length (figuresOf text) ≡ d .count
@@ -33,18 +29,18 @@ abbrev pub tableOf : Scanned → Table
 tableOf r = tableBy (r .verdict) (r .programs)
 
 -- the table has ten places, of which so many are in use
-pub record Ready (t : Programs) : Type 0 where
+pub record WellFound (t : Programs) : Type 0 where
   pub places : length (t .subs) ≡ most
   pub used : t .count ≤ most
 
 -- the table with one subprogram more
 pub record Entered (t : Programs) (p : Program) (r : Programs) : Type 0 where
-  pub ready : Ready r
+  pub ready : WellFound r
   pub main : r .main ≡ t .main
   pub subs : subsOf r ≡ subsOf t ++ p ∷ []
 
 -- the table with no subprogram yet
 pub record Empty (p : Program) (r : Programs) : Type 0 where
-  pub ready : Ready r
+  pub ready : WellFound r
   pub main : r .main ≡ p
   pub subs : subsOf r ≡ []

@@ -18,6 +18,10 @@ use Rattle.programs.specs.declared.Opening.the-variants.{Number, Bad}
 use Rattle.programs.specs.declared.Entry.{Entry}
 use Rattle.programs.specs.declared.Entry.the-variants.{Refuses, Enters}
 
+-- the digits that a text begins with, as far as an opening may have them: a ninth makes the count 9, whatever follows
+abbrev pub figuresOf : List ℕ → List ℕ
+figuresOf text = run isDigit text
+
 -- "`O`, one to eight digits, value 1 to 9999, then only blanks and comments; else 1.": what follows the `O`
 unfoldable pub numberAfterO : List ℕ → Opening
 numberAfterO bs =

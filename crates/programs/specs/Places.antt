@@ -5,7 +5,8 @@ use mathlib.Core.List.{List, [], _∷_}
 use lib.ListN.{length, drop}
 use Rattle.refusals.specs.declared.Refusal.{Refusal}
 use Rattle.refusals.specs.declared.Place.{Place}
-use Rattle.lines.specs.Blocks.{blocksOf, blocksFrom}
+use Rattle.lines.specs.Blocks.{blocksOf}
+use Rattle.lines.specs.Serving.{blocksFrom}
 use Rattle.programs.specs.Openings.{Table, table, refusedAt}
 use Rattle.programs.specs.declared.Program.{Program}
 

@@ -7,7 +7,7 @@ ghost use Prim.Native.Nat.{_+_, _≤_, _<_};
 ghost use lib.ListN.{length, drop};
 ghost use Rattle.lines.specs.Blocks.{textFrom};
 ghost use Rattle.programs.specs.Openings.{numberAfterO, isTaken, entryOf};
-ghost use Rattle.programs.specs.Found.{IsDigits, subsOf, Ready, Empty};
+ghost use Rattle.programs.specs.Found.{IsDigits, subsOf, WellFound, Empty};
 
 // A program of the data: its number, and the block and byte that follow its opening.
 pub struct Program {
@@ -110,7 +110,7 @@ pub fn read_opening(s: &[u8], at: usize) -> Opening
 
 // Whether a number is the main's or one of the subprograms'.
 fn is_taken(t: Programs, n: u64) -> bool
-    requires { ⌜ Ready t ⌝ }
+    requires { ⌜ WellFound t ⌝ }
     ensures { λ r. ⌜ r ≡ isTaken (t .main) (subsOf t) n ⌝ }
 {
     let main = t.main;
@@ -131,7 +131,7 @@ fn is_taken(t: Programs, n: u64) -> bool
 }
 
 pub fn entry_of(t: Programs, o: Opening) -> Entry
-    requires { ⌜ Ready t ⌝ }
+    requires { ⌜ WellFound t ⌝ }
     ensures { λ r. ⌜ r ≡ entryOf (t .main) (subsOf t) o ⌝ }
 {
     let Opening::Number(n) = o else {

@@ -24,7 +24,7 @@ use Rattle.blocks.specs.Reach.{Reachable}
 use Rattle.blocks.specs.Keeping.{Keeps}
 use Rattle.blocks.specs.Doing.{madeOf}
 use Rattle.runs.specs.Walk.{Going, How, ended, returned, refusedAt, Outcome, just, after, goingOn, thenRest, follow, obey}
-use Rattle.progress.specs.Steps.{goingOf, progressOn, entering, turned, acted, endingBy, Acts, Comes, Ran, Fits}
+use Rattle.progress.specs.Progressing.{goingOf, progressOn, entering, turned, acted, endingBy, Acts, Comes, Ran, Fits}
 use Rattle.progress.specs.declared.Progress.{Progress}
 use Rattle.progress.specs.declared.Ending.{Ending}
 use Rattle.progress.specs.declared.Ending.the-variants.{Ended, Returned}
@@ -40,9 +40,9 @@ Callable programs left Back = Unit {0}
 Callable programs left Stop = Unit {0}
 
 -- what an accepted block keeps, with so much room before it
-abbrev pub Kept : Bed → ℕ → State → List Program → ℕ → Verdict → Type 0
-Kept bed room before programs left (refused blame) = Unit {0}
-Kept bed room before programs left (accepted s control made) = Keeps bed room before s made × Callable programs left control
+abbrev pub StaysFair : Bed → ℕ → State → List Program → ℕ → Verdict → Type 0
+StaysFair bed room before programs left (refused blame) = Unit {0}
+StaysFair bed room before programs left (accepted s control made) = Keeps bed room before s made × Callable programs left control
 
 abbrev Walk : Type 0
 Walk = (ℕ → Going → Outcome) → (Going → Outcome) → Outcome
@@ -136,7 +136,7 @@ module _ (bed : Bed) (programs : List Program) (left : ℕ) (b : Block) (here : 
     unfolding obey follow progressOn endingBy
     leads-stop callee rest = later-just ended (λ g e. let z : _≡_ {A = ℕ} 0 1 = cc in absurd (omega arith))
 
-  leads : (v : Verdict) → Kept bed (length was - p .next) (p .state) programs left v → Leads bed programs left (by (length was) p b v) p was (with-records bed p was (madeOf v)) place (acted v programs here place p)
+  leads : (v : Verdict) → StaysFair bed (length was - p .next) (p .state) programs left v → Leads bed programs left (by (length was) p b v) p was (with-records bed p was (madeOf v)) place (acted v programs here place p)
   unfolding acted turned madeOf obey endingBy listBytes
   leads (refused blame) k = λ callee rest.
       rw number (ran-just bed (refusedAt (blame .refusal) (record { block = b .number; byte = blame .byte })) (fits .next) (λ g e. let z : _≡_ {A = ℕ} 0 1 = cc in absurd (omega arith)))
@@ -146,6 +146,6 @@ module _ (bed : Bed) (programs : List Program) (left : ℕ) (b : Block) (here : 
   leads (accepted s Stop made) k = leads-stop s made (k .0 .state) (k .0 .fits)
 
   pub acts-lead :
-      {v : Verdict} {is : List ℕ} {a : Act} → Kept bed (length was - p .next) (p .state) programs left v → Acts bed v programs here place p was is a
+      {v : Verdict} {is : List ℕ} {a : Act} → StaysFair bed (length was - p .next) (p .state) programs left v → Acts bed v programs here place p was is a
       → Leads bed programs left (by (length was) p b v) p was is place a
   acts-lead {v} k h = rw (h .answer, h .bytes) (leads v k)

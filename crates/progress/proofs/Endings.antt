@@ -11,14 +11,14 @@ use Rattle.setup.specs.declared.Bed.{Bed}
 use Rattle.records.specs.declared.Record.{Record}
 use Rattle.records.specs.Layout.{kindOf, roomOf, listBytes}
 use Rattle.records.specs.Path.{recordMoved}
-use Rattle.records.specs.Writing.{Wrote}
+use Rattle.records.specs.Serving.{Wrote}
 use Rattle.records.proofs.Laid.{mark-room, list-length}
 use Rattle.settings.specs.declared.State.{State}
 use Rattle.cycles.specs.Writing.{movedBytes}
 use Rattle.cycles.proofs.Rooms.{room-append}
 use Rattle.cycles.proofs.Written.{moved-room, put-then}
 use Rattle.runs.specs.Walk.{Going, How, ended, returned, unfinished, refusedAt, Outcome, just, after, goingOn, thenRest}
-use Rattle.progress.specs.Steps.{goingOf, progressOn, endingBy, Comes, Ran, Fits}
+use Rattle.progress.specs.Progressing.{goingOf, progressOn, endingBy, Comes, Ran, Fits}
 use Rattle.progress.specs.declared.Progress.{Progress}
 use Rattle.progress.specs.declared.Ending.{Ending}
 use Rattle.progress.specs.declared.Ending.the-variants.{Returned}

@@ -29,7 +29,7 @@ use Rattle.blocks.specs.Machine.{machineOf}
 use Rattle.blocks.specs.Exec.{Verdict, refused, accepted, exec, callsIn}
 use Rattle.blocks.specs.Doing.{madeOf, executed, Does}
 use Rattle.runs.specs.Walk.{oneLess, isSkipped, slashLength, verdictOn}
-use Rattle.progress.specs.Steps.{jobOf, goingOf, verdictAt, progressOn, progressBy, entering, turned, acted, Acts, Fits}
+use Rattle.progress.specs.Progressing.{jobOf, goingOf, verdictAt, progressOn, progressBy, entering, turned, acted, Acts, Fits}
 use Rattle.runs.specs.declared.Budget.{Budget}
 use Rattle.progress.specs.declared.Task.{Task}
 use Rattle.progress.specs.declared.Progress.{Progress}
@@ -37,7 +37,7 @@ use Rattle.progress.specs.declared.Ending.the-variants as Ending
 use Rattle.progress.specs.declared.Act.{Act}
 use Rattle.progress.specs.declared.Act.the-variants.{Goes, Enters, Halts}
 use Rattle.progress.proofs.Endings.{count-room}
-use Rattle.progress.proofs.Acting.{Kept}
+use Rattle.progress.proofs.Acting.{StaysFair}
 
 module _ (programs : List Program) (here : Place) (after : ℕ) (p : Progress) where
   refused-as :
@@ -72,7 +72,7 @@ module _ (programs : List Program) (here : Place) (after : ℕ) (p : Progress) w
         record { answer = g ∙ rw f (accepted-as v done (sym e ∙ does .answer)); bytes = does .bytes }
 
     counts : (left : ℕ) (v : Verdict) (done : Done) → Executed.Accepted done ≡ executed (p .next) after v → Fits bed (length was) p
-        → Kept bed (length was - p .next) (p .state) programs left v → p .count + done .count ≤ length was
+        → StaysFair bed (length was - p .next) (p .state) programs left v → p .count + done .count ≤ length was
     unfolding executed
     counts left (refused blame) done e fits kept = let z : _≡_ {A = ℕ} 0 1 = cc in absurd (omega arith)
     counts left (accepted s control made) done e fits kept =
@@ -81,7 +81,7 @@ module _ (programs : List Program) (here : Place) (after : ℕ) (p : Progress) w
 
     pub acts-counts :
         (left : ℕ) {done : Done} → r ≡ Executed.Accepted done → Fits bed (length was) p
-        → Kept bed (length was - p .next) (p .state) programs left v → p .count + done .count ≤ length was
+        → StaysFair bed (length was - p .next) (p .state) programs left v → p .count + done .count ≤ length was
     acts-counts left {done} e fits kept = counts left v done (sym e ∙ does .answer) fits kept
 
 -- what a call of a number finds

@@ -51,10 +51,10 @@ use Rattle.blocks.specs.Reach.{Reachable}
 use Rattle.blocks.specs.Keeping.{Keeps}
 use Rattle.blocks.proofs.Accepting.{all-none, start-none, accepted-kept}
 use Rattle.runs.specs.Walk.{isSkipped, slashLength, verdictOn}
-use Rattle.progress.specs.Steps.{jobOf, goingOf, verdictAt}
+use Rattle.progress.specs.Progressing.{jobOf, goingOf, verdictAt}
 use Rattle.progress.specs.declared.Task.{Task}
 use Rattle.progress.specs.declared.Progress.{Progress}
-use Rattle.progress.proofs.Acting.{Callable, Kept}
+use Rattle.progress.proofs.Acting.{Callable, StaysFair}
 
 -- "5; 6": a number that has a subprogram, and a level for it
 abbrev Called : Calls → ℕ → Type 0
@@ -105,10 +105,10 @@ module _ (bed : Bed) (programs : List Program) (left room : ℕ) (s : State) (st
   callable at text after Back made e = tt
   callable at text after Stop made e = tt
 
-  pub exec-kept : (at : ℕ) (text : List ℕ) → Kept bed room s programs left (exec (machineOf bed) (callsIn programs left) room s start at text)
+  pub exec-kept : (at : ℕ) (text : List ℕ) → StaysFair bed room s programs left (exec (machineOf bed) (callsIn programs left) room s start at text)
   exec-kept at text = go (exec (machineOf bed) (callsIn programs left) room s start at text) refl
     where
-      go : (v : Verdict) → exec (machineOf bed) (callsIn programs left) room s start at text ≡ v → Kept bed room s programs left v
+      go : (v : Verdict) → exec (machineOf bed) (callsIn programs left) room s start at text ≡ v → StaysFair bed room s programs left v
       go (refused blame) e = tt
       go (accepted after control made) e =
           (accepted-kept bed (callsIn programs left) room s start fair state at text after control made e, callable at text after control made e)
@@ -120,10 +120,10 @@ module _ (bed : Bed) (programs : List Program) (left room : ℕ) (s : State) (st
 -- what the verdict on a block keeps, skipped or executed
 module _ (l : List ℕ) (task : Task) (left room : ℕ) (b : Block) (p : Progress) (fair : Fair (task .bed)) (state : Reachable (task .bed) (p .state)) where
   pub verdict-kept :
-      Kept (task .bed) (room - p .next) (p .state) (subsOf (task .programs)) left (verdictAt (jobOf l task) left b (goingOf room p))
+      StaysFair (task .bed) (room - p .next) (p .state) (subsOf (task .programs)) left (verdictAt (jobOf l task) left b (goingOf room p))
   unfolding verdictAt verdictOn jobOf goingOf
   verdict-kept =
-      elim (isSkipped (jobOf l task) b) as (λ t. Kept (task .bed) (room - p .next) (p .state) (subsOf (task .programs)) left (if t then accepted (p .state) On [] else verdictOn (jobOf l task) left b (goingOf room p))) [
+      elim (isSkipped (jobOf l task) b) as (λ t. StaysFair (task .bed) (room - p .next) (p .state) (subsOf (task .programs)) left (if t then accepted (p .state) On [] else verdictOn (jobOf l task) left b (goingOf room p))) [
         | true ↦ (nothing-kept (task .bed) (subsOf (task .programs)) left (room - p .next) (p .state) (b .start) fair state, tt)
         | false ↦ exec-kept (task .bed) (subsOf (task .programs)) left (room - p .next) (p .state) (b .start) fair state (b .start + slashLength b) (drop (slashLength b) (b .text))
       ]

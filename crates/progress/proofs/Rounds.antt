@@ -9,7 +9,8 @@ use native.Mathlib.Omega.{arith}
 use lib.ListN.{length, drop}
 use lib.Seq.{length-sets}
 use Rattle.refusals.specs.declared.Refusal.the-variants.{NoEnd}
-use Rattle.lines.specs.Blocks.{blockFrom, blocksFrom, lengthFrom}
+use Rattle.lines.specs.Blocks.{blockFrom, lengthFrom}
+use Rattle.lines.specs.Serving.{blocksFrom}
 use Rattle.lines.proofs.Lines.{length-some}
 use Rattle.cycles.specs.Writing.{movedBytes}
 use Rattle.programs.specs.declared.Program.{Program}
@@ -20,7 +21,7 @@ use Rattle.programs.proofs.Places.{begins-next}
 use Rattle.blocks.specs.Exec.{Verdict}
 use Rattle.blocks.specs.Doing.{madeOf}
 use Rattle.runs.specs.Walk.{Going, unfinished, refusedAt, Outcome, isSpent, obey, walk, blocksFor, callees}
-use Rattle.progress.specs.Steps.{jobOf, goingOf, walkFrom, programEnds, verdictAt, endingBy, Acts, Ran, Sound, Fits}
+use Rattle.progress.specs.Progressing.{jobOf, goingOf, walkFrom, programEnds, verdictAt, endingBy, Acts, Ran, Sound, Fits}
 use Rattle.progress.specs.declared.Task.{Task}
 use Rattle.progress.specs.declared.Progress.{Progress}
 use Rattle.progress.specs.declared.Ending.{Ending}

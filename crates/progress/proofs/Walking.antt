@@ -9,13 +9,14 @@ use lib.ListN.{length, drop, drop-of-length-le}
 use Rattle.terms.specs.Terms.{if_then_else_}
 use Rattle.refusals.specs.declared.Refusal.the-variants.{NoEnd}
 use Rattle.refusals.specs.declared.Place.{Place}
-use Rattle.lines.specs.Blocks.{Block, blockFrom, blocksFrom, lengthFrom, beginsWith, isPercent, textFrom, opens, closes}
+use Rattle.lines.specs.Blocks.{Block, blockFrom, lengthFrom, beginsWith, isPercent, textFrom, opens, closes}
+use Rattle.lines.specs.Serving.{blocksFrom}
 use Rattle.lines.proofs.Lines.{at-place, blocks-step, blocks-end}
 use Rattle.programs.specs.Places.{Begins}
 use Rattle.blocks.specs.Exec.{accepted}
 use Rattle.blocks.specs.declared.Control.the-variants.{On}
 use Rattle.runs.specs.Walk.{Job, Going, Outcome, unfinished, refusedAt, just, after, isSpent, isSkipped, follow, obey, verdictOn, runBlock, reached, walk}
-use Rattle.progress.specs.Steps.{jobOf, programEnds, verdictAt}
+use Rattle.progress.specs.Progressing.{jobOf, programEnds, verdictAt}
 use Rattle.progress.specs.declared.Task.{Task}
 use Rattle.progress.proofs.Places.{begins-end}
 

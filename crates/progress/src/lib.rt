@@ -4,9 +4,9 @@ ghost use mathlib.Core.Bool.{false};
 ghost use mathlib.Core.List.{[]};
 ghost use Prim.Native.Nat.{_+_, _-_, _≤_, _<_, _^_};
 ghost use lib.ListN.{length, drop};
-ghost use Rattle.programs.specs.Found.{subsOf, Ready};
+ghost use Rattle.programs.specs.Found.{subsOf, WellFound};
 ghost use Rattle.runs.specs.Walk.{isSpent, oneLess};
-ghost use Rattle.progress.specs.Steps.{programEnds, progressOn, progressBy, turned};
+ghost use Rattle.progress.specs.Progressing.{programEnds, progressOn, progressBy, turned};
 use blocks::Control;
 use blocks::Done;
 use programs::Found;
@@ -119,7 +119,7 @@ pub fn progress_past(p: Progress) -> Progress
 
 // Where an accepted block leads, whose next block begins at the byte `after`.
 pub fn turn(t: Programs, here: Place, control: Control, after: usize, p: Progress) -> Act
-    requires { ⌜ Ready t ⌝ }
+    requires { ⌜ WellFound t ⌝ }
     ensures { λ r. ⌜ r ≡ turned control (subsOf t) here after p ⌝ }
 {
     match control {

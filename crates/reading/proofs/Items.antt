@@ -14,7 +14,8 @@ use Rattle.terms.specs.Terms.{if_then_else_}
 use Rattle.lines.specs.Blocks.{beginsWith, textFrom, noText, lengthFrom, endsAt}
 use Rattle.refusals.specs.declared.Refusal.{Refusal}
 use Rattle.refusals.specs.declared.Refusal.the-variants as refusals
-use Rattle.words.specs.Numbers.{isDigit, isPoint, signOf, signLength, run, numberBy, numberIn, Written}
+use Rattle.words.specs.Numbers.{isDigit, isPoint, signOf, signLength, run, numberBy, numberIn}
+use Rattle.words.specs.Serving.{Written}
 use Rattle.words.specs.Words as Words
 use Rattle.words.specs.Words.{isBlank, isCapital, closing, gap, word, unreadable, commentItem, wordItem, itemAt, these, badAt, withWord, itemThen, wordsAfter}
 use Rattle.words.specs.declared.Number.{Number}
@@ -24,7 +25,7 @@ use Rattle.words.specs.declared.Sign.{Sign}
 use Rattle.words.specs.declared.Sign.the-variants.{Plain}
 use Rattle.words.specs.declared.Word.{Word}
 use Rattle.words.proofs.Numbers.{number-short, numberIn-written}
-use Rattle.gaps.specs.Gaps.{commentAt}
+use Rattle.gaps.specs.Serving.{commentAt}
 use Rattle.gaps.specs.declared.Comment.the-variants.{Closed, Open}
 use Rattle.gaps.proofs.Laws.{text-drop, text-none, text-inside, text-at, text-length, text-next, words-pass, open-by, comment-way, closing-within}
 use Rattle.reading.specs.Items.{placed, wordsAt, statusAfter}

@@ -11,7 +11,7 @@ use Rattle.terms.proofs.Laws.{both-left, both-right}
 use Rattle.codes.proofs.Tables.{Others, among, none-of, differ}
 use Rattle.words.specs.Words.{isCapital}
 use Rattle.letters.specs.Letters.{known, isKnown}
-use Rattle.reading.specs.Seen.{placeOf}
+use Rattle.reading.specs.Seen.{letterPlace}
 
 -- ---- the arms of a `match` on the known letters
 
@@ -49,8 +49,8 @@ module _ (b : ℕ) (capital : isCapital b ≡ true) where
   pub to-z : b ≤ 90
   to-z = leb-true b 90 (both-right (leb 65 b) (leb b 90) capital)
 
-  pub place-inside : placeOf b < 26
+  pub place-inside : letterPlace b < 26
   place-inside = omega (arith, from-a, to-z)
 
-  pub place-back : 65 + placeOf b ≡ b
+  pub place-back : 65 + letterPlace b ≡ b
   place-back = omega (arith, from-a)

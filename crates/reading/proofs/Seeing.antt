@@ -22,7 +22,7 @@ use Rattle.words.specs.Words.{isCapital}
 use Rattle.settings.specs.declared.Modes.{Modes}
 use Rattle.settings.specs.Settings.{switched}
 use Rattle.letters.specs.Letters.{isKnown, isG, isMisc, codeIn, miscIn, standsAlone, repeats, badG, badM, mayNotStand, miscOrOther, miscOfBlock, modesIn}
-use Rattle.reading.specs.Seen.{placeOf, hasLetter, hasGroup, isAlone, Coded, Sums, badMisc}
+use Rattle.reading.specs.Seen.{letterPlace, hasLetter, hasGroup, isAlone, Coded, Sums, badMisc}
 use Rattle.reading.specs.declared.Seen.{Seen}
 use Rattle.reading.proofs.Letters.{known-at, known-g, known-m, place-inside, place-back}
 
@@ -47,7 +47,7 @@ sums-none m =
 unfoldable pub seenWith : Seen → Word → Seen
 seenWith seen w =
     record {
-      letters = set (seen .letters) (placeOf (w .letter)) true;
+      letters = set (seen .letters) (letterPlace (w .letter)) true;
       groups = if isG w then set (seen .groups) (groupOf (codeIn w)) true else seen .groups;
       misc = if isMisc w then miscIn w else seen .misc;
       modes = if isG w then switched (seen .modes) (codeIn w) else seen .modes;
@@ -90,17 +90,17 @@ no-misc test done h = any-neither (λ e. isMisc e && test e) isMisc isMisc (λ e
     go false u f = f
 
 module _ (m : Modes) (done : List Word) (seen : Seen) (s : Sums m done seen) (w : Word) (capital : isCapital (w .letter) ≡ true) where
-  letters-with : (j : ℕ) → j < 26 → getD (set (seen .letters) (placeOf (w .letter)) true) j false ≡ any (hasLetter (65 + j)) (done ++ w ∷ [])
+  letters-with : (j : ℕ) → j < 26 → getD (set (seen .letters) (letterPlace (w .letter)) true) j false ≡ any (hasLetter (65 + j)) (done ++ w ∷ [])
   letters-with j h =
-      elim (ℕ-discrete j (placeOf (w .letter))) [
+      elim (ℕ-discrete j (letterPlace (w .letter))) [
         | yes e ↦
             let same : hasLetter (65 + j) w ≡ true = eq-eqb (w .letter) (65 + j) (omega (arith, e, place-back (w .letter) capital)) in
-            ap (λ (i : ℕ). getD (set (seen .letters) (placeOf (w .letter)) true) i false) e
-            ∙ getD-set-same (seen .letters) (placeOf (w .letter)) true false (omega (arith, s .places, place-inside (w .letter) capital))
+            ap (λ (i : ℕ). getD (set (seen .letters) (letterPlace (w .letter)) true) i false) e
+            ∙ getD-set-same (seen .letters) (letterPlace (w .letter)) true false (omega (arith, s .places, place-inside (w .letter) capital))
             ∙ sym (any-snoc (hasLetter (65 + j)) done w ∙ ap (any (hasLetter (65 + j)) done ||_) same ∙ or-true (any (hasLetter (65 + j)) done))
         | no f ↦
             let other : hasLetter (65 + j) w ≡ false = ne-eqb (w .letter) (65 + j) (λ e. f (omega (arith, e))) in
-            getD-set-other (seen .letters) (placeOf (w .letter)) j true false f ∙ s .letters j h
+            getD-set-other (seen .letters) (letterPlace (w .letter)) j true false f ∙ s .letters j h
             ∙ sym (any-snoc (hasLetter (65 + j)) done w ∙ ap (any (hasLetter (65 + j)) done ||_) other ∙ or-false (any (hasLetter (65 + j)) done))
       ]
 
@@ -130,7 +130,7 @@ module _ (m : Modes) (done : List Word) (seen : Seen) (s : Sums m done seen) (w 
   unfolding seenWith miscOfBlock miscOrOther
   sums-with once =
       record {
-        places = length-set (seen .letters) (placeOf (w .letter)) true ∙ s .places;
+        places = length-set (seen .letters) (letterPlace (w .letter)) true ∙ s .places;
         letters = letters-with;
         coded =
             record {

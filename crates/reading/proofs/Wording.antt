@@ -15,7 +15,7 @@ use Rattle.terms.proofs.Laws.{either-left, either-right}
 use Rattle.lines.specs.Blocks.{noText, lengthFrom}
 use Rattle.refusals.specs.declared.Refusal.{Refusal}
 use Rattle.refusals.specs.declared.Refusal.the-variants.{CannotExecute, Unreadable}
-use Rattle.words.specs.Numbers.{Written}
+use Rattle.words.specs.Serving.{Written}
 use Rattle.words.specs.Words as Words
 use Rattle.words.specs.Words.{isCapital, these, badAt, withWord, wordsAfter}
 use Rattle.words.specs.declared.Word.{Word}
@@ -28,7 +28,7 @@ use Rattle.letters.specs.Letters.{known, isKnown, isG, isMisc, codeIn, miscIn, 
 use Rattle.letters.specs.Judging.{valued, Stored}
 use Rattle.gaps.proofs.Laws.{text-none}
 use Rattle.reading.specs.Items.{wordsAt, statusAfter}
-use Rattle.reading.specs.Seen.{placeOf, hasLetter, Sums}
+use Rattle.reading.specs.Seen.{letterPlace, hasLetter, Sums}
 use Rattle.reading.specs.Whole.{standing, statusOf, Kept, IsRead}
 use Rattle.reading.specs.declared.Seen.{Seen}
 use Rattle.reading.specs.declared.Status.{Status}
@@ -45,7 +45,7 @@ one t = if t then 1 else 0
 
 pub stood : List ℕ → List Bool → ℕ
 stood [] bs = 0
-stood (k ∷ ks) bs = one (getD bs (placeOf k) false) + stood ks bs
+stood (k ∷ ks) bs = one (getD bs (letterPlace k) false) + stood ks bs
 
 one-most : (t : Bool) → one t ≤ 1
 one-most true = omega arith
@@ -54,7 +54,7 @@ one-most false = omega arith
 stood-most : (ks : List ℕ) (bs : List Bool) → stood ks bs ≤ length ks
 unfolding stood
 stood-most [] bs = omega arith
-stood-most (k ∷ ks) bs = omega (arith, one-most (getD bs (placeOf k) false), stood-most ks bs)
+stood-most (k ∷ ks) bs = omega (arith, one-most (getD bs (letterPlace k) false), stood-most ks bs)
 
 module _ (bs : List Bool) (p : ℕ) (h : p < length bs) where
   one-set : (k : ℕ) → one (getD bs k false) ≤ one (getD (set bs p true) k false)
@@ -67,21 +67,21 @@ module _ (bs : List Bool) (p : ℕ) (h : p < length bs) where
   stood-set : (ks : List ℕ) → stood ks bs ≤ stood ks (set bs p true)
   unfolding stood
   stood-set [] = omega arith
-  stood-set (k ∷ ks) = omega (arith, one-set (placeOf k), stood-set ks)
+  stood-set (k ∷ ks) = omega (arith, one-set (letterPlace k), stood-set ks)
 
   -- a letter that was not there is one more
-  stood-new : (ks : List ℕ) (b : ℕ) → any (eqb b) ks ≡ true → placeOf b ≡ p → getD bs p false ≡ false → stood ks bs + 1 ≤ stood ks (set bs p true)
+  stood-new : (ks : List ℕ) (b : ℕ) → any (eqb b) ks ≡ true → letterPlace b ≡ p → getD bs p false ≡ false → stood ks bs + 1 ≤ stood ks (set bs p true)
   unfolding stood any
   stood-new [] b e f g = absurd (false≢true e)
   stood-new (k ∷ ks) b e f g = go (eqb b k) refl e (λ d. stood-new ks b d f g)
     where
       go :
           (t : Bool) → eqb b k ≡ t → (t || any (eqb b) ks) ≡ true → (any (eqb b) ks ≡ true → stood ks bs + 1 ≤ stood ks (set bs p true))
-          → one (getD bs (placeOf k) false) + stood ks bs + 1 ≤ one (getD (set bs p true) (placeOf k) false) + stood ks (set bs p true)
+          → one (getD bs (letterPlace k) false) + stood ks bs + 1 ≤ one (getD (set bs p true) (letterPlace k) false) + stood ks (set bs p true)
       go true same d more =
-          let is : placeOf k ≡ p = ap placeOf (sym (eqb-true b k same)) ∙ f in
+          let is : letterPlace k ≡ p = ap letterPlace (sym (eqb-true b k same)) ∙ f in
           rw (is, getD-set-same bs p true false h, g) (omega (arith, stood-set ks))
-      go false same d more = omega (arith, one-set (placeOf k), more d)
+      go false same d more = omega (arith, one-set (letterPlace k), more d)
 
 -- ---- words put in front
 
@@ -202,9 +202,9 @@ module _ {main : Bool} {m : Modes} {l : List ℕ} {from i : ℕ} {seen : Seen} {
   status-bad e = ap (statusOf main) (s .whole ∙ ap (prepend (s .done)) e)
 
   -- whether a letter stood
-  pub letter-stood : (b : ℕ) → isCapital b ≡ true → getD (seen .letters) (placeOf b) false ≡ any (hasLetter b) (s .done)
+  pub letter-stood : (b : ℕ) → isCapital b ≡ true → getD (seen .letters) (letterPlace b) false ≡ any (hasLetter b) (s .done)
   letter-stood b capital =
-      s .sums .letters (placeOf b) (place-inside b capital) ∙ ap (λ (x : ℕ). any (hasLetter x) (s .done)) (place-back b capital)
+      s .sums .letters (letterPlace b) (place-inside b capital) ∙ ap (λ (x : ℕ). any (hasLetter x) (s .done)) (place-back b capital)
 
   module _ (w : Word) (next : ℕ) (e : wordsAt l i ≡ withWord w (wordsAt l next)) (g : Gone l i next) where
     -- ---- a word that may not stand
@@ -262,7 +262,7 @@ module _ {main : Bool} {m : Modes} {l : List ℕ} {from i : ℕ} {seen : Seen} {
       whole-with : wordsAt l from ≡ prepend (s .done ++ w ∷ []) (wordsAt l next)
       whole-with = s .whole ∙ ap (prepend (s .done)) e ∙ prepend-word (s .done) w (wordsAt l next)
 
-      inside-letters : placeOf (w .letter) < length (seen .letters)
+      inside-letters : letterPlace (w .letter) < length (seen .letters)
       inside-letters = omega (arith, s .sums .places, place-inside (w .letter) capital)
 
       over-coded : (isG w || isMisc w) ≡ true → Sofar main m l from next (seenWith seen w) count words
@@ -275,7 +275,7 @@ module _ {main : Bool} {m : Modes} {l : List ℕ} {from i : ℕ} {seen : Seen} {
             block = g .block ∙ s .block;
             stands = stands-with;
             sums = sums-with m (s .done) seen (s .sums) w capital once;
-            few = omega (arith, s .few, stood-set (seen .letters) (placeOf (w .letter)) inside-letters known);
+            few = omega (arith, s .few, stood-set (seen .letters) (letterPlace (w .letter)) inside-letters known);
             places = s .places;
             kept = s .kept ∙ sym (valued-word (s .done) w ∙ rw h);
             written = s .written;
@@ -287,7 +287,7 @@ module _ {main : Bool} {m : Modes} {l : List ℕ} {from i : ℕ} {seen : Seen} {
       unfolding seenWith
       over-code c h is =
           let letter = eqb-true (w .letter) 71 h in
-          let six : placeOf (w .letter) ≡ 6 = ap placeOf letter in
+          let six : letterPlace (w .letter) ≡ 6 = ap letterPlace letter in
           rw is (rw (six, h, ne-eqb (w .letter) 77 (λ e. omega arith)) at (over-coded (rw h)))
 
       pub over-misc :
@@ -296,7 +296,7 @@ module _ {main : Bool} {m : Modes} {l : List ℕ} {from i : ℕ} {seen : Seen} {
       unfolding seenWith
       over-misc x h is =
           let letter = eqb-true (w .letter) 77 h in
-          let twelve : placeOf (w .letter) ≡ 12 = ap placeOf letter in
+          let twelve : letterPlace (w .letter) ≡ 12 = ap letterPlace letter in
           let other : isG w ≡ false = ne-eqb (w .letter) 71 (λ e. omega arith) in
           rw is (rw (twelve, h, other) at (over-coded (rw (other, h))))
 
@@ -308,17 +308,17 @@ module _ {main : Bool} {m : Modes} {l : List ℕ} {from i : ℕ} {seen : Seen} {
         not-misc = either-right (isG w) (isMisc w) h
 
         -- a word with a value is new, so that there is a place for it
-        one-more : stood known (seen .letters) + 1 ≤ stood known (set (seen .letters) (placeOf (w .letter)) true)
+        one-more : stood known (seen .letters) + 1 ≤ stood known (set (seen .letters) (letterPlace (w .letter)) true)
         unfolding isKnown
         one-more =
-            stood-new (seen .letters) (placeOf (w .letter)) inside-letters known (w .letter) is-known refl
+            stood-new (seen .letters) (letterPlace (w .letter)) inside-letters known (w .letter) is-known refl
             (letter-stood (w .letter) capital ∙ no-repeat not-code)
 
         pub room : count < 13
-        room = omega (arith, s .few, one-more, stood-most known (set (seen .letters) (placeOf (w .letter)) true))
+        room = omega (arith, s .few, one-more, stood-most known (set (seen .letters) (letterPlace (w .letter)) true))
 
         pub over-valued :
-            Sofar main m l from next (record { letters = set (seen .letters) (placeOf (w .letter)) true; groups = seen .groups; misc = seen .misc; modes = seen .modes }) (count + 1) (set words count w)
+            Sofar main m l from next (record { letters = set (seen .letters) (letterPlace (w .letter)) true; groups = seen .groups; misc = seen .misc; modes = seen .modes }) (count + 1) (set words count w)
         unfolding seenWith
         over-valued =
             record {

@@ -17,8 +17,8 @@ use Rattle.reading.specs.declared.Role.{Role}
 use Rattle.reading.specs.declared.Role.the-variants as role
 
 -- the place of a capital letter in the alphabet
-abbrev pub placeOf : ℕ → ℕ
-placeOf letter = letter - byte "A"
+abbrev pub letterPlace : ℕ → ℕ
+letterPlace letter = letter - byte "A"
 
 -- of a group, whether a word of it stands in a list; of a letter likewise
 abbrev pub hasLetter : ℕ → Word → Bool

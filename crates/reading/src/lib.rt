@@ -15,7 +15,7 @@ ghost use Rattle.lines.specs.Blocks.{textFrom};
 ghost use Rattle.words.specs.Words.{isCapital, itemAt};
 ghost use Rattle.letters.specs.Letters.{isKnown, isG, isMisc, codeIn, miscIn, standsAlone, wrongProgram};
 ghost use Rattle.reading.specs.Items.{placed};
-ghost use Rattle.reading.specs.Seen.{placeOf, Tells, TellsG, badMisc};
+ghost use Rattle.reading.specs.Seen.{letterPlace, Tells, TellsG, badMisc};
 
 // What begins at a place of a block: a blank or a comment, or a word, each with the place after it; or what is refused,
 // being unreadable.
@@ -116,9 +116,9 @@ fn is_known(b: u8) -> bool
 
 // The place of a capital letter in the alphabet, from 0. It is reckoned and not looked up, so that the letters that stood
 // stay in memory as they are.
-pub fn place_of(b: u8) -> usize
+pub fn letter_place(b: u8) -> usize
     requires { ⌜ isCapital b ≡ true ⌝ }
-    ensures { λ r. ⌜ r ≡ placeOf b ⌝ }
+    ensures { λ r. ⌜ r ≡ letterPlace b ⌝ }
 {
     (b - b'A') as usize
 }

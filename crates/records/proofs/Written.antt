@@ -8,7 +8,7 @@ use lib.Seq.{sets, length-sets}
 use Rattle.records.specs.declared.Kind.{Kind}
 use Rattle.records.specs.declared.Record.{Record}
 use Rattle.records.specs.Layout.{kindOf, markOf, planeBytes, numbersOf, numberBytes, recordBytes}
-use Rattle.records.specs.Writing.{Wrote}
+use Rattle.records.specs.Serving.{Wrote}
 
 -- bytes in two parts are written one part after the other
 pub sets-append : (l : List ℕ) (k : ℕ) (a b : List ℕ) → sets l k (a ++ b) ≡ sets (sets l k a) (k + length a) b

@@ -3,3 +3,4 @@ pub mod Writing
 pub mod Reading
 pub mod Path
 pub mod Displacing
+pub mod Serving

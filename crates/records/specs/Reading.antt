@@ -14,10 +14,6 @@ use Rattle.codes.specs.declared.Plane.{Plane}
 use Rattle.codes.specs.declared.Plane.the-variants.{G17, G18, G19}
 use Rattle.records.specs.declared.Kind.{Kind}
 use Rattle.records.specs.declared.Kind.the-variants.{RP as rp, LN as ln, AR as ar, AL as al, DW as dw, SP as sp, SO as so, PA as pa, EN as en}
-use Rattle.records.specs.declared.KindFound.{KindFound}
-use Rattle.records.specs.declared.KindFound.the-variants.{Mark, NoMark}
-use Rattle.records.specs.declared.PlaneFound.{PlaneFound}
-use Rattle.records.specs.declared.PlaneFound.the-variants.{Byte, NoByte}
 use Rattle.records.specs.Layout.{
   markOf,
   hasPlane,
@@ -42,22 +38,12 @@ kinds = rp ∷ ln ∷ ar ∷ al ∷ dw ∷ sp ∷ so ∷ pa ∷ en ∷ []
 unfoldable pub kindAt : List ℕ → ℕ → Option Kind
 kindAt l at = first (marked l at) kinds
 
--- the same as the code answers it
-abbrev pub foundKind : KindFound → Option Kind
-foundKind (Mark kind) = some kind
-foundKind NoMark = none
-
 -- the plane whose byte stands at a place
 abbrev pub planes : List Plane
 planes = G17 ∷ G18 ∷ G19 ∷ []
 
 unfoldable pub planeAt : List ℕ → ℕ → Option Plane
 planeAt l k = first (λ plane. eqb (getD l k 0) (planeByte plane)) planes
-
--- the same as the code answers it
-abbrev pub foundPlane : PlaneFound → Option Plane
-foundPlane (Byte plane) = some plane
-foundPlane NoByte = none
 
 -- a record without a plane byte has none that could be wrong
 unfoldable pub planeFor : Bool → List ℕ → ℕ → Option Plane

@@ -11,14 +11,15 @@ use refusals::Refusal;
 ghost use mathlib.Core.Path.{_≡_};
 ghost use Prim.Native.Nat.{_+_, _≤_, _<_};
 ghost use lib.ListN.{length};
-ghost use Rattle.lines.specs.Blocks.{lengthFrom, blockFrom, blocksFrom};
+ghost use Rattle.lines.specs.Blocks.{lengthFrom, blockFrom};
+ghost use Rattle.lines.specs.Serving.{blocksFrom};
 ghost use Rattle.programs.specs.Openings.{scan, programsFrom, known};
-ghost use Rattle.programs.specs.Found.{subsOf, Ready, Entered};
+ghost use Rattle.programs.specs.Found.{subsOf, WellFound, Entered};
 ghost use Rattle.programs.specs.Answers.{Gives, foundAs};
 
 // The table with one subprogram more: its number, and the block and byte that follow its opening.
 fn with_program(t: Programs, number: u64, block: usize, byte: usize) -> Programs
-    requires { ⌜ (Ready t) × (t .count < 10) ⌝ }
+    requires { ⌜ (WellFound t) × (t .count < 10) ⌝ }
     ensures { λ r. ⌜ Entered t (record { number = number; block = block; byte = byte }) r ⌝ }
 {
     let at = t.count;
@@ -36,7 +37,7 @@ fn with_program(t: Programs, number: u64, block: usize, byte: usize) -> Programs
 // the scan is left from inside a block, at an opening that is refused or at the closing `%`.
 fn scan_openings(s: &[u8], from: usize, number: usize, found: Programs) -> Scanned
     requires { ⌜ (from ≤ length (now s)) × (number ≤ from + 1) ⌝ }
-    requires { ⌜ Ready found ⌝ }
+    requires { ⌜ WellFound found ⌝ }
     ensures { λ r. ⌜ Gives (scan (found .main) (blocksFrom (now (s .entry)) number from) (subsOf found)) r ⌝ }
 {
     let mut programs = found;
@@ -114,7 +115,7 @@ pub fn find_programs(s: &[u8]) -> Scanned
 
 // The subprogram of a number. The main program is none.
 pub fn find(t: Programs, n: u64) -> Found
-    requires { ⌜ Ready t ⌝ }
+    requires { ⌜ WellFound t ⌝ }
     ensures { λ r. ⌜ r ≡ foundAs (known (subsOf t) n) ⌝ }
 {
     let subs = t.subs;

@@ -10,7 +10,7 @@ use mir.Facts.{toZ-ofZ}
 use Rattle.terms.specs.Terms.{within}
 use Rattle.lengths.specs.declared.Len.{Len}
 use Rattle.lengths.specs.Units.{len}
-use Rattle.lengths.specs.View.{Is, Apart, Counted}
+use Rattle.lengths.specs.Serving.{Is, Apart, Counted}
 use Rattle.lengths.proofs.Laws.{view-eq, diff-bal}
 
 pub of-raw : (z : ℤ) (r : Len) → SFits w64 z → Is (toZ w64 (ofZ w64 z)) r → r ≡ len z

@@ -101,11 +101,11 @@ numbersFrom (name ∷ left) text at = entryThen (entryAt name text at) (numbersF
 
 -- ---- the setup
 
-abbrev pub numberOf : List Len → ℕ → ℤ
-numberOf zs k = getD zs k (len (pos 0)) .v
+abbrev pub figureAt : List Len → ℕ → ℤ
+figureAt zs k = getD zs k (len (pos 0)) .v
 
 unfoldable pub axesOf : List Len → ℕ → Axes
-axesOf zs k = record { x = numberOf zs k; y = numberOf zs (k + 1); z = numberOf zs (k + 2) }
+axesOf zs k = record { x = figureAt zs k; y = figureAt zs (k + 1); z = figureAt zs (k + 2) }
 
 -- 35 numbers as a setup; one that is missing is 0
 unfoldable pub setupOf : List Len → Setup
@@ -116,11 +116,11 @@ setupOf zs =
       start = axesOf zs 6;
       exofs = axesOf zs 9;
       origins = axesOf zs 12 ∷ axesOf zs 15 ∷ axesOf zs 18 ∷ axesOf zs 21 ∷ axesOf zs 24 ∷ axesOf zs 27 ∷ [];
-      feed = numberOf zs 30;
-      lowest = numberOf zs 31;
-      highest = numberOf zs 32;
-      speed = numberOf zs 33;
-      skip = numberOf zs 34;
+      feed = figureAt zs 30;
+      lowest = figureAt zs 31;
+      highest = figureAt zs 32;
+      speed = figureAt zs 33;
+      skip = figureAt zs 34;
     }
 
 -- where something is wrong, the setup is all zeros

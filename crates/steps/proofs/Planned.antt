@@ -27,7 +27,7 @@ use Rattle.settings.specs.declared.State.{State}
 use Rattle.arcs.specs.Bounds as Arcs
 use Rattle.cycles.specs.declared.Way.the-variants.{Ends, Leaves}
 use Rattle.cycles.specs.Ways.{staysIn, wayOf}
-use Rattle.cycles.specs.Writing.{Ready}
+use Rattle.cycles.specs.Writing.{RoomFor}
 use Rattle.cycles.proofs.Rooms.{room-append}
 use Rattle.moves.specs.declared.Plan.{Plan}
 use Rattle.moves.specs.declared.Plan.the-variants.{Rest, Single, Passes}
@@ -107,7 +107,7 @@ module _ (bed : Bed) (s : State) (b : Said) (steady : Steady bed s b) where
   loose (Single r) e = loose-one r e
   loose (Passes h) e = tt
 
-  ready-one : (r : Record) → RecordFrom w o v r → pathHolds (w .at) (pathOf r) ≡ true → Arcs.Ready (bed .travel) (w .at) (pathOf r)
+  ready-one : (r : Record) → RecordFrom w o v r → pathHolds (w .at) (pathOf r) ≡ true → Arcs.PathBounds (bed .travel) (w .at) (pathOf r)
   unfolding pathOf pathHolds
   ready-one (RP p) e h = tt
   ready-one (LN p feed) e h = tt
@@ -231,7 +231,7 @@ module _ {bed : Bed} {s : State} {b : Said} {control : Control} {w : State} {ori
       module _ {list : List ℕ} {at n : ℕ} (is : n ≡ roomOf (threeRecords first plan last (w .modes .distance) origin (w .at) (b .values))) where
         pub block-ready :
             at ≤ length list → n ≤ length list - at
-            → Ready list at (bed .offset) (threeRecords first plan last (w .modes .distance) origin (w .at) (b .values))
+            → RoomFor list at (bed .offset) (threeRecords first plan last (w .modes .distance) origin (w .at) (b .values))
         block-ready g k =
             rw three-are
             (record {

@@ -27,7 +27,7 @@ use Rattle.words.specs.Words.{Words, these, badAt}
 use Rattle.points.specs.declared.Point.{Point}
 use Rattle.records.specs.Layout.{listBytes, roomOf}
 use Rattle.records.specs.Path.{pathStaysIn, recordMoved}
-use Rattle.records.specs.Writing.{Wrote}
+use Rattle.records.specs.Serving.{Wrote}
 use Rattle.records.proofs.Laid.{list-length}
 use Rattle.records.proofs.Written.{wrote-none}
 use Rattle.settings.specs.declared.State.{State}

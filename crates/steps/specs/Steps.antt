@@ -21,7 +21,7 @@ use Rattle.letters.specs.Judging.{Stored, valued}
 use Rattle.reading.specs.declared.Reading.{Reading}
 use Rattle.reading.specs.Seen.{Sums}
 use Rattle.programs.specs.declared.Programs.{Programs}
-use Rattle.programs.specs.Found.{Ready}
+use Rattle.programs.specs.Found.{WellFound}
 use Rattle.moves.specs.declared.Plan.{Plan}
 use Rattle.moves.specs.Plans.{planRecords, briefRecords, Plans}
 use Rattle.moves.specs.Needs.{PlanCounts, PlanPuts}
@@ -47,7 +47,7 @@ pub record Says (m : Modes) (ws : List Word) (read : Reading) : Type 0 where
 pub record Heard (bed : Bed) (s : State) (programs : Programs) (read : Reading) : Type 0 where
   pub fair : Fair bed
   pub state : Reachable bed s
-  pub ready : Ready programs
+  pub ready : WellFound programs
   pub stored : Stored (read .words) (read .count)
   pub heard : List Word
   pub says : Says (s .modes) heard read

@@ -5,7 +5,7 @@ ghost use mathlib.Core.List.{List};
 ghost use Prim.Native.Nat.{ℕ, _-_};
 ghost use Rattle.letters.specs.declared.BlockCode.the-variants.{Moving};
 ghost use Rattle.programs.specs.declared.Program.{Program};
-ghost use Rattle.programs.specs.Found.{Ready, subsOf};
+ghost use Rattle.programs.specs.Found.{WellFound, subsOf};
 ghost use Rattle.blocks.specs.Motions.{cycleDone};
 ghost use Rattle.blocks.specs.Exec.{callsIn, callTo, unknownCall, tooDeep, lacksCentre, lacksParameter, drills, isG17, cannotDrill, working};
 use blocks::Control;
@@ -41,7 +41,7 @@ pub fn lacks_parameter(code: BlockCode, v: Values) -> bool
 }
 
 pub fn is_unknown_call(t: Programs, control: Control) -> bool
-    requires { ⌜ Ready t ⌝ }
+    requires { ⌜ WellFound t ⌝ }
     ensures { λ r. ⌜ ((left : ℕ) → r ≡ unknownCall (callsIn (subsOf t) left) (callTo control)) ⌝ }
 {
     let Control::Call(n) = control else {

@@ -11,7 +11,8 @@ ghost use mathlib.Core.List.{[], _∷_, _++_};
 ghost use lib.ListN.{length};
 ghost use Rattle.lengths.specs.View.{Short};
 ghost use Rattle.records.specs.Layout.{kindOf, markOf, planeByte, planeBytes, pointNumbers, arcNumbers, numbersOf, numberBytes, recordBytes, kindLength};
-ghost use Rattle.records.specs.Writing.{AllShort, Wrote};
+ghost use Rattle.records.specs.Writing.{AllShort};
+ghost use Rattle.records.specs.Serving.{Wrote};
 
 fn put_number(list: &mut [u8], at: usize, n: Len) -> usize
     requires { ⌜ at + 4 ≤ length (now list) ⌝ }

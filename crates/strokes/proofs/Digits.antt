@@ -11,7 +11,7 @@ use lib.Signed.{ltZ}
 use Rattle.terms.specs.Terms.{bytes}
 use Rattle.lengths.specs.declared.Len.{Len}
 use Rattle.lengths.specs.Units.{len}
-use Rattle.lengths.specs.View.{Apart, Counted}
+use Rattle.lengths.specs.Serving.{Apart, Counted}
 use Rattle.strokes.specs.Text.{Fills, digits, decimal, number}
 use Rattle.strokes.proofs.Filled.{fills-none}
 

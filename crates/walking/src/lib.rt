@@ -17,7 +17,7 @@ ghost use Rattle.programs.specs.Places.{Placed};
 ghost use Rattle.blocks.specs.Machine.{machineOf};
 ghost use Rattle.blocks.specs.Exec.{exec, callsIn};
 ghost use Rattle.runs.specs.Walk.{isSpent};
-ghost use Rattle.progress.specs.Steps.{jobOf, goingOf, walkFrom, verdictAt, Acts, Ran, Sound, Fits};
+ghost use Rattle.progress.specs.Progressing.{jobOf, goingOf, walkFrom, verdictAt, Acts, Ran, Sound, Fits};
 
 // Executes the block at a place, whose words begin at the byte `from`.
 fn execute(

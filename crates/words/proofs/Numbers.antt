@@ -13,7 +13,8 @@ use lib.Seq.{slice, slice-cons}
 use borrow.Author.Tests.{lt-leb, leb-true, eqb-false}
 use Rattle.terms.specs.Terms.{if_then_else_, byte, fromTo}
 use Rattle.terms.proofs.Laws.{both-left, both-right}
-use Rattle.words.specs.Numbers.{isDigit, isPoint, isFigure, signOf, signLength, run, count, digitsAfter, decimalsOf, isNumeral, numberBy, numberIn, Written}
+use Rattle.words.specs.Numbers.{isDigit, isPoint, isFigure, signOf, signLength, run, count, digitsAfter, decimalsOf, isNumeral, numberBy, numberIn}
+use Rattle.words.specs.Serving.{Written}
 use Rattle.words.specs.declared.Sign.{Sign}
 use Rattle.words.specs.declared.Sign.the-variants.{Plain, Plus, Minus}
 use Rattle.words.specs.declared.Number.{Number}

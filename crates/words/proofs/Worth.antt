@@ -13,8 +13,8 @@ use Rattle.lengths.specs.Units.{len}
 use Rattle.lengths.specs.declared.Len.{Len}
 use Rattle.codes.specs.declared.Unit.{Unit}
 use Rattle.codes.specs.declared.Unit.the-variants.{Inch, Millimetre}
-use Rattle.words.specs.Numbers.{Written}
-use Rattle.words.specs.Values.{signed, decimalsFit, stepsOf, placesOf, unitsOf, lengthOf, isLength, dwellOf, isDwell, countOf, checked, Steps}
+use Rattle.words.specs.Serving.{Written, Steps}
+use Rattle.words.specs.Values.{signed, decimalsFit, stepsOf, placesOf, unitsOf, lengthOf, isLength, dwellOf, isDwell, countOf, checked}
 use Rattle.words.specs.declared.Sign.{Sign}
 use Rattle.words.specs.declared.Sign.the-variants.{Plain, Plus, Minus}
 use Rattle.words.specs.declared.Number.{Number}

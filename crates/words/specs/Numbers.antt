@@ -1,15 +1,13 @@
 -- Document 01, "Data set and blocks": a number as it is written.
 -- "a number: a sign or none, digits with at most one point, one to nine digits in all."
-use Prim.Native.Nat.{ℕ, _+_, _-_, _*_, _≤_, _<_}
-use mathlib.Core.Path.{_≡_}
-use mathlib.Core.Bool.{Bool, false, _&&_, _||_}
+use Prim.Native.Nat.{ℕ, _+_, _-_, _*_}
+use mathlib.Core.Bool.{Bool, _&&_, _||_}
 use mathlib.Core.List.{List, [], _∷_}
 use lib.Dec.{leb, eqb}
 use lib.ListN.{length, drop}
 use Rattle.terms.specs.Terms.{if_then_else_, byte, fromTo}
 use Rattle.words.specs.declared.Sign.{Sign}
 use Rattle.words.specs.declared.Sign.the-variants.{Plain, Plus, Minus}
-use Rattle.words.specs.declared.Number.{Number}
 use Rattle.words.specs.declared.Numbered.{Numbered}
 use Rattle.words.specs.declared.Numbered.the-variants.{Is, Unreadable}
 
@@ -71,9 +69,3 @@ numberBy sign figures =
 -- the number that the bytes begin with. "no digit, a tenth digit or a second point is 15."
 unfoldable pub numberIn : List ℕ → Numbered
 numberIn bs = numberBy (signOf bs) (run isFigure (drop (signLength (signOf bs)) bs))
-
--- what holds of every number that is read (numberIn-written, in proofs/)
-pub record Written (n : Number) : Type 0 where
-  pub digits : n .digits < 1_000_000_000
-  pub decimals : n .decimals ≤ 9
-  pub whole : n .point ≡ false → n .decimals ≡ 0

@@ -1,6 +1,5 @@
 -- Document 01: what a written number is worth, by what its letter means in the block.
-use Prim.Native.Nat.{ℕ, _-_, _*_, _^_, _<_, min}
-use mathlib.Core.Path.{_≡_}
+use Prim.Native.Nat.{ℕ, _-_, _*_, _^_, min}
 use mathlib.Core.Bool.{Bool, true, false, not, _&&_}
 use lib.Dec.{leb}
 use lib.IntN.{ℤ, pos, negℤ}
@@ -91,11 +90,6 @@ valueOf u lowest highest Dwell n = checked (isDwell n) (dwellOf n)
 valueOf u lowest highest Length n = checked (isLength u n) (lengthOf u n)
 -- "F is above 0."
 valueOf u lowest highest Feed n = checked (isLength u n && ltZ (pos 0) (lengthOf u n)) (lengthOf u n)
-
--- what the step counter answers: the definition's number, and that it leaves room for a product
-pub record Steps (places : ℕ) (n : Number) (r : ℕ) : Type 0 where
-  pub is : r ≡ stepsOf places n
-  pub most : r < 10_000_000_000_000
 
 -- a word that does not stand
 abbrev pub missing : Given

@@ -9,8 +9,8 @@ ghost use lib.ListN.{length};
 ghost use lib.Signed.{ltZ};
 ghost use Rattle.terms.specs.Terms.{byte, between};
 ghost use Rattle.lengths.specs.Units.{len};
-ghost use Rattle.words.specs.Numbers.{Written};
-ghost use Rattle.words.specs.Values.{isPlain, signed, placesOf, unitsOf, lengthOf, isLength, dwellOf, isDwell, countOf, checked, valueOf, Steps};
+ghost use Rattle.words.specs.Serving.{Written, Steps};
+ghost use Rattle.words.specs.Values.{isPlain, signed, placesOf, unitsOf, lengthOf, isLength, dwellOf, isDwell, countOf, checked, valueOf};
 
 // The sign that a number is written with.
 pub enum Sign {

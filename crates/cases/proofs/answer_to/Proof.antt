@@ -1,5 +1,5 @@
 -- `cases::answer_to` meets its contract: so many blocks, or the whole run. Assumes nothing.
-use Rattle.cases.specs.Budgets.{budgetOf}
+use Rattle.cases.specs.Budgets.{budgetBy}
 use borrow.Author.Needs.{needs}
 use Rattle.cases.proofs.answer_to.Statement.{statement}
 use Rattle.cases.proofs.answer_to.Tie as tie
@@ -20,14 +20,14 @@ same-length : tie.Need-same-length
 same-length c = search needs
 
 returns : tie.Need-returns
-unfolding budgetOf
+unfolding budgetBy
 returns c = rw (c .before .before .before .before .before .blocks2 .given .1) (c .before .before .run-blocks .ensures)
 
 same-length-2 : tie.Need-same-length-2
 same-length-2 c = search needs
 
 returns-2 : tie.Need-returns-2
-unfolding budgetOf
+unfolding budgetBy
 returns-2 c = rw (c .before .before .before .before .enum-told .given .1) (c .before .before .run .ensures)
 
 pub answer-to-spec : {M : Type 1} → statement M

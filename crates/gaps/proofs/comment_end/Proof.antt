@@ -3,7 +3,7 @@ use mathlib.Core.Path.{_≡_, refl, sym, _∙_}
 use native.Mathlib.Omega.{arith}
 use lib.ListN.{length, drop}
 use Rattle.lines.specs.Blocks.{textFrom}
-use Rattle.gaps.specs.Gaps.{commentAt}
+use Rattle.gaps.specs.Serving.{commentAt}
 use Rattle.gaps.proofs.Laws.{comment-end-of, comment-paren, comment-lf, comment-more}
 use Rattle.gaps.proofs.comment_end.Statement.{statement}
 use Rattle.gaps.proofs.comment_end.Tie as tie

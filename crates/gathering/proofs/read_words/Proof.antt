@@ -8,7 +8,7 @@ use lib.Dec.{lit<}
 use lib.ListN.{length, drop, getD}
 use Rattle.lines.specs.Blocks.{noText}
 use Rattle.words.specs.Words.{isCapital, withWord}
-use Rattle.words.specs.Numbers.{Written}
+use Rattle.words.specs.Serving.{Written}
 use Rattle.reading.specs.Items.{wordsAt}
 use Rattle.reading.specs.Seen.{Plays}
 use Rattle.reading.specs.declared.Role.{Role}
@@ -82,11 +82,11 @@ loop-less-2 c = let g = stepped (c .before) .1 in omega (arith, g .forward, g .i
 loop-again-2 : tie.Need-loop-again-2 Inv-loop μ-loop
 loop-again-2 c = word-halted (c .before .before .before .before .before .before .before .loop .inv) (c .if2 .taken) (c .before .before .w .given .0 .0) (c .before .before .w .given .0 .1 .0) (stepped (c .before) .0) (stepped (c .before) .1)
 
-place-of-requires : tie.Need-place-of-requires Inv-loop μ-loop
-place-of-requires c κs = stepped (c .before) .3
+letter-place-requires : tie.Need-letter-place-requires Inv-loop μ-loop
+letter-place-requires c κs = stepped (c .before) .3
 
 array-read-role-of : tie.Need-array-read-role-of Inv-loop μ-loop
-array-read-role-of c = rw (c .place-of .ensures) (place-inside _ (stepped (c .before .before) .3))
+array-read-role-of c = rw (c .letter-place .ensures) (place-inside _ (stepped (c .before .before) .3))
 
 array-read-role-of-2 : tie.Need-array-read-role-of-2 Inv-loop μ-loop
 array-read-role-of-2 c = search needs
@@ -111,7 +111,7 @@ playing :
 playing c r is =
     let told =
     c .role-of .ensures .is (read c .done) (read c .sums .coded)
-    (ap (λ (k : ℕ). getD (c .before .before .before .before .before .before .before .before .before .loop .letters) k false) (c .before .place-of .ensures) ∙ letter-stood (read c) _ (stepped (c .before .before .before) .3))
+    (ap (λ (k : ℕ). getD (c .before .before .before .before .before .before .before .before .before .loop .letters) k false) (c .before .letter-place .ensures) ∙ letter-stood (read c) _ (stepped (c .before .before .before) .3))
     (read c .sums .letters 6 (lit< tt)) in
     subst (λ x. Plays (c .before .before .before .before .before .before .before .before .before .before .before .before .args .main) (read c .done) (c .before .before .before .before .w .given .0 .0) x) is told
 
@@ -170,7 +170,7 @@ enum-told-2 : tie.Need-enum-told-2 Inv-loop μ-loop
 enum-told-2 c = search needs
 
 array-write-letters-3 : tie.Need-array-write-letters-3 Inv-loop μ-loop
-array-write-letters-3 c = rw (c .before .before .before .place-of .ensures) (place-inside _ (stepped (c .before .before .before .before .before) .3))
+array-write-letters-3 c = rw (c .before .before .before .letter-place .ensures) (place-inside _ (stepped (c .before .before .before .before .before) .3))
 
 -- a word with a value has a place
 placed : (c : tie.After-enum-told2 Inv-loop μ-loop) → c .before .before .before .before .before .before .before .before .before .before .before .loop .count < 13
@@ -195,7 +195,7 @@ loop-again-6 : tie.Need-loop-again-6 Inv-loop μ-loop
 loop-again-6 c =
     let step = stepped (c .before .before .before .before .before) in
     let value = playing (c .before .before) _ (c .enum-told2 .given .1) in
-    rw (c .before .before .before .before .if2 .left, c .before .before .before .before .before .before .before .before .before .before .before .loop .inv .fine (c .before .before .before .before .if2 .left), c .before .before .before .place-of .ensures)
+    rw (c .before .before .before .before .if2 .left, c .before .before .before .before .before .before .before .before .before .before .before .loop .inv .fine (c .before .before .before .before .if2 .left), c .before .before .before .letter-place .ensures)
     (goes-on (over-valued (read (c .before .before)) (c .before .before .before .before .before .before .w .given .0 .0) (c .before .before .before .before .before .before .w .given .0 .1 .0) (step .0) (step .1) (step .2) (step .3) (value .0) (value .1)))
 
 returns : tie.Need-returns Inv-loop μ-loop
@@ -223,7 +223,7 @@ read-words-spec =
     enum-known-w
     loop-less-2
     loop-again-2
-    place-of-requires
+    letter-place-requires
     array-read-role-of
     array-read-role-of-2
     role-of-requires

@@ -1,7 +1,7 @@
 -- `interpreter::answer_by` meets its contract, ending by ending. Assumes nothing.
 use mathlib.Core.Path.{sym, ap}
 use borrow.Author.Needs.{needs}
-use Rattle.interpreter.specs.Owing.{answerFor}
+use Rattle.interpreter.specs.Serving.{answerFor}
 use Rattle.interpreter.proofs.answer_by.Statement.{statement}
 use Rattle.interpreter.proofs.answer_by.Tie as tie
 

@@ -4,12 +4,12 @@ use native.Mathlib.Omega.{arith}
 use borrow.Author.Needs.{needs}
 use borrow.Author.Tests.{not-true, not-false}
 use Rattle.letters.proofs.Judging.{judge-unused}
-use Rattle.judging.proofs.Places.{soFar, Kept, kept-first, past-bad, past-bad-again, past-fit, ended-bad, ended-fine}
+use Rattle.judging.proofs.Places.{soFar, KeptValues, kept-first, past-bad, past-bad-again, past-fit, ended-bad, ended-fine}
 use Rattle.judging.proofs.judge.Statement.{statement}
 use Rattle.judging.proofs.judge.Tie as tie
 
 abbrev Inv-loop : tie.InvT-loop
-Inv-loop speeds m code count words stands₀ v₀ bad₀ place₀ i₀ stands v bad place i = Kept speeds m code words count stands v bad place i
+Inv-loop speeds m code count words stands₀ v₀ bad₀ place₀ i₀ stands v bad place i = KeptValues speeds m code words count stands v bad place i
 
 abbrev μ-loop : tie.MeasureT-loop
 μ-loop speeds m code count words stands₀ v₀ bad₀ place₀ i₀ stands v bad place i = count - i
@@ -114,17 +114,17 @@ loop-again-2 c =
     (q .value-of .ensures)
     (not-false (k .bad) (c .if2 .left))
 
-place-of-requires : tie.Need-place-of-requires Inv-loop μ-loop
-place-of-requires c κs = search needs
+value-place-requires : tie.Need-value-place-requires Inv-loop μ-loop
+value-place-requires c κs = search needs
 
 array-write-stands : tie.Need-array-write-stands Inv-loop μ-loop
-array-write-stands c = c .place-of .ensures .inside
+array-write-stands c = c .value-place .ensures .inside
 
 mul-v : tie.Need-mul-v Inv-loop μ-loop
-mul-v c = omega (arith, c .place-of .ensures .inside)
+mul-v c = omega (arith, c .value-place .ensures .inside)
 
 array-set-from-v : tie.Need-array-set-from-v Inv-loop μ-loop
-array-set-from-v c = c .place-of .ensures .inside
+array-set-from-v c = c .value-place .ensures .inside
 
 loop-less-3 : tie.Need-loop-less-3 Inv-loop μ-loop
 loop-less-3 c = omega arith
@@ -149,9 +149,9 @@ loop-again-3 c =
     (q .value-of .result)
     (q .value-of .ensures)
     (y .z .given .0 .0)
-    (c .place-of .result)
+    (c .value-place .result)
     (y .z .given .1)
-    (c .place-of .ensures)
+    (c .value-place .ensures)
 
 returns-2 : tie.Need-returns-2 Inv-loop μ-loop
 returns-2 c =
@@ -197,7 +197,7 @@ judge-spec =
     loop-again
     loop-less-2
     loop-again-2
-    place-of-requires
+    value-place-requires
     array-write-stands
     mul-v
     array-set-from-v

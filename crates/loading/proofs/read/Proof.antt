@@ -4,7 +4,8 @@ use mathlib.Core.Option.{some}
 use mathlib.Core.Path.{_≡_, sym, ap, _∙_}
 use native.Mathlib.Omega.{arith}
 use borrow.Author.Needs.{needs}
-use Rattle.records.specs.Reading.{kindAt, planeFor, foundKind, foundPlane}
+use Rattle.records.specs.Reading.{kindAt, planeFor}
+use Rattle.records.specs.Serving.{foundKind, foundPlane}
 use Rattle.records.specs.Layout.{hasPlane}
 use Rattle.records.proofs.Found.{read-end, read-cut, read-unknown, read-short, read-other, read-next}
 use Rattle.loading.proofs.read.Statement.{statement}

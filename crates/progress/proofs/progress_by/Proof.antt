@@ -1,6 +1,6 @@
 -- `progress::progress_by` meets its contract. Assumes nothing.
 use borrow.Author.Needs.{needs}
-use Rattle.progress.specs.Steps.{progressBy}
+use Rattle.progress.specs.Progressing.{progressBy}
 use Rattle.progress.proofs.progress_by.Statement.{statement}
 use Rattle.progress.proofs.progress_by.Tie as tie
 

@@ -1,7 +1,7 @@
 -- `progress::turn` meets its contract, control by control. Assumes nothing.
 use borrow.Author.Needs.{needs}
 use Rattle.programs.specs.Found.{subsOf}
-use Rattle.progress.specs.Steps.{turned}
+use Rattle.progress.specs.Progressing.{turned}
 use Rattle.progress.proofs.Executing.{turn-missing, turn-enters}
 use Rattle.progress.proofs.turn.Statement.{statement}
 use Rattle.progress.proofs.turn.Tie as tie

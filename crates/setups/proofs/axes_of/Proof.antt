@@ -7,7 +7,7 @@ use mir.Syntax.{w64}
 use mir.Val.{SFits}
 use mir.Facts.{toZ-ofZ}
 use Prim.Native.Nat.{_+_}
-use Rattle.setups.specs.Setups.{axesOf, numberOf}
+use Rattle.setups.specs.Setups.{axesOf, figureAt}
 use Rattle.setups.proofs.axes_of.Statement.{statement}
 use Rattle.setups.proofs.axes_of.Tie as tie
 
@@ -39,9 +39,9 @@ returns : tie.Need-returns
 unfolding axesOf
 returns c =
     let a = c .before .before .before .before .before .before .args in
-    let x : SFits w64 (numberOf (a .t1) (a .at)) = search needs in
-    let y : SFits w64 (numberOf (a .t1) (a .at + 1)) = search needs in
-    let z : SFits w64 (numberOf (a .t1) (a .at + 2)) = search needs in
+    let x : SFits w64 (figureAt (a .t1) (a .at)) = search needs in
+    let y : SFits w64 (figureAt (a .t1) (a .at + 1)) = search needs in
+    let z : SFits w64 (figureAt (a .t1) (a .at + 2)) = search needs in
     rw (toZ-ofZ x, toZ-ofZ y, toZ-ofZ z)
 
 pub axes-of-spec : {M : Type 1} → statement M

@@ -4,7 +4,7 @@ use mathlib.Core.Path.{_≡_, refl, sym, ap, _∙_}
 use mir.Syntax.{w64}
 use mir.Val.{SFits}
 use mir.Facts.{toZ-ofZ}
-use Rattle.setups.specs.Setups.{numberOf, setupOf}
+use Rattle.setups.specs.Setups.{figureAt, setupOf}
 use Rattle.setups.proofs.setup_of.Statement.{statement}
 use Rattle.setups.proofs.setup_of.Tie as tie
 
@@ -57,11 +57,11 @@ returns : tie.Need-returns
 unfolding setupOf
 returns c =
     let zs = c .before .before .before .before .before .before .before .before .before .before .before .before .before .before .before .before .before .before .before .before .args .t1 in
-    let f30 : SFits w64 (numberOf zs 30) = search needs in
-    let f31 : SFits w64 (numberOf zs 31) = search needs in
-    let f32 : SFits w64 (numberOf zs 32) = search needs in
-    let f33 : SFits w64 (numberOf zs 33) = search needs in
-    let f34 : SFits w64 (numberOf zs 34) = search needs in
+    let f30 : SFits w64 (figureAt zs 30) = search needs in
+    let f31 : SFits w64 (figureAt zs 31) = search needs in
+    let f32 : SFits w64 (figureAt zs 32) = search needs in
+    let f33 : SFits w64 (figureAt zs 33) = search needs in
+    let f34 : SFits w64 (figureAt zs 34) = search needs in
     rw (toZ-ofZ f30, toZ-ofZ f31, toZ-ofZ f32, toZ-ofZ f33, toZ-ofZ f34, c .before .before .before .before .before .before .before .before .before .before .before .before .before .before .before .before .before .before .before .axes-of .ensures, c .before .before .before .before .before .before .before .before .before .before .before .before .before .before .before .before .before .before .axes-of2 .ensures, c .before .before .before .before .before .before .before .before .before .before .before .before .before .before .before .before .before .axes-of3 .ensures, c .before .before .before .before .before .before .before .before .before .before .before .before .before .before .before .before .axes-of4 .ensures, c .before .before .before .before .before .before .before .before .before .before .before .before .before .before .before .axes-of5 .ensures, c .before .before .before .before .before .before .before .before .before .before .before .before .before .before .axes-of6 .ensures, c .before .before .before .before .before .before .before .before .axes-of7 .ensures, c .before .before .before .before .before .before .before .axes-of8 .ensures, c .before .before .before .before .before .before .axes-of9 .ensures, c .before .before .before .before .before .axes-of10 .ensures)
 
 pub setup-of-spec : {M : Type 1} → statement M

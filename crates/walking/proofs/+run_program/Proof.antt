@@ -13,7 +13,7 @@ use borrow.Author.Tests.{not-true, not-false}
 use borrow.Fn.Kinds.{In}
 use borrow.Fn.PlainCycle.{Measures, is, falls, and}
 use Rattle.runs.specs.Walk.{isSpent}
-use Rattle.progress.specs.Steps.{walkFrom, programEnds}
+use Rattle.progress.specs.Progressing.{walkFrom, programEnds}
 use Rattle.progress.specs.declared.Progress.{Progress}
 use Rattle.progress.specs.declared.Ending.{Ending}
 use Rattle.progress.specs.declared.Ending.the-variants.{Returned}

@@ -1,16 +1,16 @@
--- `judging::place_of` meets its contract: the place of each letter, and every other. Assumes nothing.
+-- `judging::value_place` meets its contract: the place of each letter, and every other. Assumes nothing.
 use mathlib.Core.Path.{refl}
 use native.Mathlib.Omega.{arith}
 use Rattle.terms.specs.Terms.{byte}
 use Rattle.letters.specs.Letters.{withValue}
 use Rattle.judging.specs.Places.{valuesBy, IsPlace}
 use Rattle.judging.proofs.Places.{place-by, place-at, place-none}
-use Rattle.judging.proofs.place_of.Statement.{statement}
-use Rattle.judging.proofs.place_of.Tie as tie
+use Rattle.judging.proofs.value_place.Statement.{statement}
+use Rattle.judging.proofs.value_place.Tie as tie
 
-pub place-of-spec : {M : Type 1} → statement M
+pub value-place-spec : {M : Type 1} → statement M
 unfolding valuesBy withValue
-place-of-spec =
+value-place-spec =
     tie.close
     (tie.spec
     (λ c. place-at (byte "X") _ (c .match .keys1) (place-by (byte "X") _ (omega arith) (λ given g. refl)))

@@ -9,7 +9,8 @@ use lib.Seq.{sets}
 use Rattle.terms.specs.Terms.{if_then_else_, byte}
 use Rattle.refusals.specs.declared.Refusal.the-variants.{NumberNotFound}
 use Rattle.refusals.specs.declared.Place.{Place}
-use Rattle.lines.specs.Blocks.{Block, blocksOf, blocksFrom, beginsWith, isPercent, textFrom}
+use Rattle.lines.specs.Blocks.{Block, blocksOf, beginsWith, isPercent, textFrom}
+use Rattle.lines.specs.Serving.{blocksFrom}
 use Rattle.setup.specs.declared.Bed.{Bed}
 use Rattle.setup.specs.Fair.{Fair}
 use Rattle.records.specs.declared.Record.{Record}
@@ -18,7 +19,7 @@ use Rattle.settings.specs.declared.State.{State}
 use Rattle.cycles.specs.Writing.{movedBytes}
 use Rattle.programs.specs.declared.Program.{Program}
 use Rattle.programs.specs.Openings.{known}
-use Rattle.programs.specs.Found.{subsOf, Ready}
+use Rattle.programs.specs.Found.{subsOf, WellFound}
 use Rattle.programs.specs.Places.{Placed}
 use Rattle.blocks.specs.Machine.{machineOf}
 use Rattle.blocks.specs.declared.Control.{Control}
@@ -120,7 +121,7 @@ pub record Ran (bed : Bed) (o : Outcome) (p : Progress) (was is : List ℕ) (r :
 -- what stays as it is while a data set runs
 pub record Sound (l : List ℕ) (task : Task) : Type 0 where
   pub fair : Fair (task .bed)
-  pub ready : Ready (task .programs)
+  pub ready : WellFound (task .programs)
   pub places : (n : ℕ) (q : Program) → known (subsOf (task .programs)) n ≡ some q → Placed l q
 
 -- what holds of the progress between two blocks, in a list of so many bytes

@@ -1,0 +1,39 @@
+-- What only serves the proofs of the entry points: what their inner functions are handed and answer.
+use Prim.Native.Nat.{ℕ, _+_, _≤_, _<_}
+use mathlib.Core.Path.{_≡_}
+use mathlib.Core.List.{List}
+use lib.ListN.{length}
+use lib.Seq.{sets}
+use Rattle.lines.specs.Blocks.{blockFrom, lengthFrom}
+use Rattle.lines.specs.Serving.{blocksFrom}
+use Rattle.points.specs.declared.Point.{Point}
+use Rattle.records.specs.Layout.{roomOf}
+use Rattle.cycles.specs.Writing.{movedBytes}
+use Rattle.programs.specs.declared.Programs.{Programs}
+use Rattle.programs.specs.Openings.{table, programsFrom}
+use Rattle.programs.specs.Found.{subsOf, WellFound}
+use Rattle.runs.specs.Walk.{Outcome}
+use Rattle.runs.specs.Run.{answerBy}
+use Rattle.refusals.specs.declared.Answer.{Answer}
+use Rattle.refusals.specs.declared.Answer.the-variants as Answers
+use Rattle.progress.specs.declared.Ending.{Ending}
+use Rattle.progress.specs.declared.Ending.the-variants.{Ended, Returned, Unfinished, Refused}
+
+-- "Order: .. 11; then per opening 1, 8, 7.": the data begin with `%` alone, and these are their programs
+pub record Opened (l : List ℕ) (t : Programs) : Type 0 where
+  pub some : 0 < length l
+  pub ready : WellFound t
+  pub table : programsFrom (blockFrom 1 0 l) (blocksFrom l 2 (0 + lengthFrom l)) ≡ table (t .main) (subsOf t)
+
+-- the answer that the main program's ending gives
+unfoldable pub answerFor : Ending → Answer
+answerFor (Ended count) = Answers.Done count
+answerFor (Returned p) = Answers.Done (p .count)
+answerFor (Unfinished count) = Answers.Unfinished count
+answerFor (Refused refusal place count) = Answers.Refused refusal place count
+
+-- the answer by an outcome, and its records from the first byte of the list on
+pub record Gives (offset : Point) (o : Outcome) (was is : List ℕ) (r : Answer) : Type 0 where
+  pub answer : r ≡ answerBy (o .how) (length (o .made))
+  pub bytes : is ≡ sets was 0 (movedBytes offset (o .made))
+  pub room : roomOf (o .made) ≤ length was

@@ -1,0 +1,9 @@
+-- What only serves proofs: the blocks from a place of the data on.
+use Prim.Native.Nat.{ℕ}
+use mathlib.Core.List.{List}
+use lib.ListN.{drop}
+use Rattle.lines.specs.Blocks.{Block, blocksAfter}
+
+-- the blocks of the data from a place where the block n begins
+abbrev pub blocksFrom : List ℕ → ℕ → ℕ → List Block
+blocksFrom bytes n at = blocksAfter 0 n at (drop at bytes)
