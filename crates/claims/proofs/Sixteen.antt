@@ -54,13 +54,15 @@ use Rattle.blocks.proofs.Making.{made-fits}
 use Rattle.lines.specs.Blocks.{Block, blocksOf}
 use Rattle.programs.specs.declared.Program.{Program}
 use Rattle.runs.specs.declared.Budget.{Budget}
+use Rattle.runs.specs.declared.Budget.the-variants.{First}
 use Rattle.runs.specs.Walk.{Job, How, ended, returned, unfinished, refusedAt, Outcome, just, slashLength, verdictOn}
 use Rattle.runs.specs.Run.{finishOf, nowhere, outcome, answerBy, answerOf}
-use Rattle.claims.specs.Blockwise.{BlockDone, Stand, returning, led, verdictIn, turnAt, Sofar, afterTurn, turnedUnless, oneMore, more, outcomeSofar, tableIn, subsOf, jobFor, refusedAtOnce, begunBy, begun, firstBlocks}
-use Rattle.claims.specs.Answers.{earlyNumbers, blockNumbers, numberedIn}
+use Rattle.claims.specs.Blockwise.{BlockDone, Stand, returning, led, verdictIn, turnAt, Sofar, afterTurn, turnedUnless, oneMore, more, howSofar, outcomeSofar, tableIn, subsOf, jobFor, refusedAtOnce, begunBy, begun, firstBlocks}
+use Rattle.claims.specs.Answers.{earlyNumbers, blockNumbers, numberedIn, RefusedBlock}
 use Rattle.claims.proofs.Verdicts.{firstBlames, blamesThen, lastBlames, blames-then}
 use Rattle.claims.proofs.Turns.{turn-cases, more-over}
-use Rattle.claims.proofs.Runs.{some-blocks, first-reached, begun-with}
+use Rattle.claims.proofs.Runs.{first-n, some-blocks, first-reached, begun-with}
+use Rattle.claims.proofs.Answers.{over-finished}
 use Rattle.claims.proofs.Compared.{reach-kept}
 use Rattle.claims.proofs.Early.{early-number}
 use Rattle.claims.proofs.Refused.{refused-over}
@@ -279,22 +281,30 @@ told (refusedAt r at) k number place count e =
     (r, ap (refusedAt r) same, is)
 
 module _ (s : Setup) (six : length (s .origins) ≡ 6) (bytes : List ℕ) (room : ℕ) where
-  blocks-number : (n : ℕ) (r : Refusal) (place : Place) → firstBlocks s bytes room n .over ≡ some (refusedAt r place) → OneOf r
+  -- a run that was not refused before its first block
+  blocks-number :
+      (n : ℕ) (r : Refusal) (place : Place) → begun s bytes room .over ≡ none
+      → firstBlocks s bytes room n .over ≡ some (refusedAt r place) → numberedIn blockNumbers r ≡ true
   unfolding firstBlocks jobFor
-  blocks-number n r place e = go (begun s bytes room .over) refl
+  blocks-number n r place open′ e =
+      let v = begun-valid s bytes room open′ in
+      let reach : Reachable (bedOf s) (begun s bytes room .stand .state) =
+      begun-with (λ ds q. Reachable (bedOf s) q) s bytes room (first-reached s v) in
+      more-number (bedOf s) (Valid.fair s v six) (switchOn s) (blocksOf bytes) (finishOf bytes (blocksOf bytes))
+      (subsOf (tableIn (blocksOf bytes))) n (begun s bytes room) reach
+      (subst (Refuses blockNumbers) (sym open′) (not-over blockNumbers)) r place e
+
+  -- and one that was
+  over-at-once : (n : ℕ) (how : How) → begun s bytes room .over ≡ some how → firstBlocks s bytes room n .over ≡ some how
+  unfolding firstBlocks
+  over-at-once n how e = ap (λ (x : Sofar). x .over) (more-over (jobFor s bytes) n (begun s bytes room) how e) ∙ e
+
+  either-number : (n : ℕ) (r : Refusal) (place : Place) → firstBlocks s bytes room n .over ≡ some (refusedAt r place) → OneOf r
+  either-number n r place e = go (begun s bytes room .over) refl
     where
       go : (o : Option How) → begun s bytes room .over ≡ o → OneOf r
-      go none open′ =
-          let v = begun-valid s bytes room open′ in
-          let reach : Reachable (bedOf s) (begun s bytes room .stand .state) =
-          begun-with (λ ds q. Reachable (bedOf s) q) s bytes room (first-reached s v) in
-          inr
-          (more-number (bedOf s) (Valid.fair s v six) (switchOn s) (blocksOf bytes) (finishOf bytes (blocksOf bytes))
-          (subsOf (tableIn (blocksOf bytes))) n (begun s bytes room) reach
-          (subst (Refuses blockNumbers) (sym open′) (not-over blockNumbers)) r place e)
-      go (some how) over =
-          let stays = more-over (jobFor s bytes) n (begun s bytes room) how over in
-          inl (early-number s bytes room r place (ap (λ (x : Sofar). x .over) (sym stays) ∙ e))
+      go none open′ = inr (blocks-number n r place open′ e)
+      go (some how) over = inl (early-number s bytes room r place (over ∙ sym (over-at-once n how over) ∙ e))
 
   -- every refusal of a run has a number of those that come before any block, or of those that come at one
   pub which-refusals :
@@ -303,8 +313,29 @@ module _ (s : Setup) (six : length (s .origins) ≡ 6) (bytes : List ℕ) (room 
   unfolding outcomeSofar
   which-refusals budget r place e =
       let n = some-blocks s bytes room budget in
-      blocks-number (n .0) r place
+      either-number (n .0) r place
       (refused-over (firstBlocks s bytes room (n .0) .over) r place (ap (λ (o : Outcome). o .how) (sym (n .1)) ∙ e))
+
+  -- at a block it is one of those that come there
+  pub block-refusals :
+      (r : Refusal) (place : Place) (made : List Record) → RefusedBlock s bytes room r place made → numberedIn blockNumbers r ≡ true
+  unfolding outcomeSofar
+  block-refusals r place made at-block = go (begun s bytes room .over) refl
+    where
+      how-at : (n : ℕ) → outcome s bytes room (First n) .how ≡ howSofar (firstBlocks s bytes room n .over)
+      how-at n = ap (λ (o : Outcome). o .how) (first-n s bytes room n)
+
+      go : (o : Option How) → begun s bytes room .over ≡ o → numberedIn blockNumbers r ≡ true
+      go none open′ =
+          let n : ℕ = suc (at-block .before) in
+          blocks-number n r place open′
+          (refused-over (firstBlocks s bytes room n .over) r place
+          (sym (how-at n) ∙ ap (λ (o : Outcome). o .how) (at-block .refused)))
+      go (some how) over =
+          let n : ℕ = at-block .before in
+          absurd
+          (over-finished s bytes room n (how, over-at-once n how over)
+          (sym (how-at n) ∙ ap (λ (o : Outcome). o .how) (at-block .stops)))
 
   -- "16: Arc centre does not fit four signed bytes" never comes, whatever the setup is
   pub never-sixteen :
