@@ -1,9 +1,9 @@
 -- The table of "Numbers to try" holds of the rules, row by row, by computation.
 use mathlib.Core.Path.{_≡_, refl}
 use mathlib.Core.List.{map}
-use Rattle.blocks.specs.Examples.{rows, stateAfter, valuesIn, outcomeBy, outcomeOf}
+use Rattle.blocks.specs.Examples.{rows, stateAfter, valuesIn, resultBy, resultOf}
 use Rattle.blocks.proofs.Opened.{opened}
 
-pub table-holds : map outcomeOf rows ≡ map (λ row. row .gives) rows
-unfolding opened stateAfter valuesIn outcomeBy outcomeOf
+pub table-holds : map resultOf rows ≡ map (λ row. row .gives) rows
+unfolding opened stateAfter valuesIn resultBy resultOf
 table-holds = refl

@@ -19,15 +19,15 @@ use Rattle.blocks.specs.Machine.{Machine}
 use Rattle.blocks.specs.Exec.{Verdict, refused, accepted, saidBy, callsIn, exec}
 
 -- what a block gives: the values of its words, or the number of its refusal and the byte that this names
-pub data Outcome : Type 0 where
-  says : Values → Outcome
-  refuses : ℕ → ℕ → Outcome
+pub data Result : Type 0 where
+  says : Values → Result
+  refuses : ℕ → ℕ → Result
 
 -- a block, the one before it, whose codes hold on, and what it gives
 pub record Row : Type 0 where
   pub before : String
   pub text : String
-  pub gives : Outcome
+  pub gives : Result
 
 abbrev home : Point
 home = record { x = len (pos 0); y = len (pos 0); z = len (pos 0) }
@@ -59,30 +59,30 @@ unfoldable pub valuesIn : State → Words → Values
 valuesIn s (these ws) = saidBy limitless (s .modes) ws .values
 valuesIn s (badAt at) = noValues
 
-unfoldable pub outcomeBy : Values → Verdict → Outcome
-outcomeBy values (refused blame) = refuses (numberOf (blame .refusal)) (blame .byte)
-outcomeBy values (accepted next control made) = says values
+unfoldable pub resultBy : Values → Verdict → Result
+resultBy values (refused blame) = refuses (numberOf (blame .refusal)) (blame .byte)
+resultBy values (accepted next control made) = says values
 
-unfoldable pub outcomeOf : Row → Outcome
-outcomeOf row =
+unfoldable pub resultOf : Row → Result
+resultOf row =
     let s = stateAfter start (verdictOn start (row .before)) in
-    outcomeBy (valuesIn s (wordsOf 0 (bytes (row .text)))) (verdictOn s (row .text))
+    resultBy (valuesIn s (wordsOf 0 (bytes (row .text)))) (verdictOn s (row .text))
 
 -- a block after G00, the code that uses the X; and one where G20 is on too
-abbrev row : String → Outcome → Row
+abbrev row : String → Result → Row
 row text gives = record { before = "G00"; text = text; gives = gives }
 
-abbrev inInch : String → Outcome → Row
+abbrev inInch : String → Result → Row
 inInch text gives = record { before = "G20 G00"; text = text; gives = gives }
 
 -- one word has a value, and no other
-abbrev only : ℕ → ℕ → Outcome
+abbrev only : ℕ → ℕ → Result
 only letter n = says (withValue noValues letter (record { stands = true; v = len (pos n) }))
 
-abbrev x : ℕ → Outcome
+abbrev x : ℕ → Result
 x n = only (byte "X") n
 
-abbrev p : ℕ → Outcome
+abbrev p : ℕ → Result
 p n = only (byte "P") n
 
 abbrev pub rows : List Row
