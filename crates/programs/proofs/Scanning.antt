@@ -1,7 +1,7 @@
 -- The scan of the openings, block by block of the data.
 use Prim.Native.Nat.{ℕ, _+_, _≤_, _<_}
 use mathlib.Core.Path.{_≡_, refl, sym, _∙_, ap, ap₂}
-use mathlib.Core.Bool.{true, false, false≢true}
+use mathlib.Core.Bool.{Bool, true, false, false≢true}
 use mathlib.Core.List.{List, []}
 use native.Mathlib.Omega.{arith}
 use native.Mathlib.Decide.{decLt}
@@ -138,32 +138,36 @@ module _ {l : List ℕ} {from number : ℕ} {first now : Programs} {at block : �
 abbrev pub Plain : List ℕ → ℕ → Type 0
 Plain l start = (isPercent (textFrom (drop start l)) ≡ false) × (getD l start 0 ≡ 79 → ⊥)
 
--- A block that began at a place is passed byte by byte: the next one begins where it would from the byte reached, and once
--- its first byte is passed the block is plain.
-pub record Passing (l : List ℕ) (start at : ℕ) : Type 0 where
+-- A block that began at a place is passed byte by byte: the next one begins where it would from the byte reached, which is
+-- the block's first, or else the block is plain.
+pub record Passing (l : List ℕ) (start at : ℕ) (isFirst : Bool) : Type 0 where
   pub inside : at ≤ length l
   pub begun : start ≤ at
   pub left : start + lengthFrom (drop start l) ≡ at + lengthFrom (drop at l)
-  pub plain : start < at → Plain l start
+  pub here : isFirst ≡ true → at ≡ start
+  pub plain : isFirst ≡ false → Plain l start
 
-pub passing-start : (l : List ℕ) (at : ℕ) → at ≤ length l → Passing l at at
-passing-start l at h = record { inside = h; begun = omega arith; left = refl; plain = λ k. absurd (omega arith) }
+pub passing-start : (l : List ℕ) (at : ℕ) → at ≤ length l → Passing l at at true
+passing-start l at h =
+    record { inside = h; begun = omega arith; left = refl; here = λ e. refl; plain = λ e. absurd (false≢true (sym e)) }
 
 -- the first byte is looked at, and no other
 pub first-plain : (l : List ℕ) {start at : ℕ} → at ≡ start → isPercent (textFrom (drop at l)) ≡ false → (getD l at 0 ≡ 79 → ⊥) → Plain l start
 first-plain l e p f = rw (← e) (p, f)
 
-module _ {l : List ℕ} {start at : ℕ} (p : Passing l start at) where
-  pub later-plain : (at ≡ start → ⊥) → Plain l start
-  later-plain f = p .plain (omega (arith, p .begun, f))
+pub past-plain : {l : List ℕ} {start at : ℕ} (isFirst : Bool) → Passing l start at isFirst → start < at → Plain l start
+past-plain true p h = absurd (omega (arith, p .here refl))
+past-plain false p h = p .plain refl
 
-  pub passing-more : at < length l → Plain l start → (getD l at 0 ≡ 10 → ⊥) → Passing l start (at + 1)
+module _ {l : List ℕ} {start at : ℕ} {isFirst : Bool} (p : Passing l start at isFirst) where
+  pub passing-more : at < length l → Plain l start → (getD l at 0 ≡ 10 → ⊥) → Passing l start (at + 1) false
   passing-more h t f =
       record {
         inside = omega arith;
         begun = omega (arith, p .begun);
         left = omega (arith, p .left, length-at-more l at h f);
-        plain = λ k. t;
+        here = λ e. absurd (false≢true e);
+        plain = λ e. t;
       }
 
 -- the main program: without an opening, or under one in the second block

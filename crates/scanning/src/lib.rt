@@ -45,10 +45,10 @@ fn scan_openings(s: &[u8], from: usize, number: usize, found: Programs) -> Scann
     let mut block = number;
     let mut verdict = Verdict::Fine;
     'blocks: while at < s.len() {
-        let start = at;
+        let mut first = true;
         while at < s.len() {
             let b = s[at];
-            if at == start {
+            if first {
                 if lines::is_percent(s, at) {
                     break 'blocks;
                 }
@@ -67,6 +67,7 @@ fn scan_openings(s: &[u8], from: usize, number: usize, found: Programs) -> Scann
                     }
                 }
             }
+            first = false;
             at += 1;
             if b == b'\n' {
                 block += 1;

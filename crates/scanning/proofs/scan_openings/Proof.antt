@@ -8,7 +8,7 @@ use borrow.Author.Needs.{needs}
 use mathlib.Core.Logic.{⊎-elim}
 use lib.ListN.{length}
 use Rattle.lines.proofs.Lines.{length-at-lf, length-at-more, length-at-end}
-use Rattle.programs.proofs.Scanning.{Scan, scan-start, stopped-end, stopped-percent, passed-plain, passed-last, passed-opening, refused-opening, Plain, Passing, passing-start, passing-more, first-plain, later-plain}
+use Rattle.programs.proofs.Scanning.{Scan, scan-start, stopped-end, stopped-percent, passed-plain, passed-last, passed-opening, refused-opening, Plain, Passing, passing-start, passing-more, first-plain, past-plain}
 use Rattle.programs.proofs.Entries.{entry-room}
 use Rattle.programs.specs.Openings.{entryOf}
 use Rattle.programs.specs.Found.{subsOf, tableBy}
@@ -19,12 +19,12 @@ use Rattle.scanning.proofs.scan_openings.Statement.{statement}
 use Rattle.scanning.proofs.scan_openings.Tie as tie
 
 abbrev Inv-loop : tie.InvT-loop
-Inv-loop s from number programs₀ at₀ block₀ verdict₀ start programs at block verdict =
-    Passing s start at × (verdict ≡ Fine)
-    × ((first : Programs) → Scan s from number first programs₀ at₀ block₀ → Scan s from number first programs start block)
+Inv-loop s from number programs₀ at₀ block₀ verdict₀ first₀ programs at block verdict first =
+    Passing s at₀ at first × (verdict ≡ Fine)
+    × ((began : Programs) → Scan s from number began programs₀ at₀ block₀ → Scan s from number began programs at₀ block)
 
 abbrev μ-loop : tie.MeasureT-loop
-μ-loop s from number programs₀ at₀ block₀ verdict₀ start programs at block verdict = length s - at
+μ-loop s from number programs₀ at₀ block₀ verdict₀ first₀ programs at block verdict first = length s - at
 
 abbrev Inv-blocks2 : tie.InvT-blocks2
 Inv-blocks2 s from number programs₀ at₀ block₀ verdict₀ programs at block verdict =
@@ -41,19 +41,19 @@ blocks2-holds c =
 loop-holds : tie.Need-loop-holds Inv-loop μ-loop Inv-blocks2 μ-blocks2
 loop-holds c =
     let b = c .before .blocks2 in
-    (passing-start (c .before .before .before .args .s .now) (b .at) (b .inv .0 .inside), b .inv .1, λ first s. s)
+    (passing-start (c .before .before .before .args .s .now) (b .at) (b .inv .0 .inside), b .inv .1, λ began s. s)
 
 -- what the scan has where its block began, and at the block's first byte, which is looked at
 begun : (c : tie.At-loop Inv-loop μ-loop Inv-blocks2 μ-blocks2) → Scan (c .before .before .before .before .args .s .now) (c .before .before .before .before .args .from) (c .before .before .before .before .args .number) (c .before .before .before .before .args .found) (c .loop .programs) (c .before .before .blocks2 .at) (c .loop .block)
 begun c = c .loop .inv .2 _ (c .before .before .blocks2 .inv .0)
 
 here : (c : tie.Then1 Inv-loop μ-loop Inv-blocks2 μ-blocks2) → Scan (c .before .before .before .before .before .before .before .args .s .now) (c .before .before .before .before .before .before .before .args .from) (c .before .before .before .before .before .before .before .args .number) (c .before .before .before .before .before .before .before .args .found) (c .before .before .before .loop .programs) (c .before .before .before .loop .at) (c .before .before .before .loop .block)
-here c = rw (c .if1 .taken) (begun (c .before .before .before))
+here c = let e = c .before .before .before .loop .inv .0 .here (c .if1 .taken) in rw e (begun (c .before .before .before))
 
 -- the block is plain once its first byte was looked at
 plain : (c : tie.Joined1 Inv-loop μ-loop Inv-blocks2 μ-blocks2) → Plain (c .before .before .before .before .before .before .before .args .s .now) (c .before .before .before .before .before .blocks2 .at)
 plain c =
-    ⊎-elim (λ w. first-plain (c .before .before .before .before .before .before .before .args .s .now) (w .0 .taken) (sym (w .1 .ensures) ∙ w .2 .left) (w .3 .left)) (λ w. later-plain (c .before .before .before .loop .inv .0) (w .left)) (c .if1 .came)
+    ⊎-elim (λ w. first-plain (c .before .before .before .before .before .before .before .args .s .now) (c .before .before .before .loop .inv .0 .here (w .0 .taken)) (sym (w .1 .ensures) ∙ w .2 .left) (w .3 .left)) (λ w. c .before .before .before .loop .inv .0 .plain (w .left)) (c .if1 .came)
 
 blocks2-less : tie.Need-blocks2-less Inv-loop μ-loop Inv-blocks2 μ-blocks2
 blocks2-less c = omega arith
@@ -62,7 +62,7 @@ blocks2-again : tie.Need-blocks2-again Inv-loop μ-loop Inv-blocks2 μ-blocks2
 blocks2-again c =
     let l = c .before .before .before .before .before .args .s .now in
     let i = c .before .loop .inv in
-    let p = i .0 .plain (omega arith) in
+    let p = past-plain (c .before .loop .first) (i .0) (omega arith) in
     (passed-last (begun (c .before)) (omega arith) (p .0) (c .before .loop .at) (p .1) (omega (arith, i .0 .left, length-at-end l (c .before .loop .at) (omega arith))) (omega arith), i .1)
 
 shared-slice-read-b : tie.Need-shared-slice-read-b Inv-loop μ-loop Inv-blocks2 μ-blocks2
