@@ -2,6 +2,7 @@
 // written: after a write that fails nothing more is tried.
 mod meanings;
 mod places;
+mod standings;
 
 use libc::STDOUT_FILENO;
 use meanings::show_meaning;
@@ -11,12 +12,23 @@ use printing::show_refused;
 pub use refusals::Answer;
 use refusals::Place;
 use refusals::Refusal;
+use settings::State;
+use standings::show_state;
 
 pub fn show_answer(data: &[u8], answer: Answer) -> bool {
     match answer {
         Answer::Done(count) => show_counted(b"done", count),
         Answer::Unfinished(count) => show_counted(b"not finished", count),
         Answer::Refused(refusal, place, _) => show_refusal(data, refusal, place),
+    }
+}
+
+// Where a run stands that is not finished. One that is over needs no more than its answer.
+pub fn show_standing(answer: Answer, state: State, next: Place) -> bool {
+    match answer {
+        Answer::Done(_) => true,
+        Answer::Unfinished(_) => show_state(state, next),
+        Answer::Refused(_, _, _) => true,
     }
 }
 

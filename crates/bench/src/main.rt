@@ -34,7 +34,9 @@ fn run_times(times: u64, bytes: &[u8], list: &mut [u8]) -> usize {
     let mut records: usize = 0;
     let mut left = times;
     while 0 < left {
-        records = refusals::count_of(interpreter::run(setup_t::setup(), bytes, list));
+        let report = interpreter::run(setup_t::setup(), bytes, list);
+        let answer = report.answer;
+        records = refusals::count_of(answer);
         left -= 1;
     }
     records
@@ -42,7 +44,9 @@ fn run_times(times: u64, bytes: &[u8], list: &mut [u8]) -> usize {
 
 // Whether so many blocks bring a run to its end or to a refusal.
 fn is_over(blocks: u64, bytes: &[u8], list: &mut [u8]) -> bool {
-    match interpreter::run_blocks(setup_t::setup(), bytes, list, blocks) {
+    let report = interpreter::run_blocks(setup_t::setup(), bytes, list, blocks);
+    let answer = report.answer;
+    match answer {
         Answer::Unfinished(_) => false,
         Answer::Done(_) => true,
         Answer::Refused(_, _, _) => true,

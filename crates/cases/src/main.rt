@@ -7,7 +7,7 @@ ghost use Rattle.cases.specs.Budgets.{budgetBy};
 use headers::Case;
 use libc::STDIN_FILENO;
 use libc::STDOUT_FILENO;
-use refusals::Answer;
+use runs::Report;
 use setup::Setup;
 use texts::Digits;
 
@@ -43,11 +43,12 @@ fn run_case(case: Case, input: &[u8], list: &mut [u8])
     let from = case.from;
     let end = case.end;
     let room = case.room as usize;
-    let answer = answer_to(setup, blocks, &input[from..end], &mut list[..room]);
+    let report = report_to(setup, blocks, &input[from..end], &mut list[..room]);
+    let answer = report.answer;
     printing::show_run(list, answer);
 }
 
-fn answer_to(setup: Setup, blocks: Digits, bytes: &[u8], list: &mut [u8]) -> Answer
+fn report_to(setup: Setup, blocks: Digits, bytes: &[u8], list: &mut [u8]) -> Report
     ensures { λ r. ⌜ Owes setup (now (bytes .entry)) (budgetBy blocks) (now (list .entry)) (now (list .exit)) r ⌝ }
 {
     match blocks {

@@ -23,8 +23,8 @@ use Rattle.programs.specs.Openings.{Table, table}
 use Rattle.programs.specs.Openings as Openings
 use Rattle.runs.specs.declared.Budget.{Budget}
 use Rattle.runs.specs.declared.Budget.the-variants.{Whole, First}
-use Rattle.runs.specs.Walk.{Job, Going, How, ended, returned, unfinished, refusedAt, Outcome}
-use Rattle.runs.specs.Run.{nowhere, outcome, recordsOf, answerBy, answerOf}
+use Rattle.runs.specs.Walk.{Job, Going, How, ended, returned, unfinished, refusedAt, Outcome, nowhere}
+use Rattle.runs.specs.Run.{outcome, recordsOf, answerBy, answerOf}
 use Rattle.claims.specs.Blockwise.{
   Turn,
   refuses,
@@ -36,6 +36,7 @@ use Rattle.claims.specs.Blockwise.{
   turnedUnless,
   oneMore,
   more,
+  recordsBy,
   howSofar,
   outcomeSofar,
   tableIn,
@@ -145,15 +146,15 @@ answered-by budget made rs o (atRefusal r place) f e =
 
 answered-at :
     (s : Setup) (bytes : List ℕ) (room : ℕ) (budget : Budget) (x : Sofar)
-    → outcome s bytes room budget ≡ outcomeSofar x → Close (x .over) → ((x .over ≡ none) → (n : ℕ) × (budget ≡ First n))
+    → outcome s bytes room budget ≡ outcomeSofar (jobFor s bytes) x → Close (x .over) → ((x .over ≡ none) → (n : ℕ) × (budget ≡ First n))
     → Answered budget (recordsOf s bytes room budget) (answerOf s bytes room budget)
 unfolding answerOf recordsOf outcomeSofar
 answered-at s bytes room budget x e c f =
     subst
     (λ (o : Outcome). Answered budget (map (recordMoved (offset s)) (o .made)) (answerBy (o .how) (length (o .made))))
     (sym e)
-    (answered-by budget (outcomeSofar x .made) (map (recordMoved (offset s)) (outcomeSofar x .made)) (x .over) c f
-    (length-map (outcomeSofar x .made) (recordMoved (offset s))))
+    (answered-by budget (recordsBy (x .executed)) (map (recordMoved (offset s)) (recordsBy (x .executed))) (x .over) c f
+    (length-map (recordsBy (x .executed)) (recordMoved (offset s))))
 
 -- "Each program, setup and list buffer gets a finished list or one of sixteen numbered refusals with its place"
 pub every-input-answered :

@@ -29,6 +29,7 @@ use Rattle.runs.specs.Walk.{
   refusedAt,
   Outcome,
   just,
+  spentAt,
   isSpent,
   oneLess,
   after,
@@ -62,13 +63,14 @@ use Rattle.claims.specs.Blockwise.{
   turnUnless,
   turnIn,
   turnAt,
+  placeAhead,
 }
 use Rattle.claims.proofs.Verdicts.{call-has-level, main-does-not-return}
 
 -- ---- a program that returns goes on in the one that called it
 
 unfoldable pub bound : Outcome → (Going → Outcome) → Outcome
-bound o rest = after (o .made) (thenRest (o .how) rest)
+bound o rest = after (o .made) (thenRest (o .how) (o .last) (o .next) rest)
 
 abbrev pub program : Job → ℕ → List Block → Going → Outcome
 program job left = walk job left (callees job left)
@@ -102,33 +104,35 @@ unwound-after job left (rest ∷ callers) made o =
 -- ---- a run that is over is over in every caller
 
 unwound-over :
-    (job : Job) (left : ℕ) (callers : List (List Block)) (how : How)
-    → ((rest : Going → Outcome) → thenRest how rest ≡ just how) → unwound job left callers (just how) ≡ just how
-unfolding unwound bound after
-unwound-over job left [] how h = refl
-unwound-over job left (rest ∷ callers) how h = h (λ g. unwound job (suc left) callers (program job (suc left) rest g))
+    (job : Job) (left : ℕ) (callers : List (List Block)) (o : Outcome)
+    → ((rest : Going → Outcome) → bound o rest ≡ o) → unwound job left callers o ≡ o
+unfolding unwound
+unwound-over job left [] o h = refl
+unwound-over job left (rest ∷ callers) o h = h (λ g. unwound job (suc left) callers (program job (suc left) rest g))
 
-over-refused : (refusal : Refusal) (place : Place) (rest : Going → Outcome) → thenRest (refusedAt refusal place) rest ≡ just (refusedAt refusal place)
-unfolding thenRest
-over-refused refusal place rest = refl
+module _ (job : Job) (left : ℕ) (callers : List (List Block)) (s : State) where
+  over-refused :
+      (refusal : Refusal) (place : Place)
+      → unwound job left callers (just (refusedAt refusal place) s) ≡ just (refusedAt refusal place) s
+  unfolding bound after thenRest
+  over-refused refusal place = unwound-over job left callers (just (refusedAt refusal place) s) (λ rest. refl)
 
-over-ended : (rest : Going → Outcome) → thenRest ended rest ≡ just ended
-unfolding thenRest
-over-ended rest = refl
+  over-ended : unwound job left callers (just ended s) ≡ just ended s
+  unfolding bound after thenRest
+  over-ended = unwound-over job left callers (just ended s) (λ rest. refl)
 
-over-unfinished : (rest : Going → Outcome) → thenRest unfinished rest ≡ just unfinished
-unfolding thenRest
-over-unfinished rest = refl
+  over-spent : (next : Place) → unwound job left callers (spentAt s next) ≡ spentAt s next
+  unfolding bound after thenRest
+  over-spent next = unwound-over job left callers (spentAt s next) (λ rest. refl)
 
-unwound-rest :
-    (job : Job) (left : ℕ) (callers : List (List Block)) (how : How) (rest : Going → Outcome)
-    → unwound job left callers (thenRest how rest) ≡ thenRest how (λ g. unwound job left callers (rest g))
-unfolding thenRest
-unwound-rest job left callers ended rest = unwound-over job left callers ended over-ended
-unwound-rest job left callers (returned g) rest = refl
-unwound-rest job left callers unfinished rest = unwound-over job left callers unfinished over-unfinished
-unwound-rest job left callers (refusedAt refusal place) rest =
-    unwound-over job left callers (refusedAt refusal place) (over-refused refusal place)
+  unwound-rest :
+      (how : How) (next : Place) (rest : Going → Outcome)
+      → unwound job left callers (thenRest how s next rest) ≡ thenRest how s next (λ g. unwound job left callers (rest g))
+  unfolding thenRest
+  unwound-rest ended next rest = over-ended
+  unwound-rest (returned g) next rest = refl
+  unwound-rest unfinished next rest = over-spent next
+  unwound-rest (refusedAt refusal place) next rest = over-refused refusal place
 
 -- a call, and the block after it
 unwound-call :
@@ -136,16 +140,16 @@ unwound-call :
     → unwound job (suc left) callers (bound o (program job (suc left) bs)) ≡ unwound job left (bs ∷ callers) o
 unfolding unwound bound
 unwound-call job left callers o bs =
-    unwound-after job (suc left) callers (o .made) (thenRest (o .how) (program job (suc left) bs))
-    ∙ ap (after (o .made)) (unwound-rest job (suc left) callers (o .how) (program job (suc left) bs))
+    unwound-after job (suc left) callers (o .made) (thenRest (o .how) (o .last) (o .next) (program job (suc left) bs))
+    ∙ ap (after (o .made)) (unwound-rest job (suc left) callers (o .last) (o .how) (o .next) (program job (suc left) bs))
 
 -- ---- one block
 
--- what the rules give after the next block
-unfoldable pub onward : Job → Budget → Turn → Outcome
-onward job budget (refuses refusal place) = just (refusedAt refusal place)
-onward job budget (goes d st) = after (d .made) (whole job st (oneLess budget))
-onward job budget (ends d st) = after (d .made) (just ended)
+-- what the rules give after the next block, which a run reaches with these settings
+unfoldable pub onward : Job → State → Budget → Turn → Outcome
+onward job s budget (refuses refusal place) = just (refusedAt refusal place) s
+onward job s budget (goes d st) = after (d .made) (whole job st (oneLess budget))
+onward job s budget (ends d st) = after (d .made) (just ended (st .state))
 
 -- the main has four levels left, and each caller one more
 pub record Placed (st : Stand) : Type 0 where
@@ -172,13 +176,14 @@ call-leads job (suc left) callers bs n s room budget e =
     ∙ ap (λ (l : ℕ). unwound job l (bs ∷ callers) (program job l blocks g)) (one-down left)
 
 back-leads :
-    (job : Job) (left : ℕ) (callers : List (List Block)) (bs : List Block) (s : State) (room : ℕ) (budget : Budget) (d : BlockDone)
+    (job : Job) (left : ℕ) (callers : List (List Block)) (bs : List Block) (s was : State) (room : ℕ) (budget : Budget)
+    (d : BlockDone)
     → ((callers ≡ []) → ⊥)
-    → after (d .made) (unwound job left callers (just (returned (record { state = s; room = room; budget = oneLess budget }))))
-    ≡ onward job budget (returning callers (stand s room left bs callers) d)
+    → after (d .made) (unwound job left callers (just (returned (record { state = s; room = room; budget = oneLess budget })) s))
+    ≡ onward job was budget (returning callers (stand s room left bs callers) d)
 unfolding unwound bound after thenRest returning onward whole going
-back-leads job left [] bs s room budget d h = absurd (h refl)
-back-leads job left (rest ∷ callers) bs s room budget d h = refl
+back-leads job left [] bs s was room budget d h = absurd (h refl)
+back-leads job left (rest ∷ callers) bs s was room budget d h = refl
 
 pub calls-below : (job : Job) (st : Stand) (b : Block) (n : ℕ) (s : State) (made : List Record)
     → verdictIn job st b ≡ accepted s (Call n) made → eqb (st .left) 0 ≡ false
@@ -202,27 +207,26 @@ accepted-leads :
     → after made
     (unwound job (st .left) (st .callers)
     (follow control (callees job (st .left)) (program job (st .left) bs) (goingOn (going st budget) s made)))
-    ≡ onward job budget (led control job (past st bs s made) (record { block = b; from = st .state .at; made = made }))
+    ≡ onward job (st .state) budget (led control job (past st bs s made) (record { block = b; from = st .state .at; made = made }))
 unfolding goingOn going past led onward follow whole
 accepted-leads job st b bs budget s On made p e = refl
 accepted-leads job st b bs budget s (Call n) made p e =
     ap (after made)
     (call-leads job (st .left) (st .callers) bs n s (st .room - roomOf made) (oneLess budget) (calls-below job st b n s made e))
 accepted-leads job st b bs budget s Back made p e =
-    back-leads job (st .left) (st .callers) bs s (st .room - roomOf made) budget
+    back-leads job (st .left) (st .callers) bs s (st .state) (st .room - roomOf made) budget
     (record { block = b; from = st .state .at; made = made }) (returns-to job st b s made p e)
-accepted-leads job st b bs budget s Stop made p e = ap (after made) (unwound-over job (st .left) (st .callers) ended over-ended)
+accepted-leads job st b bs budget s Stop made p e = ap (after made) (over-ended job (st .left) (st .callers) s)
 
 -- a verdict
 obeyed :
     (job : Job) (st : Stand) (b : Block) (bs : List Block) (budget : Budget) (v : Verdict)
     → Placed st → verdictIn job st b ≡ v
     → unwound job (st .left) (st .callers) (obey v b (callees job (st .left)) (program job (st .left) bs) (going st budget))
-    ≡ onward job budget (turnBy v job st b bs)
-unfolding obey turnBy onward
+    ≡ onward job (st .state) budget (turnBy v job st b bs)
+unfolding obey turnBy onward going
 obeyed job st b bs budget (refused blame) p e =
-    let place : Place = record { block = b .number; byte = blame .byte } in
-    unwound-over job (st .left) (st .callers) (refusedAt (blame .refusal) place) (over-refused (blame .refusal) place)
+    over-refused job (st .left) (st .callers) (st .state) (blame .refusal) (record { block = b .number; byte = blame .byte })
 obeyed job st b bs budget (accepted s control made) p e =
     unwound-after job (st .left) (st .callers) made
     (follow control (callees job (st .left)) (program job (st .left) bs) (goingOn (going st budget) s made))
@@ -234,7 +238,7 @@ ran :
     → Placed st
     → unwound job (st .left) (st .callers)
     (runBlock skips job (st .left) (callees job (st .left)) b (program job (st .left) bs) (going st budget))
-    ≡ onward job budget (turnUnder skips job st b bs)
+    ≡ onward job (st .state) budget (turnUnder skips job st b bs)
 unfolding runBlock turnUnder onward past goingOn going whole after verdictIn verdictOn
 ran true job st b bs budget p = refl
 ran false job st b bs budget p = obeyed job st b bs budget (verdictIn job st b) p refl
@@ -246,33 +250,36 @@ reaches :
     → unwound job (st .left) (st .callers)
     (reached false closed (placeOf b)
     (runBlock (isSkipped job b) job (st .left) (callees job (st .left)) b (program job (st .left) bs)) (going st budget))
-    ≡ onward job budget (turnUnless closed job st b bs)
-unfolding reached turnUnless onward
-reaches true job st b bs budget p = unwound-over job (st .left) (st .callers) (refusedAt NoEnd (placeOf b)) (over-refused NoEnd (placeOf b))
+    ≡ onward job (st .state) budget (turnUnless closed job st b bs)
+unfolding reached turnUnless onward going
+reaches true job st b bs budget p = over-refused job (st .left) (st .callers) (st .state) NoEnd (placeOf b)
 reaches false job st b bs budget p = ran (isSkipped job b) job st b bs budget p
 
 from-here :
     (job : Job) (ahead : List Block) (st : Stand) (budget : Budget)
     → Placed st → isSpent budget ≡ false
-    → unwound job (st .left) (st .callers) (program job (st .left) ahead (going st budget)) ≡ onward job budget (turnIn ahead job st)
+    → unwound job (st .left) (st .callers) (program job (st .left) ahead (going st budget)) ≡ onward job (st .state) budget (turnIn ahead job st)
 unfolding walk reached turnIn onward going
 from-here job [] st budget p e =
-    rw e (unwound-over job (st .left) (st .callers) (refusedAt NoEnd (job .finish)) (over-refused NoEnd (job .finish)))
+    rw e (over-refused job (st .left) (st .callers) (st .state) NoEnd (job .finish))
 from-here job (b ∷ bs) st budget p e = rw e (reaches (opens b || closes b) job st b bs budget p)
 
 pub one-block :
     (job : Job) (st : Stand) (budget : Budget) → Placed st → isSpent budget ≡ false
-    → whole job st budget ≡ onward job budget (turnAt job st)
+    → whole job st budget ≡ onward job (st .state) budget (turnAt job st)
 unfolding whole turnAt
 one-block job st budget p e = from-here job (st .ahead) st budget p e
 
 spent-here :
     (job : Job) (ahead : List Block) (st : Stand) (budget : Budget) → isSpent budget ≡ true
-    → unwound job (st .left) (st .callers) (program job (st .left) ahead (going st budget)) ≡ just unfinished
-unfolding walk reached going
-spent-here job [] st budget e = rw e (unwound-over job (st .left) (st .callers) unfinished over-unfinished)
-spent-here job (b ∷ bs) st budget e = rw e (unwound-over job (st .left) (st .callers) unfinished over-unfinished)
+    → unwound job (st .left) (st .callers) (program job (st .left) ahead (going st budget))
+    ≡ spentAt (st .state) (placeAhead ahead (job .finish))
+unfolding walk reached going placeAhead
+spent-here job [] st budget e = rw e (over-spent job (st .left) (st .callers) (st .state) (job .finish))
+spent-here job (b ∷ bs) st budget e = rw e (over-spent job (st .left) (st .callers) (st .state) (placeOf b))
 
-pub spent : (job : Job) (st : Stand) (budget : Budget) → isSpent budget ≡ true → whole job st budget ≡ just unfinished
+pub spent :
+    (job : Job) (st : Stand) (budget : Budget) → isSpent budget ≡ true
+    → whole job st budget ≡ spentAt (st .state) (placeAhead (st .ahead) (job .finish))
 unfolding whole
 spent job st budget e = spent-here job (st .ahead) st budget e

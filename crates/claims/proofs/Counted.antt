@@ -6,10 +6,12 @@ use mathlib.Core.Option.{none, some}
 use mathlib.Core.List.{List, [], _∷_, _++_, append-assoc, append-nil}
 use native.Mathlib.Omega.{arith}
 use borrow.Author.Tests.{ne-eqb}
+use Rattle.refusals.specs.declared.Place.{Place}
 use Rattle.records.specs.declared.Record.{Record}
+use Rattle.settings.specs.declared.State.{State}
 use Rattle.runs.specs.declared.Budget.{Budget}
 use Rattle.runs.specs.declared.Budget.the-variants.{Whole, First}
-use Rattle.runs.specs.Walk.{Job, How, ended, unfinished, refusedAt, Outcome, just, isSpent, oneLess, after}
+use Rattle.runs.specs.Walk.{Job, How, ended, unfinished, refusedAt, Outcome, nowhere, just, isSpent, oneLess, after}
 use Rattle.claims.specs.Blockwise.{
   BlockDone,
   Stand,
@@ -25,6 +27,8 @@ use Rattle.claims.specs.Blockwise.{
   more,
   recordsBy,
   howSofar,
+  placeAhead,
+  nextSofar,
   outcomeSofar,
 }
 use Rattle.claims.proofs.Blockwise.{Placed, whole, onward, one-block, spent, one-down}
@@ -38,12 +42,16 @@ records-last (e ∷ ds) d = ap (e .made ++_) (records-last ds d) ∙ sym (append
 abbrev pub during : List BlockDone → Stand → Sofar
 during ds st = record { executed = ds; stand = st; over = none }
 
-after-just : (made : List Record) (how : How) → after made (just how) ≡ record { how = how; made = made }
+after-none :
+    (made : List Record) (how : How) (s : State) (next : Place)
+    → after made (record { how = how; made = []; last = s; next = next }) ≡ record { how = how; made = made; last = s; next = next }
 unfolding after
-after-just made how = rw append-nil
+after-none made how s next = rw append-nil
 
-over-now : (job : Job) (n : ℕ) (x : Sofar) (how : How) → x .over ≡ some how → outcomeSofar (more job n x) ≡ record { how = how; made = recordsBy (x .executed) }
-unfolding outcomeSofar howSofar
+over-now :
+    (job : Job) (n : ℕ) (x : Sofar) (how : How) → x .over ≡ some how
+    → outcomeSofar job (more job n x) ≡ record { how = how; made = recordsBy (x .executed); last = x .stand .state; next = nowhere }
+unfolding outcomeSofar howSofar nextSofar
 over-now job n x how e = rw (more-over job n x how e) (rw e)
 
 after-done :
@@ -55,24 +63,24 @@ after-done ds d o = rw (records-last ds d, append-assoc)
 module _ (C : Sofar → Type 0) (job : Job) (budget : Budget) (n : ℕ)
     (rest :
     (ds : List BlockDone) (st : Stand) → Placed st → C (more job n (during ds st))
-    → after (recordsBy ds) (whole job st (oneLess budget)) ≡ outcomeSofar (more job n (during ds st)))
+    → after (recordsBy ds) (whole job st (oneLess budget)) ≡ outcomeSofar job (more job n (during ds st)))
   where
     past-turn :
         (ds : List BlockDone) (st : Stand) (t : Turn) → Onto Placed t → C (more job n (afterTurn (during ds st) t))
-        → after (recordsBy ds) (onward job budget t) ≡ outcomeSofar (more job n (afterTurn (during ds st) t))
+        → after (recordsBy ds) (onward job (st .state) budget t) ≡ outcomeSofar job (more job n (afterTurn (during ds st) t))
     unfolding onward afterTurn Onto
     past-turn ds st (refuses refusal place) p c =
-        after-just (recordsBy ds) (refusedAt refusal place)
+        after-none (recordsBy ds) (refusedAt refusal place) (st .state) nowhere
         ∙ sym (over-now job n (afterTurn (during ds st) (refuses refusal place)) (refusedAt refusal place) refl)
     past-turn ds st (goes d st′) p c = after-done ds d (whole job st′ (oneLess budget)) ∙ rest (ds ++ d ∷ []) st′ p c
     past-turn ds st (ends d st′) p c =
-        after-done ds d (just ended)
-        ∙ after-just (recordsBy (ds ++ d ∷ [])) ended
+        after-done ds d (just ended (st′ .state))
+        ∙ after-none (recordsBy (ds ++ d ∷ [])) ended (st′ .state) nowhere
         ∙ sym (over-now job n (afterTurn (during ds st) (ends d st′)) ended refl)
 
     pub past-block :
         (ds : List BlockDone) (st : Stand) → isSpent budget ≡ false → Placed st → C (more job (suc n) (during ds st))
-        → after (recordsBy ds) (whole job st budget) ≡ outcomeSofar (more job (suc n) (during ds st))
+        → after (recordsBy ds) (whole job st budget) ≡ outcomeSofar job (more job (suc n) (during ds st))
     unfolding more oneMore turnedUnless
     past-block ds st e p c =
         ap (after (recordsBy ds)) (one-block job st budget p e)
@@ -81,10 +89,11 @@ module _ (C : Sofar → Type 0) (job : Job) (budget : Budget) (n : ℕ)
 -- the first n executed blocks
 pub counted :
     (job : Job) (n : ℕ) (ds : List BlockDone) (st : Stand) → Placed st
-    → after (recordsBy ds) (whole job st (First n)) ≡ outcomeSofar (more job n (during ds st))
-unfolding isSpent oneLess more outcomeSofar howSofar
+    → after (recordsBy ds) (whole job st (First n)) ≡ outcomeSofar job (more job n (during ds st))
+unfolding isSpent oneLess more outcomeSofar howSofar nextSofar
 counted job zero ds st p =
-    ap (after (recordsBy ds)) (spent job st (First zero) refl) ∙ after-just (recordsBy ds) unfinished
+    ap (after (recordsBy ds)) (spent job st (First zero) refl)
+    ∙ after-none (recordsBy ds) unfinished (st .state) (placeAhead (st .ahead) (job .finish))
 counted job (suc n) ds st p =
     past-block (λ x. Unit {0}) job (First (suc n)) n
     (λ ds′ st′ p′ c. ap (λ (k : ℕ). after (recordsBy ds′) (whole job st′ (First k))) (sym (one-down n)) ∙ counted job n ds′ st′ p′)
@@ -96,7 +105,7 @@ Over x = (how : How) × (x .over ≡ some how)
 
 pub counted-whole :
     (job : Job) (n : ℕ) (ds : List BlockDone) (st : Stand) → Placed st → Over (more job n (during ds st))
-    → after (recordsBy ds) (whole job st Whole) ≡ outcomeSofar (more job n (during ds st))
+    → after (recordsBy ds) (whole job st Whole) ≡ outcomeSofar job (more job n (during ds st))
 unfolding isSpent oneLess more
 counted-whole job zero ds st p c = let e = c .1 in let z : _≡_ {A = ℕ} 0 1 = cc in absurd (omega arith)
 counted-whole job (suc n) ds st p c =

@@ -26,7 +26,7 @@ use Rattle.setup.proofs.Valid as Valid
 use Rattle.records.specs.declared.Record.{Record}
 use Rattle.records.specs.Path.{endOf, pathStaysIn, recordMoved}
 use Rattle.settings.specs.declared.State.{State}
-use Rattle.settings.specs.Settings.{firstState}
+use Rattle.settings.specs.Settings.{firstState, stateMoved}
 use Rattle.blocks.specs.Machine.{machineOf}
 use Rattle.blocks.specs.Reach.{Reachable}
 use Rattle.lines.specs.Blocks.{Block, blocksOf}
@@ -35,19 +35,19 @@ use Rattle.programs.specs.Openings as Openings
 use Rattle.runs.specs.declared.Budget.{Budget}
 use Rattle.runs.specs.declared.Budget.the-variants.{Whole, First}
 use Rattle.refusals.specs.declared.Answer.the-variants.{Done}
-use Rattle.runs.specs.Walk.{How, ended, refusedAt, Outcome}
-use Rattle.runs.specs.Run.{firstOf, finishOf, nowhere, outcome, recordsOf, answerBy, answerOf}
-use Rattle.claims.specs.Blockwise.{BlockDone, refuses, turnAt, Sofar, afterTurn, oneMore, more, recordsBy, howSofar, outcomeSofar, tableIn, subsOf, jobFor, standAt, refusedAtOnce, begunBy, begun, firstBlocks}
+use Rattle.runs.specs.Walk.{How, ended, refusedAt, Outcome, nowhere}
+use Rattle.runs.specs.Run.{firstOf, finishOf, outcome, recordsOf, answerBy, answerOf, standingOf}
+use Rattle.claims.specs.Blockwise.{BlockDone, refuses, turnAt, Sofar, afterTurn, oneMore, more, recordsBy, howSofar, nextSofar, outcomeSofar, tableIn, subsOf, jobFor, standAt, refusedAtOnce, begunBy, begun, firstBlocks}
 use Rattle.claims.specs.Travel.{inTravel}
-use Rattle.claims.specs.Displaced.{displaced, allMoved, stayIn, LeavesFirst}
+use Rattle.claims.specs.Displaced.{displaced, allMoved, standingMoved, stayIn, LeavesFirst}
 use Rattle.claims.proofs.Turns.{open-turn, more-over}
 use Rattle.claims.proofs.Counted.{records-last, Over}
 use Rattle.claims.proofs.Paths.{stays-both}
-use Rattle.claims.proofs.Displacing.{records-twice}
+use Rattle.claims.proofs.Displacing.{state-twice, records-twice}
 use Rattle.claims.proofs.Runs.{first-n, sufficient, some-n, first-reached, begun-with}
 use Rattle.claims.proofs.Travel.{Stayed, run-stayed, begun-stayed, same-start, same-stays}
 use Rattle.claims.proofs.Answers.{Close, under, atEnd, atRefusal, run-close, over-finished}
-use Rattle.claims.proofs.Stepping.{one-later, Allows, allowed}
+use Rattle.claims.proofs.Stepping.{one-later, last-first, Allows, allowed}
 use Rattle.claims.proofs.Compared.{Compared, same, parts, compared}
 
 -- ---- the two setups in the frame
@@ -107,6 +107,10 @@ module _ (by : Axes) (s : Setup) where
   unfolding offset moved
   moved-records rs = records-twice (offset s) (pointOf by) rs
 
+  moved-settings : (q : State) → stateMoved (pointOf by) (stateMoved (offset s) q) ≡ stateMoved (offset t) q
+  unfolding offset moved
+  moved-settings q = state-twice (offset s) (pointOf by) q
+
   -- and stay in the travel as they do in the frame
   moved-stays :
       (rs : List Record)
@@ -129,7 +133,7 @@ done-ended o k count (atRefusal r place) e = let z : _≡_ {A = ℕ} 0 1 = cc in
 record Decided (s : Setup) (bytes : List ℕ) (room : ℕ) (budget : Budget) : Type 0 where
   blocks : ℕ
   allows : Allows blocks budget
-  gives : outcome s bytes room budget ≡ outcomeSofar (firstBlocks s bytes room blocks)
+  gives : outcome s bytes room budget ≡ outcomeSofar (jobFor s bytes) (firstBlocks s bytes room blocks)
 
 decided : (s : Setup) (bytes : List ℕ) (room : ℕ) (budget : Budget) → Decided s bytes room budget
 decided s bytes room Whole =
@@ -170,7 +174,7 @@ module _ (by : Axes) (s : Setup) (bytes : List ℕ) (room : ℕ)
     -- where so many blocks, which are not more, bring the second setup's run to its end or to a refusal, they give its outcome
     second-gives :
         (m : ℕ) → m ≤ n → Over (firstBlocks second bytes room m)
-        → outcome second bytes room budget ≡ outcomeSofar (firstBlocks second bytes room m)
+        → outcome second bytes room budget ≡ outcomeSofar (jobFor second bytes) (firstBlocks second bytes room m)
     unfolding outcomeSofar
     second-gives m few over =
         allowed second bytes room m budget (fewer-allowed budget m n few (run .allows))
@@ -283,9 +287,10 @@ module _ (by : Axes) (s : Setup) (bytes : List ℕ) (room : ℕ)
     -- ---- where both run alike
 
     outcome-same : firstBlocks second bytes room n ≡ firstBlocks s bytes room n → outcome second bytes room budget ≡ outcome s bytes room budget
+    unfolding outcomeSofar jobFor
     outcome-same e =
         let there : Over (firstBlocks second bytes room n) = (ended, ap (λ (x : Sofar). x .over) e ∙ is-ended) in
-        second-gives n (omega arith) there ∙ ap outcomeSofar e ∙ sym (run .gives)
+        second-gives n (omega arith) there ∙ ap (outcomeSofar (jobFor s bytes)) e ∙ sym (run .gives)
 
     -- ---- where they part
 
@@ -330,18 +335,29 @@ module _ (by : Axes) (s : Setup) (bytes : List ℕ) (room : ℕ)
 
       second-outcome :
           outcome second bytes room budget
-          ≡ record { how = refusedAt LeavesTravel (placeOf (p .block .block)); made = outcome s bytes room (First (p .before)) .made }
-      unfolding outcomeSofar howSofar afterTurn
+          ≡ record {
+            how = refusedAt LeavesTravel (placeOf (p .block .block));
+            made = outcome s bytes room (First (p .before)) .made;
+            last = outcome s bytes room (First (p .before)) .last;
+            next = nowhere;
+          }
+      unfolding outcomeSofar howSofar nextSofar afterTurn
       second-outcome =
           let place : Place = placeOf (p .block .block) in
           let there : Over (firstBlocks second bytes room (suc (p .before))) =
           (refusedAt LeavesTravel place, ap (λ (x : Sofar). x .over) second-refused) in
           second-gives (suc (p .before)) (omega (arith, p .within)) there
-          ∙ ap outcomeSofar second-refused
-          ∙ ap (λ (rs : List Record). record { how = refusedAt LeavesTravel place; made = rs }) (sym (first-made (p .before)))
+          ∙ ap (outcomeSofar (jobFor second bytes)) second-refused
+          ∙ (λ i.
+          record {
+            how = refusedAt LeavesTravel place;
+            made = sym (first-made (p .before)) i;
+            last = sym (last-first s bytes room (p .before)) i;
+            next = nowhere;
+          })
 
       leaves-first : LeavesFirst by s bytes room budget
-      unfolding answerOf recordsOf answerBy
+      unfolding answerOf recordsOf answerBy standingOf
       leaves-first =
           let made : List Record = outcome s bytes room (First (p .before)) .made in
           record {
@@ -356,27 +372,37 @@ module _ (by : Axes) (s : Setup) (bytes : List ℕ) (room : ℕ)
                 ∙ ap (refusedWith (numberOf LeavesTravel) (placeOf (p .block .block))) (sym (length-map made (recordMoved (offset s))));
             records =
                 ap (λ (o : Outcome). map (recordMoved (offset second)) (o .made)) second-outcome ∙ sym (moved-records by s made);
+            standing =
+                ap (λ (o : Outcome). record { state = stateMoved (offset second) (o .last); next = o .next }) second-outcome
+                ∙ ap (λ (q : State). record { state = q; next = nowhere })
+                (sym (moved-settings by s (outcome s bytes room (First (p .before)) .last)));
           }
 
     -- ---- the two halves, for every budget with which the program ends under the first
 
     -- "If a program ends under the first, and its whole path, so displaced, stays in the travel as document 01 measures it, it
-    -- ends under the second with the same records, all points and arc centres displaced and every other number equal."
+    -- ends under the second with the same records, all points and arc centres displaced and every other number equal." It stands
+    -- there with the same settings, their point displaced.
     pub moves-the-cut :
         stayIn (displaced by s) (allMoved by (recordsOf s bytes room budget)) ≡ true
         → (answerOf (displaced by s) bytes room budget ≡ Done count)
         × (recordsOf (displaced by s) bytes room budget ≡ allMoved by (recordsOf s bytes room budget))
-    unfolding answerOf recordsOf
+        × (standingOf (displaced by s) bytes room budget ≡ standingMoved by (standingOf s bytes room budget))
+    unfolding answerOf recordsOf standingOf
     moves-the-cut stay = go either
       where
         go :
             Either
             → (answerOf (displaced by s) bytes room budget ≡ Done count)
             × (recordsOf (displaced by s) bytes room budget ≡ allMoved by (recordsOf s bytes room budget))
+            × (standingOf (displaced by s) bytes room budget ≡ standingMoved by (standingOf s bytes room budget))
         go (asFirst e) = (
           ap (λ (o : Outcome). answerBy (o .how) (length (o .made))) (outcome-same e) ∙ done,
           ap (λ (o : Outcome). map (recordMoved (offset second)) (o .made)) (outcome-same e)
               ∙ sym (moved-records by s (outcome s bytes room budget .made)),
+          ap (λ (o : Outcome). record { state = stateMoved (offset second) (o .last); next = o .next }) (outcome-same e)
+              ∙ ap (λ (q : State). record { state = q; next = outcome s bytes room budget .next })
+              (sym (moved-settings by s (outcome s bytes room budget .last))),
         )
         go (leaving p) = absurd (false≢true (sym (all-stays ∙ all-leave p) ∙ stay))
 

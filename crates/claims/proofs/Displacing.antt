@@ -21,7 +21,9 @@ use Rattle.points.specs.Points.{moved, movedBack, flat, inside}
 use Rattle.records.specs.declared.Arc.{Arc}
 use Rattle.records.specs.declared.Record.{Record}
 use Rattle.records.specs.declared.Record.the-variants.{RP, LN, AR, AL, DW, SP, SO, PA, EN}
-use Rattle.records.specs.Path.{pathOf, pathEnd, pathStaysIn, arcMoved, recordMoved}
+use Rattle.records.specs.Path.{pathOf, pathEnd, endOf, pathStaysIn, arcMoved, recordMoved}
+use Rattle.settings.specs.declared.State.{State}
+use Rattle.settings.specs.Settings.{stateMoved}
 use Rattle.arcs.specs.Turning.{direction, onLeftWay}
 use Rattle.arcs.specs.Arcs.{
   distance²,
@@ -225,7 +227,20 @@ paths-same by t from (r ∷ rs) =
     (end-moved by from r)
     ∙ paths-same by t (pathEnd from (pathOf r)) rs)
 
--- ---- records displaced twice
+-- where a displaced list ends
+pub ends-moved : (by from : Point) (rs : List Record) → endOf (moved by from) (map (recordMoved by) rs) ≡ moved by (endOf from rs)
+unfolding endOf
+ends-moved by from [] = refl
+ends-moved by from (r ∷ rs) =
+    ap (λ (p : Point). endOf p (map (recordMoved by) rs)) (end-moved by from r) ∙ ends-moved by (pathEnd from (pathOf r)) rs
+
+-- ---- settings and records displaced twice
+
+pub state-twice : (a b : Point) (s : State) → stateMoved b (stateMoved a s) ≡ stateMoved (moved b a) s
+unfolding stateMoved
+state-twice a b s =
+    ap (λ (p : Point). record { at = p; modes = s .modes; feed = s .feed; speed = s .speed; turning = s .turning })
+    (moved-twice a b (s .at))
 
 arc-twice : (a b : Point) (arc : Arc) → arcMoved b (arcMoved a arc) ≡ arcMoved (moved b a) arc
 unfolding arcMoved

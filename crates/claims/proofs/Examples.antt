@@ -9,8 +9,8 @@ use Rattle.setup.specs.Limits.{validSetup}
 use Rattle.runs.specs.Examples.{roomT}
 use Rattle.refusals.specs.declared.Answer.the-variants.{Done}
 use Rattle.runs.specs.declared.Budget.the-variants.{Whole, First}
-use Rattle.runs.specs.Run.{recordsOf, answerOf}
-use Rattle.claims.specs.Displaced.{displaced, allMoved, stayIn, LeavesFirst}
+use Rattle.runs.specs.Run.{recordsOf, answerOf, standingOf}
+use Rattle.claims.specs.Displaced.{displaced, allMoved, standingMoved, stayIn, LeavesFirst}
 use Rattle.claims.specs.Examples.{turn, touching, leaving, rapid, turnRecords}
 use Rattle.claims.proofs.Opened.{opened}
 use Rattle.claims.proofs.Displaced.{moves-the-cut, refuses-for-travel}
@@ -50,6 +50,7 @@ touching-records = refl
 pub touching-moved :
     (answerOf (displaced touching setupT) turn roomT Whole ≡ Done 3)
     × (recordsOf (displaced touching setupT) turn roomT Whole ≡ allMoved touching (recordsOf setupT turn roomT Whole))
+    × (standingOf (displaced touching setupT) turn roomT Whole ≡ standingMoved touching (standingOf setupT turn roomT Whole))
 touching-moved = moves-the-cut touching setupT turn roomT valid-first valid-touching refl Whole 3 turn-done path-touches
 
 -- ---- one unit more
@@ -93,6 +94,7 @@ three-leave = refl
 pub three-moved :
     (answerOf (displaced touching setupT) turn roomT (First 3) ≡ Done 3)
     × (recordsOf (displaced touching setupT) turn roomT (First 3) ≡ allMoved touching (recordsOf setupT turn roomT (First 3)))
+    × (standingOf (displaced touching setupT) turn roomT (First 3) ≡ standingMoved touching (standingOf setupT turn roomT (First 3)))
 three-moved = moves-the-cut touching setupT turn roomT valid-first valid-touching refl (First 3) 3 three-done three-touch
 
 pub three-first : LeavesFirst leaving setupT turn roomT (First 3)

@@ -23,9 +23,9 @@ use Rattle.programs.specs.Openings.{Table, table, programsFrom, blocksAt}
 use Rattle.programs.specs.Openings as Openings
 use Rattle.runs.specs.declared.Budget.{Budget}
 use Rattle.runs.specs.declared.Budget.the-variants.{Whole, First}
-use Rattle.runs.specs.Walk.{Job, refusedAt, just, after}
-use Rattle.runs.specs.Run.{firstOf, finishOf, nowhere, runTable, runBlocks, outcome}
-use Rattle.claims.specs.Blockwise.{BlockDone, Sofar, more, recordsBy, howSofar, outcomeSofar, tableIn, subsOf, jobFor, standAt, refusedAtOnce, begunBy, begun, firstBlocks}
+use Rattle.runs.specs.Walk.{Job, refusedAt, nowhere, just, after}
+use Rattle.runs.specs.Run.{firstOf, finishOf, runTable, runBlocks, outcome}
+use Rattle.claims.specs.Blockwise.{BlockDone, Sofar, more, recordsBy, howSofar, nextSofar, outcomeSofar, tableIn, subsOf, jobFor, standAt, refusedAtOnce, begunBy, begun, firstBlocks}
 use Rattle.claims.proofs.Blockwise.{Placed, whole, unwound, going}
 use Rattle.claims.proofs.Turns.{more-over}
 use Rattle.claims.proofs.Counted.{Over, counted, counted-whole}
@@ -42,7 +42,7 @@ by-table s bytes room budget (b ∷ bs) = go (closes b)
     go :
         (t : Bool)
         → (if t then runTable s bytes (b ∷ bs) room budget (programsFrom b bs)
-        else just (refusedAt FirstBlock (record { block = 1; byte = 0 })))
+        else just (refusedAt FirstBlock (record { block = 1; byte = 0 })) (firstOf s))
         ≡ runTable s bytes (b ∷ bs) room budget
         (if t then programsFrom b bs else Openings.refusedAt FirstBlock (record { block = 1; byte = 0 }))
     go true = refl
@@ -60,10 +60,10 @@ jobBy s bytes bs t =
 
 -- what a run that was over at once gives, for every budget
 at-once : (s : Setup) (room : ℕ) (job : Job) (n : ℕ) (refusal : Refusal) (place : Place)
-    → just (refusedAt refusal place) ≡ outcomeSofar (more job n (refusedAtOnce s room refusal place))
-unfolding refusedAtOnce outcomeSofar howSofar recordsBy
+    → just (refusedAt refusal place) (firstOf s) ≡ outcomeSofar job (more job n (refusedAtOnce s room refusal place))
+unfolding refusedAtOnce standAt outcomeSofar howSofar nextSofar recordsBy
 at-once s room job n refusal place =
-    sym (ap outcomeSofar (more-over job n (refusedAtOnce s room refusal place) (refusedAt refusal place) refl))
+    sym (ap (outcomeSofar job) (more-over job n (refusedAtOnce s room refusal place) (refusedAt refusal place) refl))
 
 placed-main : (s : Setup) (room : ℕ) (blocks : List Block) → Placed (standAt s room blocks)
 unfolding standAt
@@ -71,7 +71,7 @@ placed-main s room blocks = record { four = refl }
 
 table-first :
     (s : Setup) (bytes : List ℕ) (bs : List Block) (room n : ℕ) (t : Table)
-    → runTable s bytes bs room (First n) t ≡ outcomeSofar (more (jobBy s bytes bs t) n (begunBy t s bs room))
+    → runTable s bytes bs room (First n) t ≡ outcomeSofar (jobBy s bytes bs t) (more (jobBy s bytes bs t) n (begunBy t s bs room))
 unfolding runTable begunBy subsOf standAt after recordsBy whole unwound going
 table-first s bytes bs room n (Openings.refusedAt refusal place) = at-once s room (jobBy s bytes bs (Openings.refusedAt refusal place)) n refusal place
 table-first s bytes bs room n (table main subs) =
@@ -80,7 +80,7 @@ table-first s bytes bs room n (table main subs) =
 table-whole :
     (s : Setup) (bytes : List ℕ) (bs : List Block) (room n : ℕ) (t : Table)
     → Over (more (jobBy s bytes bs t) n (begunBy t s bs room))
-    → runTable s bytes bs room Whole t ≡ outcomeSofar (more (jobBy s bytes bs t) n (begunBy t s bs room))
+    → runTable s bytes bs room Whole t ≡ outcomeSofar (jobBy s bytes bs t) (more (jobBy s bytes bs t) n (begunBy t s bs room))
 unfolding runTable begunBy subsOf standAt after recordsBy whole unwound going
 table-whole s bytes bs room n (Openings.refusedAt refusal place) o = at-once s room (jobBy s bytes bs (Openings.refusedAt refusal place)) n refusal place
 table-whole s bytes bs room n (table main subs) o =
@@ -96,16 +96,16 @@ table-finishes s bytes bs room (table main subs) =
     (f .blocks, f .over [])
 
 -- the first n executed blocks
-pub first-n : (s : Setup) (bytes : List ℕ) (room n : ℕ) → outcome s bytes room (First n) ≡ outcomeSofar (firstBlocks s bytes room n)
+pub first-n : (s : Setup) (bytes : List ℕ) (room n : ℕ) → outcome s bytes room (First n) ≡ outcomeSofar (jobFor s bytes) (firstBlocks s bytes room n)
 unfolding outcome firstBlocks begun jobFor
 first-n s bytes room n = go (ltb 65_535 (length bytes)) (validSetup s)
   where
     go :
         (long valid : Bool)
-        → (if long then just (refusedAt DataTooLong nowhere)
-        else if not valid then just (refusedAt BadSetup nowhere)
+        → (if long then just (refusedAt DataTooLong nowhere) (firstOf s)
+        else if not valid then just (refusedAt BadSetup nowhere) (firstOf s)
         else runBlocks s bytes room (First n) (blocksOf bytes))
-        ≡ outcomeSofar
+        ≡ outcomeSofar (jobFor s bytes)
         (more (jobFor s bytes) n
         (if long then refusedAtOnce s room DataTooLong nowhere
         else if not valid then refusedAtOnce s room BadSetup nowhere
@@ -118,7 +118,7 @@ first-n s bytes room n = go (ltb 65_535 (length bytes)) (validSetup s)
 -- the whole is what every sufficient n gives
 pub sufficient :
     (s : Setup) (bytes : List ℕ) (room n : ℕ) → Over (firstBlocks s bytes room n)
-    → outcome s bytes room Whole ≡ outcomeSofar (firstBlocks s bytes room n)
+    → outcome s bytes room Whole ≡ outcomeSofar (jobFor s bytes) (firstBlocks s bytes room n)
 unfolding outcome firstBlocks begun jobFor
 sufficient s bytes room n = go (ltb 65_535 (length bytes)) (validSetup s)
   where
@@ -129,10 +129,10 @@ sufficient s bytes room n = go (ltb 65_535 (length bytes)) (validSetup s)
         (if long then refusedAtOnce s room DataTooLong nowhere
         else if not valid then refusedAtOnce s room BadSetup nowhere
         else begunBy (tableIn (blocksOf bytes)) s (blocksOf bytes) room))
-        → (if long then just (refusedAt DataTooLong nowhere)
-        else if not valid then just (refusedAt BadSetup nowhere)
+        → (if long then just (refusedAt DataTooLong nowhere) (firstOf s)
+        else if not valid then just (refusedAt BadSetup nowhere) (firstOf s)
         else runBlocks s bytes room Whole (blocksOf bytes))
-        ≡ outcomeSofar
+        ≡ outcomeSofar (jobFor s bytes)
         (more (jobFor s bytes) n
         (if long then refusedAtOnce s room DataTooLong nowhere
         else if not valid then refusedAtOnce s room BadSetup nowhere
@@ -162,7 +162,7 @@ some-n s bytes room = go (ltb 65_535 (length bytes)) (validSetup s)
 -- for every budget, the outcome is where some number of blocks leads
 pub some-blocks :
     (s : Setup) (bytes : List ℕ) (room : ℕ) (budget : Budget)
-    → (n : ℕ) × (outcome s bytes room budget ≡ outcomeSofar (firstBlocks s bytes room n))
+    → (n : ℕ) × (outcome s bytes room budget ≡ outcomeSofar (jobFor s bytes) (firstBlocks s bytes room n))
 some-blocks s bytes room Whole =
     let n = some-n s bytes room in
     (n .0, sufficient s bytes room (n .0) (n .1))

@@ -55,8 +55,9 @@ use Rattle.lines.specs.Blocks.{Block, blocksOf}
 use Rattle.programs.specs.declared.Program.{Program}
 use Rattle.runs.specs.declared.Budget.{Budget}
 use Rattle.runs.specs.declared.Budget.the-variants.{First}
-use Rattle.runs.specs.Walk.{Job, How, ended, returned, unfinished, refusedAt, Outcome, just, slashLength, verdictOn}
-use Rattle.runs.specs.Run.{finishOf, nowhere, outcome, answerBy, answerOf}
+use Rattle.runs.specs.Walk.{Job, How, ended, returned, unfinished, refusedAt, Outcome, nowhere, just, slashLength, verdictOn}
+use Rattle.runs.specs.Run.{finishOf, outcome, answerBy, answerOf}
+use Rattle.runs.specs.Run as Run
 use Rattle.claims.specs.Blockwise.{BlockDone, Stand, returning, led, verdictIn, turnAt, Sofar, afterTurn, turnedUnless, oneMore, more, howSofar, outcomeSofar, tableIn, subsOf, jobFor, refusedAtOnce, begunBy, begun, firstBlocks}
 use Rattle.claims.specs.Answers.{earlyNumbers, blockNumbers, numberedIn, RefusedBlock}
 use Rattle.claims.proofs.Verdicts.{firstBlames, blamesThen, lastBlames, blames-then}
@@ -318,9 +319,10 @@ module _ (s : Setup) (six : length (s .origins) ≡ 6) (bytes : List ℕ) (room 
 
   -- at a block it is one of those that come there
   pub block-refusals :
-      (r : Refusal) (place : Place) (made : List Record) → RefusedBlock s bytes room r place made → numberedIn blockNumbers r ≡ true
+      (r : Refusal) (place : Place) (made : List Record) (last : State) → RefusedBlock s bytes room r place made last
+      → numberedIn blockNumbers r ≡ true
   unfolding outcomeSofar
-  block-refusals r place made at-block = go (begun s bytes room .over) refl
+  block-refusals r place made last at-block = go (begun s bytes room .over) refl
     where
       how-at : (n : ℕ) → outcome s bytes room (First n) .how ≡ howSofar (firstBlocks s bytes room n .over)
       how-at n = ap (λ (o : Outcome). o .how) (first-n s bytes room n)
@@ -354,7 +356,8 @@ unfolding answerOf outcome answerBy
 invalid-setup s bytes room budget e = rw e (go (ltb 65_535 (length bytes)))
   where
     by : Bool → Outcome
-    by long = if long then just (refusedAt DataTooLong nowhere) else just (refusedAt BadSetup nowhere)
+    by long =
+        if long then just (refusedAt DataTooLong nowhere) (Run.firstOf s) else just (refusedAt BadSetup nowhere) (Run.firstOf s)
 
     go : (long : Bool) → reportOf (answerBy (by long .how) (length (by long .made))) ≡ refusedWith (if long then 13 else 12) nowhere 0
     go true = refl

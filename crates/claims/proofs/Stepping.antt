@@ -1,20 +1,26 @@
 -- "Each one more adds that block's records and no others; before the end the answer is 'not finished', and past the end or a
--- refusal answer and list stay as they were."
+-- refusal answer and list stay as they were", and so does where the run stands.
 use Prim.Native.Nat.{ℕ, zero, suc, _+_, _-_, _≤_}
-use mathlib.Core.Path.{_≡_, refl, sym, _∙_, ap}
+use mathlib.Core.Path.{_≡_, refl, sym, _∙_, ap, subst}
 use mathlib.Core.Option.{Option, none, some}
-use mathlib.Core.List.{List, [], _∷_, _++_}
+use mathlib.Core.List.{List, [], _∷_, _++_, map}
 use native.Mathlib.Nat.{zero-add, suc-add}
 use native.Mathlib.Omega.{arith}
+use lib.ListN.{length}
+use Rattle.refusals.specs.declared.Place.{Place}
 use Rattle.setup.specs.declared.Setup.{Setup}
+use Rattle.setup.specs.Frame.{offset}
 use Rattle.records.specs.declared.Record.{Record}
+use Rattle.records.specs.Path.{recordMoved}
+use Rattle.settings.specs.Settings.{stateMoved}
 use Rattle.runs.specs.declared.Budget.{Budget}
 use Rattle.runs.specs.declared.Budget.the-variants.{Whole, First}
-use Rattle.runs.specs.Walk.{How, ended, unfinished, refusedAt, Outcome}
-use Rattle.runs.specs.Run.{outcome}
-use Rattle.claims.specs.Blockwise.{BlockDone, Turn, refuses, goes, ends, turnAt, afterTurn, oneMore, recordsBy, howSofar, outcomeSofar, jobFor, begun, firstBlocks}
-use Rattle.claims.specs.Answers.{OneMore, stays, refusing, going, ending}
-use Rattle.claims.proofs.Turns.{open-turn, one-over, more-last}
+use Rattle.runs.specs.declared.Standing.{Standing}
+use Rattle.runs.specs.Walk.{How, ended, unfinished, refusedAt, Outcome, nowhere}
+use Rattle.runs.specs.Run.{outcome, recordsOf, answerBy, answerOf, standingOf}
+use Rattle.claims.specs.Blockwise.{BlockDone, Stand, Turn, refuses, goes, ends, turnAt, Sofar, afterTurn, oneMore, recordsBy, howSofar, placeAhead, nextSofar, outcomeSofar, jobFor, begun, firstBlocks}
+use Rattle.claims.specs.Answers.{TurnsAt, OneMore, stays, refusing, going, ending, SameTold}
+use Rattle.claims.proofs.Turns.{turns-ahead, open-turn, one-over, more-last}
 use Rattle.claims.proofs.Counted.{records-last, Over}
 use Rattle.claims.proofs.Runs.{first-n, sufficient, some-n}
 use Rattle.claims.proofs.Answers.{over-finished}
@@ -38,6 +44,10 @@ module _ (s : Setup) (bytes : List ℕ) (room : ℕ) where
   unfolding outcomeSofar
   made-first n = ap (λ (o : Outcome). o .made) (first-n s bytes room n)
 
+  pub last-first : (n : ℕ) → outcome s bytes room (First n) .last ≡ firstBlocks s bytes room n .stand .state
+  unfolding outcomeSofar
+  last-first n = ap (λ (o : Outcome). o .last) (first-n s bytes room n)
+
   -- a run that is not "not finished" is over
   finished-over : (n : ℕ) → (outcome s bytes room (First n) .how ≡ unfinished → ⊥) → Over (firstBlocks s bytes room n)
   unfolding howSofar
@@ -47,21 +57,28 @@ module _ (s : Setup) (bytes : List ℕ) (room : ℕ) where
       go none k = absurd (k refl)
       go (some how) k = (how, refl)
 
+  still-open : (n : ℕ) → outcome s bytes room (First n) .how ≡ unfinished → firstBlocks s bytes room n .over ≡ none
+  still-open n e = go (firstBlocks s bytes room n .over) refl
+    where
+      go : (o : Option How) → firstBlocks s bytes room n .over ≡ o → o ≡ none
+      go none k = refl
+      go (some how) k = absurd (over-finished s bytes room n (how, k) (sym (how-first n) ∙ e))
+
   stays-there :
       (n : ℕ) → Over (firstBlocks s bytes room n) → outcome s bytes room (First (suc n)) ≡ outcome s bytes room (First n)
   stays-there n o =
       first-n s bytes room (suc n)
-      ∙ ap outcomeSofar (one-later n ∙ one-over (jobFor s bytes) (firstBlocks s bytes room n) (o .0) (o .1))
+      ∙ ap (outcomeSofar (jobFor s bytes)) (one-later n ∙ one-over (jobFor s bytes) (firstBlocks s bytes room n) (o .0) (o .1))
       ∙ sym (first-n s bytes room n)
 
   -- the outcome after a turn
   turned-to :
       (n : ℕ) (t : Turn) → firstBlocks s bytes room n .over ≡ none
       → turnAt (jobFor s bytes) (firstBlocks s bytes room n .stand) ≡ t
-      → outcome s bytes room (First (suc n)) ≡ outcomeSofar (afterTurn (firstBlocks s bytes room n) t)
+      → outcome s bytes room (First (suc n)) ≡ outcomeSofar (jobFor s bytes) (afterTurn (firstBlocks s bytes room n) t)
   turned-to n t e k =
       first-n s bytes room (suc n)
-      ∙ ap outcomeSofar
+      ∙ ap (outcomeSofar (jobFor s bytes))
       (one-later n ∙ open-turn (jobFor s bytes) (firstBlocks s bytes room n) e ∙ ap (afterTurn (firstBlocks s bytes room n)) k)
 
   adds : (n : ℕ) (d : BlockDone) → recordsBy (firstBlocks s bytes room n .executed ++ d ∷ []) ≡ outcome s bytes room (First n) .made ++ d .made
@@ -70,17 +87,46 @@ module _ (s : Setup) (bytes : List ℕ) (room : ℕ) where
   by-turn :
       (n : ℕ) (t : Turn) → firstBlocks s bytes room n .over ≡ none
       → turnAt (jobFor s bytes) (firstBlocks s bytes room n .stand) ≡ t → OneMore s bytes room n
-  unfolding afterTurn outcomeSofar howSofar
+  unfolding afterTurn outcomeSofar howSofar nextSofar
   by-turn n (refuses r place) e k =
       refusing r place k (how-first n ∙ ap howSofar e)
       (turned-to n (refuses r place) e k
-      ∙ ap (λ (rs : List Record). record { how = refusedAt r place; made = rs }) (sym (made-first n)))
+      ∙ (λ i. record { how = refusedAt r place; made = sym (made-first n) i; last = sym (last-first n) i; next = nowhere }))
   by-turn n (goes d st) e k =
       going d st k (how-first n ∙ ap howSofar e)
-      (turned-to n (goes d st) e k ∙ ap (λ (rs : List Record). record { how = unfinished; made = rs }) (adds n d))
+      (turned-to n (goes d st) e k
+      ∙ ap
+      (λ (rs : List Record).
+      record { how = unfinished; made = rs; last = st .state; next = placeAhead (st .ahead) (jobFor s bytes .finish) })
+      (adds n d))
   by-turn n (ends d st) e k =
       ending d st k (how-first n ∙ ap howSofar e)
-      (turned-to n (ends d st) e k ∙ ap (λ (rs : List Record). record { how = ended; made = rs }) (adds n d))
+      (turned-to n (ends d st) e k
+      ∙ ap (λ (rs : List Record). record { how = ended; made = rs; last = st .state; next = nowhere }) (adds n d))
+
+  -- a run that is not finished stands with the settings that its blocks left, before the first block that lies ahead
+  pub stands-before :
+      (n : ℕ) → outcome s bytes room (First n) .how ≡ unfinished
+      → standingOf s bytes room (First n)
+      ≡ record {
+        state = stateMoved (offset s) (firstBlocks s bytes room n .stand .state);
+        next = placeAhead (firstBlocks s bytes room n .stand .ahead) (jobFor s bytes .finish);
+      }
+  unfolding standingOf outcomeSofar nextSofar
+  stands-before n e =
+      let x : Sofar = firstBlocks s bytes room n in
+      let ahead : Place = placeAhead (x .stand .ahead) (jobFor s bytes .finish) in
+      ap (λ (o : Outcome). record { state = stateMoved (offset s) (o .last); next = o .next }) (first-n s bytes room n)
+      ∙ ap (λ (o : Option How). record { state = stateMoved (offset s) (x .stand .state); next = nextSofar o ahead }) (still-open n e)
+
+  -- and that block is the one which is refused or executed next
+  pub next-told :
+      (n : ℕ) → outcome s bytes room (First n) .how ≡ unfinished
+      → TurnsAt (standingOf s bytes room (First n) .next) (turnAt (jobFor s bytes) (firstBlocks s bytes room n .stand))
+  next-told n e =
+      let st : Stand = firstBlocks s bytes room n .stand in
+      subst (λ (x : Standing). TurnsAt (x .next) (turnAt (jobFor s bytes) st)) (sym (stands-before n e))
+      (turns-ahead (jobFor s bytes) st)
 
   -- "Each one more adds that block's records and no others"
   pub one-more : (n : ℕ) → OneMore s bytes room n
@@ -115,6 +161,19 @@ module _ (s : Setup) (bytes : List ℕ) (room : ℕ) where
   allowed n (First k) a h =
       let parts : k ≡ (k - n) + n = omega arith in
       ap (λ (m : ℕ). outcome s bytes room (First m)) parts ∙ past-the-end n (k - n) h
+
+  -- so the answer, the list and where the run stands are the same
+  pub same-told :
+      (n : ℕ) (budget : Budget) → Allows n budget → (outcome s bytes room (First n) .how ≡ unfinished → ⊥)
+      → SameTold s bytes room budget (First n)
+  unfolding answerOf recordsOf standingOf
+  same-told n budget a h =
+      let e = allowed n budget a h in
+      record {
+        answer = ap (λ (o : Outcome). answerBy (o .how) (length (o .made))) e;
+        records = ap (λ (o : Outcome). map (recordMoved (offset s)) (o .made)) e;
+        standing = ap (λ (o : Outcome). record { state = stateMoved (offset s) (o .last); next = o .next }) e;
+      }
 
   -- and there is such an n
   pub some-are-enough : (n : ℕ) × (outcome s bytes room (First n) .how ≡ unfinished → ⊥)

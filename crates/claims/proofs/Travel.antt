@@ -12,7 +12,7 @@ use Rattle.setup.specs.Frame.{pointOf, offset, startOf, travelOf, bedOf}
 use Rattle.records.specs.declared.Record.{Record}
 use Rattle.records.specs.Path.{pathOf, endOf, pathStaysIn, recordMoved}
 use Rattle.settings.specs.declared.State.{State}
-use Rattle.settings.specs.Settings.{firstState}
+use Rattle.settings.specs.Settings.{firstState, stateMoved}
 use Rattle.arcs.specs.Arcs.{pathStays}
 use Rattle.blocks.specs.Machine.{machineOf}
 use Rattle.blocks.specs.declared.Control.{Control}
@@ -21,14 +21,14 @@ use Rattle.lines.specs.Blocks.{Block}
 use Rattle.programs.specs.Openings as Openings
 use Rattle.runs.specs.declared.Budget.{Budget}
 use Rattle.runs.specs.Walk.{Job, Outcome, slashLength, verdictOn}
-use Rattle.runs.specs.Run.{firstOf, outcome, recordsOf}
+use Rattle.runs.specs.Run.{firstOf, outcome, recordsOf, standingOf}
 use Rattle.claims.specs.Blockwise.{BlockDone, Stand, verdictIn, Sofar, more, recordsBy, outcomeSofar, jobFor, begun, firstBlocks}
 use Rattle.claims.specs.Travel.{machineTravel, inTravel}
 use Rattle.claims.proofs.Verdicts.{accepted-path}
 use Rattle.claims.proofs.Turns.{doneWith, run-holds}
 use Rattle.claims.proofs.Counted.{records-last}
 use Rattle.claims.proofs.Paths.{end-both, stays-both}
-use Rattle.claims.proofs.Displacing.{travelMoved, there-and-back, paths-same}
+use Rattle.claims.proofs.Displacing.{travelMoved, there-and-back, paths-same, ends-moved}
 use Rattle.claims.proofs.Runs.{some-blocks, begun-with}
 
 -- the blocks executed so far stay in the travel, and the tool stands where their records end
@@ -128,3 +128,18 @@ stays-in-travel s bytes room budget =
     (sym (same-start s))
     ∙ same-stays s (startOf s) (outcome s bytes room budget .made)
     ∙ stays-in-frame s bytes room budget
+
+-- the point that a run answers is where the path of its records ends
+pub stands-at-its-records :
+    (s : Setup) (bytes : List ℕ) (room : ℕ) (budget : Budget)
+    → standingOf s bytes room budget .state .at ≡ endOf (pointOf (s .start)) (recordsOf s bytes room budget)
+unfolding standingOf stateMoved recordsOf outcomeSofar firstBlocks jobFor
+stands-at-its-records s bytes room budget =
+    let n = some-blocks s bytes room budget in
+    ap (λ (o : Outcome). moved (offset s) (o .last .at)) (n .1)
+    ∙ ap (moved (offset s))
+    (run-stayed (jobFor s bytes) (startOf s) (n .0) (begun s bytes room)
+    (begun-stayed (machineOf (bedOf s) .stays) s bytes room) .at)
+    ∙ ap (λ (o : Outcome). moved (offset s) (endOf (startOf s) (o .made))) (sym (n .1))
+    ∙ sym (ends-moved (offset s) (startOf s) (outcome s bytes room budget .made))
+    ∙ ap (λ (p : Point). endOf p (map (recordMoved (offset s)) (outcome s bytes room budget .made))) (same-start s)

@@ -40,7 +40,9 @@ use Rattle.claims.specs.Blockwise.{
   turnedUnless,
   oneMore,
   more,
+  placeAhead,
 }
+use Rattle.claims.specs.Answers.{TurnsAt}
 use Rattle.claims.proofs.Blockwise.{Placed, calls-below}
 
 abbrev pub doneWith : Block → Stand → List Record → BlockDone
@@ -82,6 +84,45 @@ module _ (P : Turn → Type 0) (job : Job) (st : Stand)
     pub turn-cases : P (turnAt job st)
     unfolding turnAt
     turn-cases = by-ahead (st .ahead) refl
+
+-- ---- the block that is refused or executed next is the first that lies ahead
+
+back-at : (callers : List (List Block)) (st : Stand) (d : BlockDone) → TurnsAt (placeOf (d .block)) (returning callers st d)
+unfolding returning TurnsAt
+back-at [] st d = refl
+back-at (rest ∷ callers) st d = refl
+
+led-at : (control : Control) (job : Job) (st : Stand) (d : BlockDone) → TurnsAt (placeOf (d .block)) (led control job st d)
+unfolding led TurnsAt
+led-at On job st d = refl
+led-at (Call n) job st d = refl
+led-at Back job st d = back-at (st .callers) st d
+led-at Stop job st d = refl
+
+module _ (job : Job) (st : Stand) where
+  verdict-at : (v : Verdict) (b : Block) (bs : List Block) → TurnsAt (placeOf b) (turnBy v job st b bs)
+  unfolding turnBy TurnsAt
+  verdict-at (refused blame) b bs = refl
+  verdict-at (accepted s control made) b bs = led-at control job (past st bs s made) (doneWith b st made)
+
+  skip-at : (skips : Bool) (b : Block) (bs : List Block) → TurnsAt (placeOf b) (turnUnder skips job st b bs)
+  unfolding turnUnder TurnsAt
+  skip-at true b bs = refl
+  skip-at false b bs = verdict-at (verdictIn job st b) b bs
+
+  closing-at : (closed : Bool) (b : Block) (bs : List Block) → TurnsAt (placeOf b) (turnUnless closed job st b bs)
+  unfolding turnUnless TurnsAt
+  closing-at true b bs = refl
+  closing-at false b bs = skip-at (isSkipped job b) b bs
+
+  ahead-at : (ahead : List Block) → TurnsAt (placeAhead ahead (job .finish)) (turnIn ahead job st)
+  unfolding turnIn placeAhead TurnsAt
+  ahead-at [] = refl
+  ahead-at (b ∷ bs) = closing-at (opens b || closes b) b bs
+
+  pub turns-ahead : TurnsAt (placeAhead (st .ahead) (job .finish)) (turnAt job st)
+  unfolding turnAt
+  turns-ahead = ahead-at (st .ahead)
 
 -- ---- a fact about where the run goes on
 

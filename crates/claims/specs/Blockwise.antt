@@ -27,8 +27,8 @@ use Rattle.programs.specs.Openings.{Table, table, placeOf, known, programsFrom,
 use Rattle.programs.specs.Openings as Openings
 use Rattle.programs.specs.declared.Program.{Program}
 use Rattle.runs.specs.declared.Budget.the-variants.{Whole}
-use Rattle.runs.specs.Walk.{Job, How, ended, unfinished, refusedAt, Outcome, isSkipped, verdictOn, blocksFor}
-use Rattle.runs.specs.Run.{firstOf, finishOf, nowhere}
+use Rattle.runs.specs.Walk.{Job, How, ended, unfinished, refusedAt, Outcome, nowhere, isSkipped, verdictOn, blocksFor}
+use Rattle.runs.specs.Run.{firstOf, finishOf}
 
 -- a block that was executed: where the tool stood before it, and its records
 pub record BlockDone : Type 0 where
@@ -138,8 +138,24 @@ unfoldable pub howSofar : Option How → How
 howSofar none = unfinished
 howSofar (some how) = how
 
-unfoldable pub outcomeSofar : Sofar → Outcome
-outcomeSofar x = record { how = howSofar (x .over); made = recordsBy (x .executed) }
+-- where the block stands that is reached next: the first of those that lie ahead, else a missing end
+unfoldable pub placeAhead : List Block → Place → Place
+placeAhead [] finish = finish
+placeAhead (b ∷ rest) finish = placeOf b
+
+-- a run that is over has no next block
+unfoldable pub nextSofar : Option How → Place → Place
+nextSofar none ahead = ahead
+nextSofar (some how) ahead = nowhere
+
+unfoldable pub outcomeSofar : Job → Sofar → Outcome
+outcomeSofar job x =
+    record {
+      how = howSofar (x .over);
+      made = recordsBy (x .executed);
+      last = x .stand .state;
+      next = nextSofar (x .over) (placeAhead (x .stand .ahead) (job .finish));
+    }
 
 -- ---- a data set under a setup
 

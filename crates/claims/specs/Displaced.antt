@@ -12,10 +12,13 @@ use Rattle.setup.specs.declared.Setup.{Setup}
 use Rattle.setup.specs.Frame.{pointOf}
 use Rattle.records.specs.declared.Record.{Record}
 use Rattle.records.specs.Path.{pathStaysIn, recordMoved}
+use Rattle.settings.specs.Settings.{stateMoved}
 use Rattle.programs.specs.Openings.{placeOf}
 use Rattle.runs.specs.declared.Budget.{Budget}
 use Rattle.runs.specs.declared.Budget.the-variants.{First}
-use Rattle.runs.specs.Run.{recordsOf, answerOf}
+use Rattle.runs.specs.declared.Standing.{Standing}
+use Rattle.runs.specs.Walk.{nowhere}
+use Rattle.runs.specs.Run.{recordsOf, answerOf, standingOf}
 use Rattle.claims.specs.Blockwise.{BlockDone, firstBlocks}
 use Rattle.claims.specs.Travel.{inTravel}
 
@@ -43,6 +46,10 @@ displaced by s =
 abbrev pub allMoved : Axes → List Record → List Record
 allMoved by rs = map (recordMoved (pointOf by)) rs
 
+-- where a run stands, its point displaced and all else equal
+abbrev pub standingMoved : Axes → Standing → Standing
+standingMoved by x = record { state = stateMoved (pointOf by) (x .state); next = x .next }
+
 -- records in machine units, their path beginning at the setup's start, stay in the setup's travel
 unfoldable pub stayIn : Setup → List Record → Bool
 stayIn s rs = pathStaysIn (inTravel s) (pointOf (s .start)) rs
@@ -61,3 +68,7 @@ pub record LeavesFirst (by : Axes) (s : Setup) (bytes : List ℕ) (room : ℕ) (
       reportOf (answerOf (displaced by s) bytes room budget)
       ≡ refusedWith 9 (placeOf (block .block)) (length (recordsOf s bytes room (First before)))
   pub records : recordsOf (displaced by s) bytes room budget ≡ allMoved by (recordsOf s bytes room (First before))
+  -- and the settings are those before the block, their point displaced
+  pub standing :
+      standingOf (displaced by s) bytes room budget
+      ≡ record { state = stateMoved (pointOf by) (standingOf s bytes room (First before) .state); next = nowhere }

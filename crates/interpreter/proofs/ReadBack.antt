@@ -4,23 +4,23 @@ use mathlib.Core.Path.{_≡_, _∙_, ap}
 use mathlib.Core.List.{List}
 use lib.ListN.{length, take, drop}
 use lib.Seq.{take-append-seam}
-use Rattle.refusals.specs.declared.Answer.{Answer}
 use Rattle.refusals.specs.Answers.{countOf}
 use Rattle.setup.specs.declared.Setup.{Setup}
 use Rattle.records.specs.Layout.{listBytes}
 use Rattle.runs.specs.declared.Budget.{Budget}
+use Rattle.runs.specs.declared.Report.{Report}
 use Rattle.runs.specs.Run.{recordsOf}
 use Rattle.promises.proofs.ReadBack.{read-back}
 use Rattle.interpreter.specs.Owing.{Owes, ReadsAs}
 
 pub owed-reads-back :
-    {s : Setup} {l was is : List ℕ} {budget : Budget} {r : Answer}
-    → length (s .origins) ≡ 6 → Owes s l budget was is r → ReadsAs (recordsOf s l (length was) budget) is r
+    {s : Setup} {l was is : List ℕ} {budget : Budget} {r : Report}
+    → length (s .origins) ≡ 6 → Owes s l budget was is r → ReadsAs (recordsOf s l (length was) budget) is (r .answer)
 owed-reads-back {s} {l} {was} {is} {budget} {r} six owes =
     let rs = recordsOf s l (length was) budget in
     let end = length (listBytes rs) in
     let back = read-back s six l (length was) budget in
-    let count : countOf r ≡ length rs = ap countOf (owes .answer) ∙ back .count in
+    let count : countOf (r .answer) ≡ length rs = ap countOf (owes .answer) ∙ back .count in
     let part : take end is ≡ listBytes rs =
     ap (take end) (owes .bytes) ∙ take-append-seam (listBytes rs) (drop end was) in
     record {

@@ -1,5 +1,5 @@
 -- What a run starts with, and what it answers. Assumes nothing.
-use Prim.Native.Nat.{ℕ, _+_, _-_, _≤_, _<_}
+use Prim.Native.Nat.{ℕ, _+_, _-_, _≤_, _<_, _^_}
 use mathlib.Core.Path.{_≡_, refl, sym, _∙_, ap}
 use mathlib.Core.Bool.{Bool, true, false}
 use mathlib.Core.Option.{some}
@@ -15,16 +15,22 @@ use Rattle.refusals.specs.declared.Place.{Place}
 use Rattle.lines.specs.Blocks.{Block, blockFrom, blocksOf, lengthFrom, isPercent, textFrom}
 use Rattle.lines.specs.Serving.{blocksFrom}
 use Rattle.lines.proofs.Lines.{blocks-step, blocks-end, percent-end}
+use lib.IntN.{ℤ, _+ℤ_, _-ℤ_}
+use Rattle.lengths.specs.declared.Len.{Len}
+use Rattle.lengths.specs.Units.{len}
+use Rattle.lengths.proofs.Ring.{var, _⊞_, _⊟_, same}
 use Rattle.points.specs.declared.Point.{Point}
+use Rattle.points.specs.Points.{moved, movedBack}
+use Rattle.points.specs.Near.{Near}
 use Rattle.setup.specs.declared.Bed.{Bed}
 use Rattle.setup.specs.declared.Setup.{Setup}
 use Rattle.setup.specs.Limits.{validSetup}
-use Rattle.setup.specs.Frame.{offset, bedOf, switchOn}
+use Rattle.setup.specs.Frame.{pointOf, offset, startOf, bedOf, switchOn}
 use Rattle.setup.specs.Fair.{Fair}
 use Rattle.setup.proofs.Valid.{valid-feed, valid-speed, start-inside}
 use Rattle.records.specs.Layout.{roomOf, listBytes}
 use Rattle.settings.specs.declared.State.{State}
-use Rattle.settings.specs.Settings.{firstState, firstModes}
+use Rattle.settings.specs.Settings.{firstState, firstModes, stateMoved}
 use Rattle.cycles.specs.Writing.{movedBytes}
 use Rattle.programs.specs.declared.Programs.{Programs}
 use Rattle.programs.specs.declared.Scanned.{Scanned}
@@ -36,15 +42,17 @@ use Rattle.programs.specs.Answers as Answers
 use Rattle.programs.specs.Places.{Placed, TablePlaced}
 use Rattle.programs.proofs.Places.{found-placed, main-placed, subs-placed, known-placed}
 use Rattle.blocks.specs.Reach.{Reachable}
-use Rattle.runs.specs.Walk.{How, ended, returned, unfinished, Outcome, just}
+use Rattle.blocks.proofs.Nearness.{inside-sums}
+use Rattle.runs.specs.Walk.{How, ended, returned, unfinished, Outcome, nowhere, just}
 use Rattle.runs.specs.Walk as Walk
-use Rattle.runs.specs.Run.{firstOf, nowhere, runTable, runBlocks, outcome, recordsOf, answerBy, answerOf}
-use Rattle.progress.specs.Progressing.{jobOf, goingOf, walkFrom, endingBy, Ran, Sound, Fits}
-use Rattle.interpreter.specs.Owing.{Owes}
+use Rattle.runs.specs.Run.{firstOf, runTable, runBlocks, outcome, recordsOf, answerBy, answerOf, standingOf}
+use Rattle.progress.specs.Progressing.{jobOf, goingOf, walkFrom, endingBy, nextBy, Ran, Sound, Fits}
+use Rattle.interpreter.specs.Owing.{stateFor, nextFor, reportBy, Owes}
 use Rattle.interpreter.specs.Serving.{answerFor, Opened, Gives}
 use Rattle.runs.specs.declared.Budget.{Budget}
+use Rattle.runs.specs.declared.Report.{Report}
+use Rattle.runs.specs.declared.Standing.{Standing}
 use Rattle.refusals.specs.declared.Answer.{Answer}
-use Rattle.refusals.specs.declared.Answer.the-variants.{Refused}
 use Rattle.progress.specs.declared.Progress.{Progress}
 use Rattle.progress.specs.declared.Ending.{Ending}
 use Rattle.progress.proofs.Endings.{moved-length}
@@ -96,45 +104,97 @@ module _ {l : List ℕ} {t : Programs} (o : Opened l t) where
 
 -- ---- the answer
 
-answer-by : (how : How) (next count : ℕ) → answerFor (endingBy how next count) ≡ answerBy how count
-unfolding answerFor endingBy answerBy
-answer-by ended next count = refl
-answer-by (returned g) next count = refl
-answer-by unfinished next count = refl
-answer-by (Walk.refusedAt refusal place) next count = refl
+module _ (s : State) (on : Place) (next count : ℕ) where
+  answer-by : (how : How) → answerFor (endingBy how s on next count) ≡ answerBy how count
+  unfolding answerFor endingBy answerBy
+  answer-by ended = refl
+  answer-by (returned g) = refl
+  answer-by unfinished = refl
+  answer-by (Walk.refusedAt refusal place) = refl
 
-pub main-gives :
-    {bed : Bed} {o u : Outcome} {p : Progress} {was is : List ℕ} {e : Ending} {r : Answer} (by : Point) → bed .offset ≡ by → p .next ≡ 0 → p .count ≡ 0
-    → o ≡ u → Ran bed o p was is e → r ≡ answerFor e → Gives by u was is r
-main-gives {o = o} {p = p} {was = was} by b n k f ran a =
-    let count : p .count + length (o .made) ≡ length (o .made) = omega arith in
-    rw (← f)
-    (record {
-      answer =
-          a ∙ ap answerFor (ran .answer) ∙ answer-by (o .how) (p .next + roomOf (o .made)) (p .count + length (o .made))
-          ∙ ap (answerBy (o .how)) count;
-      bytes = ran .bytes ∙ rw (n, b) refl;
-      room = omega (arith, ran .room);
-    })
+  state-by : (how : How) → stateFor (endingBy how s on next count) ≡ s
+  unfolding stateFor endingBy
+  state-by ended = refl
+  state-by (returned g) = refl
+  state-by unfinished = refl
+  state-by (Walk.refusedAt refusal place) = refl
+
+  next-by : (how : How) → nextFor (endingBy how s on next count) ≡ nextBy how on
+  unfolding nextFor endingBy nextBy
+  next-by ended = refl
+  next-by (returned g) = refl
+  next-by unfinished = refl
+  next-by (Walk.refusedAt refusal place) = refl
+
+module _ {bed : Bed} {o : Outcome} {p : Progress} {was is : List ℕ} {e : Ending} (ran : Ran bed o p was is e) where
+  -- the settings at the end can be told in machine units
+  pub main-sums : {by : Point} {s : State} → Fair bed → by ≡ bed .offset → s ≡ stateFor e → (Near (2 ^ 61) by) × (Near (2 ^ 61) (s .at))
+  main-sums fair b f =
+      let last = f ∙ ap stateFor (ran .answer) ∙ state-by (o .last) (o .next) (p .next + roomOf (o .made)) (p .count + length (o .made)) (o .how) in
+      rw (b, last) (inside-sums bed fair (o .last .at) (ran .state .at))
+
+  pub main-gives :
+      {u : Outcome} {by : Point} {a : Answer} {s moved : State} {next : Place} → bed .offset ≡ by → p .next ≡ 0 → p .count ≡ 0 → o ≡ u
+      → a ≡ answerFor e → s ≡ stateFor e → moved ≡ stateMoved by s → next ≡ nextFor e
+      → Gives by u was is (record { answer = a; standing = record { state = moved; next = next } })
+  unfolding reportBy
+  main-gives {by = by} b n k f a s m on =
+      let count : p .count + length (o .made) ≡ length (o .made) = omega arith in
+      let place = p .next + roomOf (o .made) in
+      let many = p .count + length (o .made) in
+      let answer = a ∙ ap answerFor (ran .answer) ∙ answer-by (o .last) (o .next) place many (o .how) ∙ ap (answerBy (o .how)) count in
+      let state = m ∙ ap (stateMoved by) (s ∙ ap stateFor (ran .answer) ∙ state-by (o .last) (o .next) place many (o .how)) in
+      let next = on ∙ ap nextFor (ran .answer) ∙ next-by (o .last) (o .next) place many (o .how) ∙ sym (ran .on) in
+      rw (← f)
+      (record {
+        report = told answer state next;
+        bytes = ran .bytes ∙ rw (n, b) refl;
+        room = omega (arith, ran .room);
+      })
+    where
+      told :
+          {a b : Answer} {s t : State} {m n : Place} → a ≡ b → s ≡ t → m ≡ n
+          → _≡_ {A = Report} (record { answer = a; standing = record { state = s; next = m } }) (record { answer = b; standing = record { state = t; next = n } })
+      told e f g = rw (e, f, g)
 
 -- an outcome without records
-pub gives-just : (by : Point) (was : List ℕ) (how : How) → Gives by (just how) was was (answerBy how 0)
+pub gives-just :
+    {by : Point} {o : Outcome} {how : How} {s : State} {r : Report} (was : List ℕ) → o ≡ just how s → r ≡ reportBy by (just how s)
+    → Gives by o was was r
 unfolding listBytes roomOf
-gives-just by was how = record { answer = refl; bytes = refl; room = omega arith }
+gives-just was e f = rw (e, f) (record { report = refl; bytes = refl; room = omega arith })
 
 pub gives-as :
-    {by : Point} {o u : Outcome} {was is : List ℕ} {r : Answer} → o ≡ u → Gives by u was is r → Gives by o was is r
+    {by : Point} {o u : Outcome} {was is : List ℕ} {r : Report} → o ≡ u → Gives by u was is r → Gives by o was is r
 gives-as e g = rw e g
+
+-- A run that is refused before any block stands at the setup's start: what the frame takes off, the machine's units add again.
+start-is : (s : Setup) → pointOf (s .start) ≡ moved (offset s) (startOf s)
+unfolding moved startOf movedBack offset
+start-is s = points (again (s .start .x) (s .exofs .x)) (again (s .start .y) (s .exofs .y)) (again (s .start .z) (s .exofs .z))
+  where
+    again : (a d : ℤ) → a ≡ (a -ℤ d) +ℤ d
+    again a d = same (var a) (var a ⊟ var d ⊞ var d) (omega arith)
+
+    points : {a b c d e f : ℤ} → a ≡ d → b ≡ e → c ≡ f → pointOf (record { x = a; y = b; z = c }) ≡ pointOf (record { x = d; y = e; z = f })
+    points h j k = rw (h, j, k)
+
+pub stands-at-start :
+    (s : Setup) {start : Point} {feed speed : Len} {state : State} → start ≡ pointOf (s .start) → feed ≡ len (s .feed) → speed ≡ len (s .speed)
+    → state ≡ firstState start feed speed
+    → _≡_ {A = Standing} (record { state = state; next = nowhere }) (record { state = stateMoved (offset s) (firstOf s); next = nowhere })
+unfolding stateMoved firstOf firstState
+stands-at-start s e f g h = rw (h, e, f, g, start-is s)
 
 -- ---- "Order: 13, 12, 11; then per opening 1, 8, 7."
 
 module _ (s : Setup) (l : List ℕ) (room : ℕ) (budget : Budget) where
-  too-long : 65_535 < length l → outcome s l room budget ≡ just (Walk.refusedAt DataTooLong nowhere)
+  too-long : 65_535 < length l → outcome s l room budget ≡ just (Walk.refusedAt DataTooLong nowhere) (firstOf s)
   unfolding outcome
   too-long h = rw (lt-ltb 65_535 (length l) h)
 
   module _ (short : length l ≤ 65_535) where
-    bad-setup : validSetup s ≡ false → outcome s l room budget ≡ just (Walk.refusedAt BadSetup nowhere)
+    bad-setup : validSetup s ≡ false → outcome s l room budget ≡ just (Walk.refusedAt BadSetup nowhere) (firstOf s)
     unfolding outcome
     bad-setup e = rw (le-ltb 65_535 (length l) short, e)
 
@@ -151,11 +211,11 @@ module _ (s : Setup) (l : List ℕ) (room : ℕ) (budget : Budget) where
 
       blocks-open :
           (bs : List Block) (b : Block) (rest : List Block) → bs ≡ b ∷ rest → isPercent (b .text) ≡ false
-          → runBlocks s l room budget bs ≡ just (Walk.refusedAt FirstBlock (record { block = 1; byte = 0 }))
+          → runBlocks s l room budget bs ≡ just (Walk.refusedAt FirstBlock (record { block = 1; byte = 0 })) (firstOf s)
       unfolding runBlocks
       blocks-open bs b rest e f = rw e (rw f)
 
-      blocks-none : blocksOf l ≡ [] → runBlocks s l room budget (blocksOf l) ≡ just (Walk.refusedAt FirstBlock (record { block = 1; byte = 0 }))
+      blocks-none : blocksOf l ≡ [] → runBlocks s l room budget (blocksOf l) ≡ just (Walk.refusedAt FirstBlock (record { block = 1; byte = 0 })) (firstOf s)
       unfolding runBlocks
       blocks-none e = rw e
 
@@ -167,7 +227,7 @@ module _ (s : Setup) (l : List ℕ) (room : ℕ) (budget : Budget) where
       unfolding blocksOf
       no-block h = blocks-end l 1 0 h
 
-      not-closed : isPercent (textFrom (drop 0 l)) ≡ false → outcome s l room budget ≡ just (Walk.refusedAt FirstBlock (record { block = 1; byte = 0 }))
+      not-closed : isPercent (textFrom (drop 0 l)) ≡ false → outcome s l room budget ≡ just (Walk.refusedAt FirstBlock (record { block = 1; byte = 0 })) (firstOf s)
       not-closed e =
           by-blocks
           ∙ elim (decLt 0 (length l)) [
@@ -193,35 +253,33 @@ module _ (s : Setup) (l : List ℕ) (room : ℕ) (budget : Budget) where
             by-blocks ∙ blocks-closed (blocksOf l) (blockFrom 1 0 l) (blocksFrom l 2 (0 + lengthFrom l)) (first-block some-byte) percent
             ∙ ap (runTable s l (blocksOf l) room budget) e
 
--- what a run answers before its first block, and what it hands to the main program
+-- what a run tells before its first block, and what it hands to the main program
 module _ (s : Setup) (l : List ℕ) (budget : Budget) (was : List ℕ) where
-  pub gives-too-long : 65_535 < length l → Gives (offset s) (outcome s l (length was) budget) was was (Refused DataTooLong nowhere 0)
-  unfolding answerBy
-  gives-too-long h = gives-as (too-long s l (length was) budget h) (gives-just (offset s) was (Walk.refusedAt DataTooLong nowhere))
+  abbrev Before : Report → Refusal → Place → Type 0
+  Before r refusal place = r ≡ reportBy (offset s) (just (Walk.refusedAt refusal place) (firstOf s))
+
+  abbrev Given : Report → Type 0
+  Given r = Gives (offset s) (outcome s l (length was) budget) was was r
+
+  pub gives-too-long : {r : Report} → 65_535 < length l → Before r DataTooLong nowhere → Given r
+  gives-too-long h e = gives-just was (too-long s l (length was) budget h) e
 
   module _ (short : length l ≤ 65_535) where
-    pub gives-bad-setup : validSetup s ≡ false → Gives (offset s) (outcome s l (length was) budget) was was (Refused BadSetup nowhere 0)
-    unfolding answerBy
-    gives-bad-setup e = gives-as (bad-setup s l (length was) budget short e) (gives-just (offset s) was (Walk.refusedAt BadSetup nowhere))
+    pub gives-bad-setup : {r : Report} → validSetup s ≡ false → Before r BadSetup nowhere → Given r
+    gives-bad-setup e f = gives-just was (bad-setup s l (length was) budget short e) f
 
     module _ (valid : validSetup s ≡ true) where
       pub gives-first-block :
-          isPercent (textFrom (drop 0 l)) ≡ false
-          → Gives (offset s) (outcome s l (length was) budget) was was (Refused FirstBlock (record { block = 1; byte = 0 }) 0)
-      unfolding answerBy
-      gives-first-block e =
-          gives-as (not-closed s l (length was) budget short valid e)
-          (gives-just (offset s) was (Walk.refusedAt FirstBlock (record { block = 1; byte = 0 })))
+          {r : Report} → isPercent (textFrom (drop 0 l)) ≡ false → Before r FirstBlock (record { block = 1; byte = 0 }) → Given r
+      gives-first-block e f = gives-just was (not-closed s l (length was) budget short valid e) f
 
       module _ (percent : isPercent (textFrom (drop 0 l)) ≡ true) {found : Scanned} (scan : Answers.Gives (programsFrom (blockFrom 1 0 l) (blocksFrom l 2 (0 + lengthFrom l))) found) where
         pub gives-opening :
-            {refusal : Refusal} {place : Place} → found .verdict ≡ Verdict.Refused refusal place
-            → Gives (offset s) (outcome s l (length was) budget) was was (Refused refusal place 0)
-        unfolding answerBy tableBy runTable
-        gives-opening {refusal} {place} e =
+            {r : Report} {refusal : Refusal} {place : Place} → found .verdict ≡ Verdict.Refused refusal place → Before r refusal place → Given r
+        unfolding tableBy runTable
+        gives-opening {r} {refusal} {place} e f =
             let t : tableOf found ≡ refusedAt refusal place = ap (λ (v : Verdict). tableBy v (found .programs)) e in
-            gives-as (by-table s l (length was) budget short valid percent (refusedAt refusal place) (sym (scan .table) ∙ t))
-            (gives-just (offset s) was (Walk.refusedAt refusal place))
+            gives-just was (by-table s l (length was) budget short valid percent (refusedAt refusal place) (sym (scan .table) ∙ t)) f
 
         module _ (e : found .verdict ≡ Verdict.Fine) where
           pub programs-opened : Opened l (found .programs)
@@ -235,7 +293,7 @@ module _ (s : Setup) (l : List ℕ) (budget : Budget) (was : List ℕ) where
               }
 
           pub gives-main :
-              {is : List ℕ} {r : Answer}
+              {is : List ℕ} {r : Report}
               → Gives (offset s) (runTable s l (blocksOf l) (length was) budget (table (found .programs .main) (subsOf (found .programs)))) was is r
               → Gives (offset s) (outcome s l (length was) budget) was is r
           gives-main h =
@@ -246,12 +304,16 @@ module _ (s : Setup) (l : List ℕ) (budget : Budget) (was : List ℕ) where
 -- ---- the list buffer in full
 
 pub owed :
-    (s : Setup) (l : List ℕ) (budget : Budget) {was is : List ℕ} {r : Answer}
+    (s : Setup) (l : List ℕ) (budget : Budget) {was is : List ℕ} {r : Report}
     → Gives (offset s) (outcome s l (length was) budget) was is r → Owes s l budget was is r
-unfolding answerOf recordsOf
+unfolding answerOf standingOf recordsOf reportBy
 owed s l budget {was} g =
     let made = outcome s l (length was) budget .made in
     let bytes = movedBytes (offset s) made in
     let fits : 0 + length bytes ≤ length was = omega (arith, moved-length (offset s) made, g .room) in
     let none : 0 + length bytes ≡ length bytes = omega arith in
-    record { answer = g .answer; bytes = g .bytes ∙ rw none at (sets-eq bytes was 0 fits) }
+    record {
+      answer = ap (λ (r : Report). r .answer) (g .report);
+      standing = ap (λ (r : Report). r .standing) (g .report);
+      bytes = g .bytes ∙ rw none at (sets-eq bytes was 0 fits);
+    }

@@ -13,11 +13,12 @@ use Rattle.programs.specs.declared.Programs.{Programs}
 use Rattle.programs.specs.Openings.{table, programsFrom}
 use Rattle.programs.specs.Found.{subsOf, WellFound}
 use Rattle.runs.specs.Walk.{Outcome}
-use Rattle.runs.specs.Run.{answerBy}
+use Rattle.runs.specs.declared.Report.{Report}
 use Rattle.refusals.specs.declared.Answer.{Answer}
 use Rattle.refusals.specs.declared.Answer.the-variants as Answers
 use Rattle.progress.specs.declared.Ending.{Ending}
 use Rattle.progress.specs.declared.Ending.the-variants.{Ended, Returned, Unfinished, Refused}
+use Rattle.interpreter.specs.Owing.{reportBy}
 
 -- "Order: .. 11; then per opening 1, 8, 7.": the data begin with `%` alone, and these are their programs
 pub record Opened (l : List ℕ) (t : Programs) : Type 0 where
@@ -27,13 +28,13 @@ pub record Opened (l : List ℕ) (t : Programs) : Type 0 where
 
 -- the answer that the main program's ending gives
 unfoldable pub answerFor : Ending → Answer
-answerFor (Ended count) = Answers.Done count
+answerFor (Ended s count) = Answers.Done count
 answerFor (Returned p) = Answers.Done (p .count)
-answerFor (Unfinished count) = Answers.Unfinished count
-answerFor (Refused refusal place count) = Answers.Refused refusal place count
+answerFor (Unfinished s next count) = Answers.Unfinished count
+answerFor (Refused refusal place s count) = Answers.Refused refusal place count
 
--- the answer by an outcome, and its records from the first byte of the list on
-pub record Gives (offset : Point) (o : Outcome) (was is : List ℕ) (r : Answer) : Type 0 where
-  pub answer : r ≡ answerBy (o .how) (length (o .made))
+-- the report by an outcome, and its records from the first byte of the list on
+pub record Gives (offset : Point) (o : Outcome) (was is : List ℕ) (r : Report) : Type 0 where
+  pub report : r ≡ reportBy offset o
   pub bytes : is ≡ sets was 0 (movedBytes offset (o .made))
   pub room : roomOf (o .made) ≤ length was

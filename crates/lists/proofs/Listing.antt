@@ -7,7 +7,6 @@ use native.Mathlib.Omega.{arith}
 use native.Mathlib.Nat.{add-zero}
 use lib.ListN.{length, take, drop, take-append-drop}
 use lib.Seq.{drop-drop, drop-at, drop-append-le, length-take-le, take-append-seam}
-use Rattle.refusals.specs.declared.Answer.{Answer}
 use Rattle.refusals.specs.Answers.{countOf}
 use Rattle.setup.specs.declared.Setup.{Setup}
 use Rattle.records.specs.declared.Record.{Record}
@@ -19,8 +18,9 @@ use Rattle.records.specs.Reading.{readAt}
 use Rattle.records.proofs.Laid.{record-length, list-length}
 use Rattle.records.proofs.Back.{record-back}
 use Rattle.commands.specs.declared.options.Options.{Options}
-use Rattle.runs.specs.Run.{answerOf, recordsOf}
+use Rattle.runs.specs.Run.{answerOf, standingOf, recordsOf}
 use Rattle.runs.specs.declared.Budget.the-variants.{Whole, First}
+use Rattle.runs.specs.declared.Report.{Report}
 use Rattle.promises.proofs.ReadBack.{read-back, records-short}
 use Rattle.interpreter.specs.Owing.{Owes}
 use Rattle.lists.specs.Lists.{budgetOf, madeBy, endBy, endAfter, Makes}
@@ -85,16 +85,16 @@ module _ (was bs : List ℕ) (room : ℕ) (inside : room ≤ length was) (fits :
       (sym (drop-append-le n (take room was) (drop room was) k) ∙ ap (drop n) (take-append-drop room was))
 
 pub made :
-    (s : Setup) → length (s .origins) ≡ 6 → (bytes : List ℕ) (o : Options) {was part : List ℕ} {r : Answer} {count end : ℕ}
+    (s : Setup) → length (s .origins) ≡ 6 → (bytes : List ℕ) (o : Options) {was part : List ℕ} {r : Report} {count end : ℕ}
     → o .room ≤ length was → Owes s bytes (budgetOf o) (take (o .room) was) part r
-    → count ≡ countOf r → end ≡ endAfter count (part ++ drop (o .room) was) 0
-    → Makes s bytes o was (part ++ drop (o .room) was) (record { answer = r; end = end })
+    → count ≡ countOf (r .answer) → end ≡ endAfter count (part ++ drop (o .room) was) 0
+    → Makes s bytes o was (part ++ drop (o .room) was) (record { answer = r .answer; standing = r .standing; end = end })
 made s six bytes o {was} {part} {r} {count} {end} inside owes counted e =
     let rs = madeBy s bytes o in
     let bs = listBytes rs in
     let long : length (take (o .room) was) ≡ o .room = length-take-le (o .room) was inside in
     let back = read-back s six bytes (o .room) (budgetOf o) in
-    let answer : r ≡ answerOf s bytes (o .room) (budgetOf o) =
+    let answer : r .answer ≡ answerOf s bytes (o .room) (budgetOf o) =
     owes .answer ∙ ap (λ (n : ℕ). answerOf s bytes n (budgetOf o)) long in
     let wrote : part ≡ bs ++ drop (length bs) (take (o .room) was) =
     owes .bytes
@@ -109,6 +109,7 @@ made s six bytes o {was} {part} {r} {count} {end} inside owes counted e =
     let at-end : end ≡ length bs = omega (arith, ends, list-length rs) in
     record {
       answer = answer;
+      standing = owes .standing ∙ ap (λ (n : ℕ). standingOf s bytes n (budgetOf o)) long;
       buffer = is;
       end = at-end;
       fits = omega (arith, at-end, back .fits);

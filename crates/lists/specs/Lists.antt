@@ -14,7 +14,7 @@ use Rattle.records.specs.declared.Record.{Record}
 use Rattle.records.specs.Layout.{listBytes}
 use Rattle.records.specs.Reading.{readAt}
 use Rattle.commands.specs.declared.options.Options.{Options}
-use Rattle.runs.specs.Run.{answerOf, recordsOf}
+use Rattle.runs.specs.Run.{answerOf, standingOf, recordsOf}
 use Rattle.runs.specs.declared.Budget.{Budget}
 use Rattle.runs.specs.declared.Budget.the-variants.{Whole, First}
 use Rattle.lists.specs.declared.Made.{Made}
@@ -37,10 +37,11 @@ unfoldable pub endAfter : ℕ → List ℕ → ℕ → ℕ
 endAfter zero l at = at
 endAfter (suc n) l at = endBy (readAt l at) at (endAfter n l)
 
--- What such a run owes: its answer; its records from the first byte of the buffer on, within the room, and every byte after
+-- What such a run owes: its answer, and where it stands; its records from the first byte of the buffer on, within the room, and every byte after
 -- them as it was; and where they end, so that the bytes before it are the records'.
 pub record Makes (s : Setup) (bytes : List ℕ) (o : Options) (was is : List ℕ) (m : Made) : Type 0 where
   pub answer : m .answer ≡ answerOf s bytes (o .room) (budgetOf o)
+  pub standing : m .standing ≡ standingOf s bytes (o .room) (budgetOf o)
   pub buffer : is ≡ listBytes (madeBy s bytes o) ++ drop (length (listBytes (madeBy s bytes o))) was
   pub end : m .end ≡ length (listBytes (madeBy s bytes o))
   pub fits : m .end ≤ o .room

@@ -3,6 +3,8 @@ use commands::Options;
 use records::Listed;
 use refusals::Answer;
 use refusals::count_of;
+use runs::Report;
+use runs::Standing;
 use setup::Setup;
 ghost use mathlib.Core.Path.{_≡_};
 ghost use Prim.Native.Nat.{_≤_};
@@ -10,14 +12,15 @@ ghost use lib.ListN.{length};
 ghost use Rattle.interpreter.specs.Owing.{Owes};
 ghost use Rattle.lists.specs.Lists.{budgetOf, endAfter, Makes, isWritten};
 
-// The answer of a run, and where its records end in the buffer.
+// The answer of a run, where it stands, and where its records end in the buffer.
 pub struct Made {
     pub answer: Answer,
+    pub standing: Standing,
     pub end: usize,
 }
 
 // Runs as many blocks as the options say.
-fn answer_in(setup: Setup, bytes: &[u8], list: &mut [u8], options: Options) -> Answer
+fn report_in(setup: Setup, bytes: &[u8], list: &mut [u8], options: Options) -> Report
     ensures { λ r. ⌜ Owes setup (now (bytes .entry)) (budgetOf options) (now (list .entry)) (now (list .exit)) r ⌝ }
 {
     if options.whole {
@@ -55,9 +58,15 @@ pub fn make_list(setup: Setup, bytes: &[u8], list: &mut [u8], options: Options) 
     ensures { λ r. ⌜ Makes setup (now (bytes .entry)) options (now (list .entry)) (now (list .exit)) r ⌝ }
 {
     let room = options.room;
-    let answer = answer_in(setup, bytes, &mut list[..room], options);
+    let report = report_in(setup, bytes, &mut list[..room], options);
+    let answer = report.answer;
+    let standing = report.standing;
     let end = records_end(list, count_of(answer));
-    Made { answer, end }
+    Made {
+        answer,
+        standing,
+        end,
+    }
 }
 
 // Whether the list's file gets the records of a run with this answer.

@@ -145,7 +145,7 @@ fn show_point(p: Point) -> bool {
     show_number(p.x) && show_number(p.y) && show_number(p.z)
 }
 
-fn show_number(n: Len) -> bool {
+pub fn show_number(n: Len) -> bool {
     let zero = Len::zero();
     let sign = if n.below(zero) { say(b" -") } else { say(b" ") };
     sign && io::print_decimal(STDOUT_FILENO, n.apart(zero))

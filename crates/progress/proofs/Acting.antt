@@ -23,7 +23,7 @@ use Rattle.blocks.specs.Exec.{Verdict, refused, accepted}
 use Rattle.blocks.specs.Reach.{Reachable}
 use Rattle.blocks.specs.Keeping.{Keeps}
 use Rattle.blocks.specs.Doing.{madeOf}
-use Rattle.runs.specs.Walk.{Going, How, ended, returned, refusedAt, Outcome, just, after, goingOn, thenRest, follow, obey}
+use Rattle.runs.specs.Walk.{Going, How, ended, returned, refusedAt, Outcome, nowhere, just, after, goingOn, thenRest, follow, obey}
 use Rattle.progress.specs.Progressing.{goingOf, progressOn, entering, turned, acted, endingBy, Acts, Comes, Ran, Fits}
 use Rattle.progress.specs.declared.Progress.{Progress}
 use Rattle.progress.specs.declared.Ending.{Ending}
@@ -65,7 +65,7 @@ module _ (bed : Bed) (programs : List Program) (left : ℕ) (o : Walk) (p : Prog
     pub found : known programs number ≡ some program
     pub ran :
         (callee : ℕ → Going → Outcome) (rest : Going → Outcome) (last : List ℕ) (r : Ending)
-        → Ran bed (after (callee number (goingOf (length was) q) .made) (thenRest (callee number (goingOf (length was) q) .how) rest)) q is last r
+        → Ran bed (after (callee number (goingOf (length was) q) .made) (thenRest (callee number (goingOf (length was) q) .how) (callee number (goingOf (length was) q) .last) (callee number (goingOf (length was) q) .next) rest)) q is last r
         → Ran bed (o callee rest) p was last r
 
   abbrev pub Leads : Act → Type 0
@@ -92,13 +92,13 @@ module _ (bed : Bed) (programs : List Program) (left : ℕ) (b : Block) (here : 
     later-ran h = ran-after bed made refl refl refl h
 
     later-just :
-        (how : How) → ((g : Going) → how ≡ returned g → Comes bed (length was - (p .next + roomOf made)) g)
-        → Ran bed (after made (just how)) p was (with-records bed p was made) (endingBy how (p .next + roomOf made) (p .count + length made))
+        (how : How) → ((g : Going) → how ≡ returned g → Comes s (length was - (p .next + roomOf made)) g)
+        → Ran bed (after made (just how s)) p was (with-records bed p was made) (endingBy how s nowhere (p .next + roomOf made) (p .count + length made))
     unfolding progressOn
     later-just how back =
         let same = length-sets was (p .next) (movedBytes (bed .offset) made) in
         let room′ : p .next + roomOf made ≤ length (with-records bed p was made) = omega (arith, fits .next) in
-        later-ran (ran-just bed how room′ (λ g e. rw same (back g e)))
+        later-ran (ran-just bed how state room′ (λ g e. rw same (back g e)))
 
     leads-on : Leads bed programs left (by (length was) p b (accepted s On made)) p was (with-records bed p was made) place (Goes (progressOn p s made) place)
     unfolding obey follow
@@ -130,16 +130,16 @@ module _ (bed : Bed) (programs : List Program) (left : ℕ) (b : Block) (here : 
         later-just (returned (goingOn (goingOf (length was) p) s made))
         (λ g e.
         let f : goingOn (goingOf (length was) p) s made ≡ g = cc in
-        rw (← f) (record { state = state; room = omega arith }))
+        rw (← f) (record { state = refl; room = omega arith }))
 
-    leads-stop : Leads bed programs left (by (length was) p b (accepted s Stop made)) p was (with-records bed p was made) place (Halts (Ended (progressOn p s made .count)))
-    unfolding obey follow progressOn endingBy
+    leads-stop : Leads bed programs left (by (length was) p b (accepted s Stop made)) p was (with-records bed p was made) place (Halts (Ended (progressOn p s made .state) (progressOn p s made .count)))
+    unfolding obey follow progressOn endingBy goingOn
     leads-stop callee rest = later-just ended (λ g e. let z : _≡_ {A = ℕ} 0 1 = cc in absurd (omega arith))
 
   leads : (v : Verdict) → StaysFair bed (length was - p .next) (p .state) programs left v → Leads bed programs left (by (length was) p b v) p was (with-records bed p was (madeOf v)) place (acted v programs here place p)
-  unfolding acted turned madeOf obey endingBy listBytes
+  unfolding acted turned madeOf obey endingBy listBytes goingOf
   leads (refused blame) k = λ callee rest.
-      rw number (ran-just bed (refusedAt (blame .refusal) (record { block = b .number; byte = blame .byte })) (fits .next) (λ g e. let z : _≡_ {A = ℕ} 0 1 = cc in absurd (omega arith)))
+      rw number (ran-just bed (refusedAt (blame .refusal) (record { block = b .number; byte = blame .byte })) (fits .state) (fits .next) (λ g e. let z : _≡_ {A = ℕ} 0 1 = cc in absurd (omega arith)))
   leads (accepted s On made) k = leads-on s made (k .0 .state) (k .0 .fits)
   leads (accepted s (Call n) made) k = leads-call s made (k .0 .state) (k .0 .fits) n (known programs n) refl (k .1 .0) (k .1 .1)
   leads (accepted s Back made) k = leads-back s made (k .0 .state) (k .0 .fits)

@@ -17,8 +17,10 @@ use Rattle.settings.specs.declared.State.{State}
 use Rattle.cycles.specs.Writing.{movedBytes}
 use Rattle.cycles.proofs.Rooms.{room-append}
 use Rattle.cycles.proofs.Written.{moved-room, put-then}
-use Rattle.runs.specs.Walk.{Going, How, ended, returned, unfinished, refusedAt, Outcome, just, after, goingOn, thenRest}
-use Rattle.progress.specs.Progressing.{goingOf, progressOn, endingBy, Comes, Ran, Fits}
+use Rattle.refusals.specs.declared.Place.{Place}
+use Rattle.blocks.specs.Reach.{Reachable}
+use Rattle.runs.specs.Walk.{Going, How, ended, returned, unfinished, refusedAt, Outcome, nowhere, just, spentAt, after, goingOn, thenRest}
+use Rattle.progress.specs.Progressing.{goingOf, progressOn, endingBy, nextBy, Comes, Ran, Fits}
 use Rattle.progress.specs.declared.Progress.{Progress}
 use Rattle.progress.specs.declared.Ending.{Ending}
 use Rattle.progress.specs.declared.Ending.the-variants.{Returned}
@@ -37,30 +39,54 @@ going-on room p s made =
     rw e
 
 going-back :
-    (room : ℕ) {next count : ℕ} {g : Going} {back : Progress} → back ≡ record { state = g .state; next = next; count = count; budget = g .budget }
-    → g .room ≡ room - next → goingOf room back ≡ g
+    (room : ℕ) {next count : ℕ} {s : State} {g : Going} {back : Progress} → back ≡ record { state = s; next = next; count = count; budget = g .budget }
+    → Comes s (room - next) g → goingOf room back ≡ g
 unfolding goingOf
-going-back room {g = g} e f = rw e (ap (λ (k : ℕ). record { state = g .state; room = k; budget = g .budget }) (sym f))
+going-back room {g = g} e f =
+    rw e (ap₂ (λ (s : State) (k : ℕ). record { state = s; room = k; budget = g .budget }) (sym (f .state)) (sym (f .room)))
 
 pub moved-length : (by : Point) (made : List Record) → length (movedBytes by made) ≡ roomOf made
 moved-length by made = list-length (map (recordMoved by) made) ∙ moved-room by made
 
 module _ (bed : Bed) where
   -- nothing more is written
-  pub ran-just :
-      {p : Progress} {l : List ℕ} (how : How) → p .next ≤ length l
-      → ((g : Going) → how ≡ returned g → Comes bed (length l - p .next) g)
-      → Ran bed (just how) p l l (endingBy how (p .next) (p .count))
+  ran-none :
+      {p : Progress} {l : List ℕ} (how : How) (s : State) (on : Place) → Reachable bed s → p .next ≤ length l → on ≡ nextBy how on
+      → ((g : Going) → how ≡ returned g → Comes s (length l - p .next) g)
+      → Ran bed (record { how = how; made = []; last = s; next = on }) p l l (endingBy how s on (p .next) (p .count))
   unfolding listBytes roomOf
-  ran-just {p} {l} how room back =
+  ran-none {p} {l} how s on state room on-is back =
       let e : p .next ≡ p .next + 0 = omega arith in
       let f : p .count ≡ p .count + 0 = omega arith in
       record {
-        answer = ap₂ (endingBy how) e f;
+        answer = ap₂ (endingBy how s on) e f;
         bytes = refl;
         room = omega arith;
+        state = state;
+        on = on-is;
         back = λ g h. rw e at (back g h);
       }
+
+  no-next : (how : How) → nowhere ≡ nextBy how nowhere
+  unfolding nextBy
+  no-next ended = refl
+  no-next (returned g) = refl
+  no-next unfinished = refl
+  no-next (refusedAt refusal place) = refl
+
+  pub ran-just :
+      {p : Progress} {l : List ℕ} (how : How) {s : State} → Reachable bed s → p .next ≤ length l
+      → ((g : Going) → how ≡ returned g → Comes s (length l - p .next) g)
+      → Ran bed (just how s) p l l (endingBy how s nowhere (p .next) (p .count))
+  ran-just how {s} state room back = ran-none how s nowhere state room (no-next how) back
+
+  -- the budget is spent before a block
+  pub ran-spent :
+      {p : Progress} {l : List ℕ} {s : State} (on : Place) → Reachable bed s → p .next ≤ length l
+      → Ran bed (spentAt s on) p l l (endingBy unfinished s on (p .next) (p .count))
+  unfolding nextBy
+  ran-spent {s = s} on state room =
+      ran-none unfinished s on state room refl (λ g e. let z : _≡_ {A = ℕ} 0 1 = cc in absurd (omega arith))
 
   -- an outcome after records
   pub ran-after :
@@ -78,9 +104,11 @@ module _ (bed : Bed) where
       record { bytes = ran .bytes; place = refl }
       in
       record {
-        answer = ran .answer ∙ ap₂ (endingBy (o .how)) e f;
+        answer = ran .answer ∙ ap₂ (endingBy (o .how) (o .last) (o .next)) e f;
         bytes = put-then (bed .offset) made (o .made) first rest .bytes;
         room = omega (arith, ran .room);
+        state = ran .state;
+        on = ran .on;
         back = λ g h. rw (same, e) at (ran .back g h);
       }
 
@@ -88,28 +116,28 @@ module _ (bed : Bed) where
   ran-length {o} {p} {was} ran = ap length (ran .bytes) ∙ length-sets was (p .next) (movedBytes (bed .offset) (o .made))
 
   -- the progress with which a return comes back
-  record Came (how : How) (next count : ℕ) (back : Progress) : Type 0 where
+  record Came (how : How) (s : State) (next count : ℕ) (back : Progress) : Type 0 where
     going : Going
     how-is : how ≡ returned going
-    is : back ≡ record { state = going .state; next = next; count = count; budget = going .budget }
+    is : back ≡ record { state = s; next = next; count = count; budget = going .budget }
 
-  came-back : (how : How) (next count : ℕ) (back : Progress) → Returned back ≡ endingBy how next count → Came how next count back
+  came-back :
+      (how : How) (s : State) (on : Place) (next count : ℕ) (back : Progress) → Returned back ≡ endingBy how s on next count
+      → Came how s next count back
   unfolding endingBy
-  came-back ended next count back e = let z : _≡_ {A = ℕ} 0 1 = cc in absurd (omega arith)
-  came-back (returned g) next count back e = record { going = g; how-is = refl; is = cc }
-  came-back unfinished next count back e = let z : _≡_ {A = ℕ} 0 1 = cc in absurd (omega arith)
-  came-back (refusedAt refusal place) next count back e = let z : _≡_ {A = ℕ} 0 1 = cc in absurd (omega arith)
+  came-back ended s on next count back e = let z : _≡_ {A = ℕ} 0 1 = cc in absurd (omega arith)
+  came-back (returned g) s on next count back e = record { going = g; how-is = refl; is = cc }
+  came-back unfinished s on next count back e = let z : _≡_ {A = ℕ} 0 1 = cc in absurd (omega arith)
+  came-back (refusedAt refusal place) s on next count back e = let z : _≡_ {A = ℕ} 0 1 = cc in absurd (omega arith)
 
   module _ {o : Outcome} {p back : Progress} {was is : List ℕ} (ran : Ran bed o p was is (Returned back)) where
-    came : Came (o .how) (p .next + roomOf (o .made)) (p .count + length (o .made)) back
-    came = came-back (o .how) (p .next + roomOf (o .made)) (p .count + length (o .made)) back (ran .answer)
+    came : Came (o .how) (o .last) (p .next + roomOf (o .made)) (p .count + length (o .made)) back
+    came = came-back (o .how) (o .last) (o .next) (p .next + roomOf (o .made)) (p .count + length (o .made)) back (ran .answer)
 
     pub back-fits : p .count ≤ p .next → Fits bed (length was) back
     back-fits h =
-        let c = came in
-        let comes = ran .back (c .going) (c .how-is) in
-        rw (c .is) (record {
-          state = comes .state;
+        rw (came .is) (record {
+          state = ran .state;
           next = ran .room;
           count = omega (arith, count-room (o .made));
         })
@@ -117,25 +145,25 @@ module _ (bed : Bed) where
     -- "M99: returns": what follows a call that came back
     pub ran-then :
         {last : List ℕ} {r : Ending} (rest : Going → Outcome) → Ran bed (rest (goingOf (length was) back)) back is last r
-        → Ran bed (after (o .made) (thenRest (o .how) rest)) p was last r
+        → Ran bed (after (o .made) (thenRest (o .how) (o .last) (o .next) rest)) p was last r
     unfolding thenRest
     ran-then rest h =
         let c = came in
-        let g : goingOf (length was) back ≡ c .going = going-back (length was) (c .is) (ran .back (c .going) (c .how-is) .room) in
+        let g : goingOf (length was) back ≡ c .going = going-back (length was) (c .is) (ran .back (c .going) (c .how-is)) in
         rw (c .how-is) (ran-after (o .made) (ran .bytes) (ap (λ (b : Progress). b .next) (c .is)) (ap (λ (b : Progress). b .count) (c .is)) (rw g at h))
 
   -- and what follows one that did not
   ran-ended :
-      {made : List Record} {p : Progress} {was is : List ℕ} {r : Ending} (how : How) (rest : Going → Outcome)
-      → ((back : Progress) → r ≡ Returned back → ⊥) → Ran bed (record { how = how; made = made }) p was is r
-      → Ran bed (after made (thenRest how rest)) p was is r
-  unfolding after thenRest endingBy
-  ran-ended {made} ended rest never h = rw (append-nil made) h
-  ran-ended {made} (returned g) rest never h = absurd (never _ (h .answer))
-  ran-ended {made} unfinished rest never h = rw (append-nil made) h
-  ran-ended {made} (refusedAt refusal place) rest never h = rw (append-nil made) h
+      {made : List Record} {s : State} {on : Place} {p : Progress} {was is : List ℕ} {r : Ending} (how : How) (rest : Going → Outcome)
+      → ((back : Progress) → r ≡ Returned back → ⊥) → on ≡ nextBy how on → Ran bed (record { how = how; made = made; last = s; next = on }) p was is r
+      → Ran bed (after made (thenRest how s on rest)) p was is r
+  unfolding after thenRest endingBy nextBy
+  ran-ended {made} ended rest never e h = let f = append-nil made in rw (f, ← e) h
+  ran-ended {made} (returned g) rest never e h = absurd (never _ (h .answer))
+  ran-ended {made} unfinished rest never e h = rw (append-nil made) h
+  ran-ended {made} (refusedAt refusal place) rest never e h = let f = append-nil made in rw (f, ← e) h
 
   pub ran-stops :
       {o : Outcome} {p : Progress} {was is : List ℕ} {r : Ending} (rest : Going → Outcome)
-      → ((back : Progress) → r ≡ Returned back → ⊥) → Ran bed o p was is r → Ran bed (after (o .made) (thenRest (o .how) rest)) p was is r
-  ran-stops {o} rest never h = ran-ended (o .how) rest never h
+      → ((back : Progress) → r ≡ Returned back → ⊥) → Ran bed o p was is r → Ran bed (after (o .made) (thenRest (o .how) (o .last) (o .next) rest)) p was is r
+  ran-stops {o} rest never h = ran-ended (o .how) rest never (h .on) h

@@ -42,7 +42,7 @@ use Rattle.progress.proofs.Acting.{StaysFair}
 module _ (programs : List Program) (here : Place) (after : ℕ) (p : Progress) where
   refused-as :
       (v : Verdict) (refusal : Refusal) (byte : ℕ) → Executed.Refused refusal byte ≡ executed (p .next) after v
-      → Halts (Ending.Refused refusal (record { block = here .block; byte = byte }) (p .count)) ≡ acted v programs here after p
+      → Halts (Ending.Refused refusal (record { block = here .block; byte = byte }) (p .state) (p .count)) ≡ acted v programs here after p
   unfolding executed acted
   refused-as (refused blame) refusal byte e =
       let f : refusal ≡ blame .refusal = cc in
@@ -62,7 +62,7 @@ module _ (programs : List Program) (here : Place) (after : ℕ) (p : Progress) w
   module _ (bed : Bed) {v : Verdict} {was is : List ℕ} {r : Executed} (does : Does (bed .offset) v was (p .next) after is r) where
     pub acts-refused :
         {refusal : Refusal} {byte : ℕ} → r ≡ Executed.Refused refusal byte
-        → Acts bed v programs here after p was is (Halts (Ending.Refused refusal (record { block = here .block; byte = byte }) (p .count)))
+        → Acts bed v programs here after p was is (Halts (Ending.Refused refusal (record { block = here .block; byte = byte }) (p .state) (p .count)))
     acts-refused {refusal} {byte} e = record { answer = refused-as v refusal byte (sym e ∙ does .answer); bytes = does .bytes }
 
     pub acts-accepted :
@@ -86,7 +86,7 @@ module _ (programs : List Program) (here : Place) (after : ℕ) (p : Progress) w
 
 -- what a call of a number finds
 module _ (programs : List Program) (here : Place) (after : ℕ) (p : Progress) {control : Control} {n : ℕ} {found : Found} (c : control ≡ Call n) (f : found ≡ foundAs (known programs n)) where
-  pub turn-missing : found ≡ Missing → Halts (Ending.Refused NumberNotFound here (p .count)) ≡ turned control programs here after p
+  pub turn-missing : found ≡ Missing → Halts (Ending.Refused NumberNotFound here (p .state) (p .count)) ≡ turned control programs here after p
   unfolding turned entering
   turn-missing e =
       let none-is = found-none (known programs n) (sym e ∙ f) in

@@ -20,7 +20,7 @@ use Rattle.programs.specs.Places.{Begins, Placed}
 use Rattle.programs.proofs.Places.{begins-next}
 use Rattle.blocks.specs.Exec.{Verdict}
 use Rattle.blocks.specs.Doing.{madeOf}
-use Rattle.runs.specs.Walk.{Going, unfinished, refusedAt, Outcome, isSpent, obey, walk, blocksFor, callees}
+use Rattle.runs.specs.Walk.{Going, refusedAt, Outcome, isSpent, obey, walk, blocksFor, callees}
 use Rattle.progress.specs.Progressing.{jobOf, goingOf, walkFrom, programEnds, verdictAt, endingBy, Acts, Ran, Sound, Fits}
 use Rattle.progress.specs.declared.Task.{Task}
 use Rattle.progress.specs.declared.Progress.{Progress}
@@ -29,7 +29,7 @@ use Rattle.progress.specs.declared.Ending.the-variants.{Returned, Unfini
 use Rattle.progress.specs.declared.Act.{Act}
 use Rattle.progress.specs.declared.Act.the-variants.{Goes, Enters, Halts}
 use Rattle.progress.proofs.Walking.{goes-inside, walk-spent, walk-ends, walk-goes}
-use Rattle.progress.proofs.Endings.{ran-just, ran-length, back-fits, ran-then, ran-stops}
+use Rattle.progress.proofs.Endings.{ran-just, ran-spent, ran-length, back-fits, ran-then, ran-stops}
 use Rattle.progress.proofs.Acting.{Leads, Onward, Inward, acts-lead}
 use Rattle.progress.proofs.Keeping.{verdict-kept}
 
@@ -67,21 +67,22 @@ module _ (l : List ℕ) (task : Task) (left : ℕ) where
   walking-starts n at p was b f = record { begins = b; fits = f; kept = refl; same = λ last r h. h }
 
   module _ {whole : Outcome} {p₀ : Progress} {was list : List ℕ} {n at : ℕ} {p : Progress} (w : Walking l task left whole p₀ was list n at p) where
-    pub walking-spent : isSpent (p .budget) ≡ true → Ran (task .bed) whole p₀ was list (Unfinished (p .count))
+    pub walking-spent :
+        isSpent (p .budget) ≡ true → Ran (task .bed) whole p₀ was list (Unfinished (p .state) (record { block = n; byte = at }) (p .count))
     unfolding walkFrom goingOf endingBy
     walking-spent e =
-        w .same list (Unfinished (p .count))
-        (rw (walk-spent (jobOf l task) left (callees (jobOf l task) left) (goingOf (length list) p) (blocksFrom l n at) e)
-        (ran-just (task .bed) unfinished (w .fits .next) (λ g f. let z : _≡_ {A = ℕ} 0 1 = cc in absurd (omega arith))))
+        w .same list (Unfinished (p .state) (record { block = n; byte = at }) (p .count))
+        (rw (walk-spent l task left (callees (jobOf l task) left) (goingOf (length list) p) n at (w .begins) e)
+        (ran-spent (task .bed) (record { block = n; byte = at }) (w .fits .state) (w .fits .next)))
 
     pub walking-ends :
         isSpent (p .budget) ≡ false → programEnds (drop at l) ≡ true
-        → Ran (task .bed) whole p₀ was list (Refused NoEnd (record { block = n; byte = at }) (p .count))
+        → Ran (task .bed) whole p₀ was list (Refused NoEnd (record { block = n; byte = at }) (p .state) (p .count))
     unfolding walkFrom goingOf endingBy
     walking-ends e f =
-        w .same list (Refused NoEnd (record { block = n; byte = at }) (p .count))
+        w .same list (Refused NoEnd (record { block = n; byte = at }) (p .state) (p .count))
         (rw (walk-ends l task left (callees (jobOf l task) left) (goingOf (length list) p) n at (w .begins) e f)
-        (ran-just (task .bed) (refusedAt NoEnd (record { block = n; byte = at })) (w .fits .next) (λ g f. let z : _≡_ {A = ℕ} 0 1 = cc in absurd (omega arith))))
+        (ran-just (task .bed) (refusedAt NoEnd (record { block = n; byte = at })) (w .fits .state) (w .fits .next) (λ g f. let z : _≡_ {A = ℕ} 0 1 = cc in absurd (omega arith))))
 
     -- the block at the place, which is executed or skipped
     module _ (sound : Sound l task) (e : isSpent (p .budget) ≡ false) (f : programEnds (drop at l) ≡ false) where

@@ -15,7 +15,7 @@ use Rattle.lines.proofs.Lines.{at-place, blocks-step, blocks-end}
 use Rattle.programs.specs.Places.{Begins}
 use Rattle.blocks.specs.Exec.{accepted}
 use Rattle.blocks.specs.declared.Control.the-variants.{On}
-use Rattle.runs.specs.Walk.{Job, Going, Outcome, unfinished, refusedAt, just, after, isSpent, isSkipped, follow, obey, verdictOn, runBlock, reached, walk}
+use Rattle.runs.specs.Walk.{Job, Going, Outcome, refusedAt, just, spentAt, after, isSpent, isSkipped, follow, obey, verdictOn, runBlock, reached, walk}
 use Rattle.progress.specs.Progressing.{jobOf, programEnds, verdictAt}
 use Rattle.progress.specs.declared.Task.{Task}
 use Rattle.progress.proofs.Places.{begins-end}
@@ -50,17 +50,20 @@ goes-inside l at e =
     ]
 
 module _ (job : Job) (left : ℕ) (callee : ℕ → Going → Outcome) (g : Going) where
-  pub walk-spent : (bs : List Block) → isSpent (g .budget) ≡ true → walk job left callee bs g ≡ just unfinished
+  spent-none : isSpent (g .budget) ≡ true → walk job left callee [] g ≡ spentAt (g .state) (job .finish)
   unfolding walk reached
-  walk-spent [] e = rw e
-  walk-spent (b ∷ bs) e = rw e
+  spent-none e = rw e
 
-  walk-none : isSpent (g .budget) ≡ false → walk job left callee [] g ≡ just (refusedAt NoEnd (job .finish))
+  spent-block : (b : Block) (bs : List Block) → isSpent (g .budget) ≡ true → walk job left callee (b ∷ bs) g ≡ spentAt (g .state) (record { block = b .number; byte = b .start })
+  unfolding walk reached
+  spent-block b bs e = rw e
+
+  walk-none : isSpent (g .budget) ≡ false → walk job left callee [] g ≡ just (refusedAt NoEnd (job .finish)) (g .state)
   unfolding walk reached
   walk-none e = rw e
 
   module _ (b : Block) (bs : List Block) (e : isSpent (g .budget) ≡ false) where
-    walk-closed : (opens b || closes b) ≡ true → walk job left callee (b ∷ bs) g ≡ just (refusedAt NoEnd (record { block = b .number; byte = b .start }))
+    walk-closed : (opens b || closes b) ≡ true → walk job left callee (b ∷ bs) g ≡ just (refusedAt NoEnd (record { block = b .number; byte = b .start })) (g .state)
     unfolding walk reached
     walk-closed f = rw (e, f)
 
@@ -79,9 +82,24 @@ module _ (job : Job) (left : ℕ) (callee : ℕ → Going → Outcome) (g : Goin
   run-as b rest = skipped-as (isSkipped job b) b rest
 
 module _ (l : List ℕ) (task : Task) (left : ℕ) (callee : ℕ → Going → Outcome) (g : Going) (n at : ℕ) where
+  pub walk-spent :
+      Begins l n at → isSpent (g .budget) ≡ true
+      → walk (jobOf l task) left callee (blocksFrom l n at) g ≡ spentAt (g .state) (record { block = n; byte = at })
+  unfolding jobOf
+  walk-spent b e =
+      elim (decLt at (length l)) [
+        | yes h ↦
+            rw (blocks-step l n at h)
+            (spent-block (jobOf l task) left callee g (blockFrom n at (drop at l)) (blocksFrom l (n + 1) (at + lengthFrom (drop at l))) e)
+        | no h ↦
+            let past : length l ≤ at = omega arith in
+            rw (blocks-end l n at past)
+            (spent-none (jobOf l task) left callee g e ∙ ap (λ (place : Place). spentAt (g .state) place) (begins-end b past))
+      ]
+
   pub walk-ends :
       Begins l n at → isSpent (g .budget) ≡ false → programEnds (drop at l) ≡ true
-      → walk (jobOf l task) left callee (blocksFrom l n at) g ≡ just (refusedAt NoEnd (record { block = n; byte = at }))
+      → walk (jobOf l task) left callee (blocksFrom l n at) g ≡ just (refusedAt NoEnd (record { block = n; byte = at })) (g .state)
   unfolding jobOf
   walk-ends b e f =
       elim (decLt at (length l)) [
@@ -91,7 +109,7 @@ module _ (l : List ℕ) (task : Task) (left : ℕ) (callee : ℕ → Going → O
         | no h ↦
             let past : length l ≤ at = omega arith in
             rw (blocks-end l n at past)
-            (walk-none (jobOf l task) left callee g e ∙ ap (λ (place : Place). just (refusedAt NoEnd place)) (begins-end b past))
+            (walk-none (jobOf l task) left callee g e ∙ ap (λ (place : Place). just (refusedAt NoEnd place) (g .state)) (begins-end b past))
       ]
 
   pub walk-goes :

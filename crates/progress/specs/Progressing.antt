@@ -28,7 +28,7 @@ use Rattle.blocks.specs.declared.Done.{Done}
 use Rattle.blocks.specs.Exec.{Verdict, refused, accepted}
 use Rattle.blocks.specs.Reach.{Reachable}
 use Rattle.blocks.specs.Doing.{madeOf}
-use Rattle.runs.specs.Walk.{Job, Going, How, ended, returned, unfinished, refusedAt, Outcome, oneLess, isSkipped, verdictOn, walk, callees}
+use Rattle.runs.specs.Walk.{Job, Going, How, ended, returned, unfinished, refusedAt, Outcome, nowhere, oneLess, isSkipped, verdictOn, walk, callees}
 use Rattle.runs.specs.Run.{finishOf}
 use Rattle.refusals.specs.declared.Answer.the-variants as Answers
 use Rattle.progress.specs.declared.Task.{Task}
@@ -78,7 +78,7 @@ progressBy p d = record { state = d .state; next = d .next; count = p .count + d
 
 -- what a call leads to; a block that calls an unknown number is refused before
 unfoldable pub entering : Option Program → Place → ℕ → Progress → Act
-entering none here after p = Halts (Refused NumberNotFound here (p .count))
+entering none here after p = Halts (Refused NumberNotFound here (p .state) (p .count))
 entering (some q) here after p = Enters q p after
 
 -- where an accepted block leads whose next block begins at the byte `after`
@@ -86,11 +86,11 @@ unfoldable pub turned : Control → List Program → Place → ℕ → Progress 
 turned On programs here after p = Goes p after
 turned (Call n) programs here after p = entering (known programs n) here after p
 turned Back programs here after p = Halts (Returned p)
-turned Stop programs here after p = Halts (Ended (p .count))
+turned Stop programs here after p = Halts (Ended (p .state) (p .count))
 
 unfoldable pub acted : Verdict → List Program → Place → ℕ → Progress → Act
 acted (refused blame) programs here after p =
-    Halts (Refused (blame .refusal) (record { block = here .block; byte = blame .byte }) (p .count))
+    Halts (Refused (blame .refusal) (record { block = here .block; byte = blame .byte }) (p .state) (p .count))
 acted (accepted s control made) programs here after p = turned control programs here after (progressOn p s made)
 
 -- what a block leads to, and what it leaves in the list
@@ -98,25 +98,34 @@ pub record Acts (bed : Bed) (v : Verdict) (programs : List Program) (here : Plac
   pub answer : r ≡ acted v programs here after p
   pub bytes : is ≡ sets was (p .next) (movedBytes (bed .offset) (madeOf v))
 
--- the ending of a walk whose records end at the place `next` of the list and number `count`
-unfoldable pub endingBy : How → ℕ → ℕ → Ending
-endingBy ended next count = Ended count
-endingBy (returned g) next count =
-    Returned (record { state = g .state; next = next; count = count; budget = g .budget })
-endingBy unfinished next count = Unfinished count
-endingBy (refusedAt refusal place) next count = Refused refusal place count
+-- the ending of a walk that leaves these settings before the block `on`, whose records end at the place `next` of the list and
+-- number `count`
+unfoldable pub endingBy : How → State → Place → ℕ → ℕ → Ending
+endingBy ended s on next count = Ended s count
+endingBy (returned g) s on next count = Returned (record { state = s; next = next; count = count; budget = g .budget })
+endingBy unfinished s on next count = Unfinished s on count
+endingBy (refusedAt refusal place) s on next count = Refused refusal place s count
 
--- what goes on after a return: settings that a run can reach, and the room that is left
-pub record Comes (bed : Bed) (left : ℕ) (g : Going) : Type 0 where
-  pub state : Reachable bed (g .state)
+-- a walk tells the place of a block to come where the budget is spent alone
+unfoldable pub nextBy : How → Place → Place
+nextBy ended on = nowhere
+nextBy (returned g) on = nowhere
+nextBy unfinished on = on
+nextBy (refusedAt refusal place) on = nowhere
+
+-- what goes on after a return: the settings that the walk leaves, and the room that is left
+pub record Comes (last : State) (left : ℕ) (g : Going) : Type 0 where
+  pub state : g .state ≡ last
   pub room : g .room ≡ left
 
--- how a walk ends, and what it leaves in the list
+-- how a walk ends, what it leaves in the list, and settings that a run can reach
 pub record Ran (bed : Bed) (o : Outcome) (p : Progress) (was is : List ℕ) (r : Ending) : Type 0 where
-  pub answer : r ≡ endingBy (o .how) (p .next + roomOf (o .made)) (p .count + length (o .made))
+  pub answer : r ≡ endingBy (o .how) (o .last) (o .next) (p .next + roomOf (o .made)) (p .count + length (o .made))
   pub bytes : is ≡ sets was (p .next) (movedBytes (bed .offset) (o .made))
   pub room : p .next + roomOf (o .made) ≤ length was
-  pub back : (g : Going) → o .how ≡ returned g → Comes bed (length was - (p .next + roomOf (o .made))) g
+  pub state : Reachable bed (o .last)
+  pub on : o .next ≡ nextBy (o .how) (o .next)
+  pub back : (g : Going) → o .how ≡ returned g → Comes (o .last) (length was - (p .next + roomOf (o .made))) g
 
 -- what stays as it is while a data set runs
 pub record Sound (l : List ℕ) (task : Task) : Type 0 where

@@ -34,13 +34,13 @@ pub struct Progress {
     pub budget: Budget,
 }
 
-// How the walk through a program ends: at the program's end, by a return with what goes on, by the budget's end, or by a
-// refusal with its place. Each but the return tells the count of the records.
+// How the walk through a program ends: at the program's end, by a return with what goes on, by the budget's end before the
+// block at a place, or by a refusal with its place. Each tells the settings and the count of the records.
 pub enum Ending {
-    Ended(usize),
+    Ended(State, usize),
     Returned(Progress),
-    Unfinished(usize),
-    Refused(Refusal, Place, usize),
+    Unfinished(State, Place, usize),
+    Refused(Refusal, Place, State, usize),
 }
 
 // What a block leads to: the next block, at its byte; a subprogram, with the byte of the block to come back to; or the
@@ -125,10 +125,14 @@ pub fn turn(t: Programs, here: Place, control: Control, after: usize, p: Progres
     match control {
         Control::On => Act::Goes(p, after),
         Control::Back => Act::Halts(Ending::Returned(p)),
-        Control::Stop => Act::Halts(Ending::Ended(p.count)),
+        Control::Stop => {
+            let state = p.state;
+            Act::Halts(Ending::Ended(state, p.count))
+        }
         Control::Call(n) => {
             let Found::At(program) = scanning::find(t, n) else {
-                return Act::Halts(Ending::Refused(Refusal::NumberNotFound, here, p.count));
+                let state = p.state;
+                return Act::Halts(Ending::Refused(Refusal::NumberNotFound, here, state, p.count));
             };
             Act::Enters(program, p, after)
         }

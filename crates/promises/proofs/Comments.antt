@@ -23,13 +23,14 @@ use Rattle.programs.specs.Openings.{Table, table, refusedAt, placeOf, known, pr
 use Rattle.programs.proofs.Comments.{programs-alike}
 use Rattle.setup.specs.declared.Setup.{Setup}
 use Rattle.setup.specs.Frame.{bedOf, switchOn}
+use Rattle.settings.specs.declared.State.{State}
 use Rattle.blocks.specs.declared.Control.{Control}
 use Rattle.blocks.specs.declared.Control.the-variants.{On, Call, Back, Stop}
 use Rattle.blocks.specs.Machine.{machineOf}
 use Rattle.blocks.specs.Exec.{Verdict, refused, accepted, exec, execWords, callsIn}
 use Rattle.runs.specs.Walk.{Job, Going, How, ended, returned, unfinished, Outcome, just, after, goingOn, thenRest, follow, obey, isSpent, isSkipped, slashLength, verdictOn, runBlock, reached, walk, blocksFor, callees}
 use Rattle.runs.specs.Walk as Walk
-use Rattle.runs.specs.Run.{firstOf, finishOf, runTable, runBlocks, outcome, recordsOf, answerOf}
+use Rattle.runs.specs.Run.{firstOf, finishOf, runTable, runBlocks, outcome, recordsOf, answerOf, standingOf}
 use Rattle.runs.specs.declared.Budget.{Budget}
 use Rattle.promises.specs.Comments.{MayBecome, Replaced, SameRun}
 
@@ -85,17 +86,17 @@ verdict-alike {p} {q} {a} {b} jobs same left g =
 -- ---- what follows a verdict
 
 module _ (c d : ℕ → Going → Outcome) (calls : (n : ℕ) (g : Going) → c n g ≡ d n g) (f h : Going → Outcome) (on : (g : Going) → f g ≡ h g) where
-  then-alike : (how : How) → thenRest how f ≡ thenRest how h
+  then-alike : (how : How) (s : State) (next : Place) → thenRest how s next f ≡ thenRest how s next h
   unfolding thenRest
-  then-alike ended = refl
-  then-alike (returned g) = on g
-  then-alike unfinished = refl
-  then-alike (Walk.refusedAt refusal place) = refl
+  then-alike ended s next = refl
+  then-alike (returned g) s next = on g
+  then-alike unfinished s next = refl
+  then-alike (Walk.refusedAt refusal place) s next = refl
 
   follow-alike : (control : Control) (g : Going) → follow control c f g ≡ follow control d h g
   unfolding follow
   follow-alike On g = on g
-  follow-alike (Call n) g = rw (calls n g) (ap (after (d n g .made)) (then-alike (d n g .how)))
+  follow-alike (Call n) g = rw (calls n g) (ap (after (d n g .made)) (then-alike (d n g .how) (d n g .last) (d n g .next)))
   follow-alike Back g = refl
   follow-alike Stop g = refl
 
@@ -182,17 +183,17 @@ module _ (s : Setup) {x y : List ℕ} (same : Alike false x y) (room : ℕ) (bud
   run-blocks-alike Alikes.none = refl
   run-blocks-alike (Alikes.more {a} {b} {as′} {bs} first rest) =
       rw (← percent-alike (first .text), ← programs-alike first rest)
-      (ap (λ (o : Outcome). if closes a then o else just (Walk.refusedAt FirstBlock (record { block = 1; byte = 0 })))
+      (ap (λ (o : Outcome). if closes a then o else just (Walk.refusedAt FirstBlock (record { block = 1; byte = 0 })) (firstOf s))
       (table-alike (Alikes.more first rest) (programsFrom a as′)))
 
   outcome-alike : outcome s x room budget ≡ outcome s y room budget
   unfolding outcome
   outcome-alike = rw (← length-alike same, run-blocks-alike (blocks-alike same))
 
-  -- Data that differs only inside comments gives the same answer and the same records.
+  -- Data that differs only inside comments gives the same answer and the same records, and the run stands at the same place.
   pub comments-change-nothing : SameRun s room budget x y
-  unfolding answerOf recordsOf
-  comments-change-nothing = record { answer = rw outcome-alike; records = rw outcome-alike }
+  unfolding answerOf recordsOf standingOf
+  comments-change-nothing = record { answer = rw outcome-alike; records = rw outcome-alike; standing = rw outcome-alike }
 
 -- ---- bytes replaced
 
@@ -236,8 +237,8 @@ replaced-alike open′ (b ∷ s) (c ∷ t) r =
     (λ m. other-first open′ b c s t m (replaced-alike (openAfter open′ b s) s t (replaced-rest r)))
     (r .each 0 (omega arith))
 
--- Bytes inside comments, replaced by others that are neither `)`, LF nor CR, change no record and no answer: as many of them
--- as one likes, under every setup, room and budget.
+-- Bytes inside comments, replaced by others that are neither `)`, LF nor CR, change no record, no answer and no setting: as many
+-- of them as one likes, under every setup, room and budget.
 pub comment-bytes-replaced :
     (s : Setup) (room : ℕ) (budget : Budget) (x y : List ℕ) → Replaced false x y → SameRun s room budget x y
 comment-bytes-replaced s room budget x y r = comments-change-nothing s (replaced-alike false x y r) room budget

@@ -24,9 +24,9 @@ use Rattle.programs.specs.Openings.{openingOf, placeOf, programAfter, Table, re
 use Rattle.programs.proofs.Entries.{taken-main, entry-refusal}
 use Rattle.setup.specs.declared.Setup.{Setup}
 use Rattle.setup.specs.Limits.{validSetup}
-use Rattle.runs.specs.Walk.{Outcome, just}
+use Rattle.runs.specs.Walk.{Outcome, nowhere, just}
 use Rattle.runs.specs.Walk as Walk
-use Rattle.runs.specs.Run.{nowhere, runTable, runBlocks, outcome, recordsOf, answerBy, answerOf}
+use Rattle.runs.specs.Run.{firstOf, runTable, runBlocks, outcome, recordsOf, answerBy, answerOf}
 use Rattle.runs.specs.declared.Budget.{Budget}
 use Rattle.promises.specs.Duplicates.{openingsIn, openingsOf, percentBegins, mainOpens, mostOpenings, Twice, Early, tooLong, badSetup, firstBlock, opening, earlier, NoList, RefusedEarly, allDifferent, InOrder}
 use Rattle.promises.proofs.Openings.{scanned, mainBy, tableBy, programs-openings, taken-more, taken-still, taken-now, entry-duplicate, entry-enters, entry-own, number-some}
@@ -216,18 +216,18 @@ module _ (b : Block) (n : ℕ) (number : openingOf b ≡ Number n) (later : List
 
 -- ---- the run
 
-record Stops (os : List Block) (o : Outcome) : Type 0 where
+record Stops (s : Setup) (os : List Block) (o : Outcome) : Type 0 where
   refusal : Refusal
   place : Place
   early : Early os (numberOf refusal) place
-  is : o ≡ just (Walk.refusedAt refusal place)
+  is : o ≡ just (Walk.refusedAt refusal place) (firstOf s)
 
 module _ (s : Setup) (bytes : List ℕ) (room : ℕ) (budget : Budget) where
-  no-list : (refusal : Refusal) (place : Place) → outcome s bytes room budget ≡ just (Walk.refusedAt refusal place) → NoList s bytes room budget (numberOf refusal) place
+  no-list : (refusal : Refusal) (place : Place) → outcome s bytes room budget ≡ just (Walk.refusedAt refusal place) (firstOf s) → NoList s bytes room budget (numberOf refusal) place
   unfolding answerOf answerBy recordsOf
   no-list refusal place e = record { answer = rw e; records = rw e }
 
-  stops-table : (bs : List Block) {os : List Block} {t : Table} → Refusing os t → Stops os (runTable s bytes bs room budget t)
+  stops-table : (bs : List Block) {os : List Block} {t : Table} → Refusing os t → Stops s os (runTable s bytes bs room budget t)
   unfolding runTable
   stops-table bs r =
       record {
@@ -237,33 +237,33 @@ module _ (s : Setup) (bytes : List ℕ) (room : ℕ) (budget : Budget) where
         is = rw (r .is);
       }
 
-  stops-first : (os : List Block) → Stops os (just (Walk.refusedAt FirstBlock (record { block = 1; byte = 0 })))
+  stops-first : (os : List Block) → Stops s os (just (Walk.refusedAt FirstBlock (record { block = 1; byte = 0 })) (firstOf s))
   stops-first os = record { refusal = FirstBlock; place = record { block = 1; byte = 0 }; early = firstBlock; is = refl }
 
   module _ {os : List Block} {b : Block} (later : List Block) (twice : Twice os b) where
-    stops-blocks : (bs : List Block) → openingsIn (drop 1 bs) ≡ os ++ later → Stops os (runBlocks s bytes room budget bs)
+    stops-blocks : (bs : List Block) → openingsIn (drop 1 bs) ≡ os ++ later → Stops s os (runBlocks s bytes room budget bs)
     unfolding runBlocks
     stops-blocks [] e = stops-first os
     stops-blocks (percent ∷ bs) e = go (closes percent)
       where
         go :
             (isPercent : Bool)
-            → Stops os
+            → Stops s os
             (if isPercent then runTable s bytes (percent ∷ bs) room budget (programsFrom percent bs)
-            else just (Walk.refusedAt FirstBlock (record { block = 1; byte = 0 })))
+            else just (Walk.refusedAt FirstBlock (record { block = 1; byte = 0 })) (firstOf s))
         go true =
             rw (programs-openings percent bs, e) (stops-table (percent ∷ bs) (table-refused (mainOpens (percent ∷ bs)) percent later twice))
         go false = stops-first os
 
-    stops : openingsOf bytes ≡ os ++ later → Stops os (outcome s bytes room budget)
+    stops : openingsOf bytes ≡ os ++ later → Stops s os (outcome s bytes room budget)
     unfolding outcome openingsOf
     stops e = go (ltb 65_535 (length bytes)) (validSetup s)
       where
         go :
             (long valid : Bool)
-            → Stops os
-            (if long then just (Walk.refusedAt DataTooLong nowhere)
-            else if not valid then just (Walk.refusedAt BadSetup nowhere)
+            → Stops s os
+            (if long then just (Walk.refusedAt DataTooLong nowhere) (firstOf s)
+            else if not valid then just (Walk.refusedAt BadSetup nowhere) (firstOf s)
             else runBlocks s bytes room budget (blocksOf bytes))
         go true valid = record { refusal = DataTooLong; place = nowhere; early = tooLong; is = refl }
         go false false = record { refusal = BadSetup; place = nowhere; early = badSetup; is = refl }
@@ -292,7 +292,7 @@ module _ (s : Setup) (bytes : List ℕ) (room : ℕ) (budget : Budget) where
       go :
           (bs : List Block) → percentBegins bs ≡ true → openingsIn (drop 1 bs) ≡ earlier twice ++ b ∷ later
           → InOrder (earlier twice) ns (mostOpenings (mainOpens bs))
-          → runBlocks s bytes room budget bs ≡ just (Walk.refusedAt DuplicateNumber (placeOf b))
+          → runBlocks s bytes room budget bs ≡ just (Walk.refusedAt DuplicateNumber (placeOf b)) (firstOf s)
       go [] q f o = absurd (false≢true q)
       go (percent ∷ bs) q f o =
           let is : tableBy (mainOpens (percent ∷ bs)) percent (earlier twice ++ b ∷ later) ≡ refusedAt DuplicateNumber (placeOf b) =

@@ -19,7 +19,7 @@ use Rattle.records.specs.Reading.{trail, readAll}
 use Rattle.setup.specs.declared.Setup.{Setup}
 use Rattle.setup.specs.Examples.{setupT}
 use Rattle.runs.specs.Examples.{roomT, sample, sampleRecords}
-use Rattle.runs.specs.Run.{answerOf, recordsOf}
+use Rattle.runs.specs.Run.{answerOf, recordsOf, standingOf}
 use Rattle.refusals.specs.declared.Answer.the-variants.{Done}
 use Rattle.runs.specs.declared.Budget.{Budget}
 use Rattle.runs.specs.declared.Budget.the-variants.{Whole, First}
@@ -96,6 +96,10 @@ comment-bytes s room budget =
 pub comment-records : recordsOf setupT commented roomT Whole ≡ recordsOf setupT commentedElse roomT Whole
 unfolding opened
 comment-records = refl
+
+pub comment-standing : standingOf setupT commented roomT Whole ≡ standingOf setupT commentedElse roomT Whole
+unfolding opened
+comment-standing = refl
 
 pub comment-answer : map (λ x. answerOf setupT x roomT Whole) (commented ∷ commentedElse ∷ []) ≡ Done 2 ∷ Done 2 ∷ []
 unfolding opened

@@ -28,9 +28,9 @@ use Rattle.blocks.specs.Exec.{callsIn}
 use Rattle.blocks.specs.Reach.{Reachable}
 use Rattle.blocks.specs.Keeping.{Keeps}
 use Rattle.blocks.proofs.Accepting.{accepted-kept}
-use Rattle.runs.specs.Walk.{Job, Going, just, goingOn, slashLength, verdictOn}
+use Rattle.runs.specs.Walk.{Job, Going, nowhere, just, goingOn, slashLength, verdictOn}
 use Rattle.runs.specs.Walk as Walk
-use Rattle.runs.specs.Run.{nowhere, firstOf, finishOf, runTable, runBlocks, outcome}
+use Rattle.runs.specs.Run.{firstOf, finishOf, runTable, runBlocks, outcome}
 use Rattle.runs.specs.declared.Budget.{Budget}
 use Rattle.promises.proofs.Walks.{Leads, EachBlock, good-run}
 
@@ -107,7 +107,7 @@ module _ (s : Setup) (bytes : List ℕ) (room : ℕ) (budget : Budget) (fair : F
       (λ t.
       Fine (bedOf s) (begun s room budget)
       ((if t then runTable s bytes (b ∷ bs) room budget (programsFrom b bs)
-      else just (Walk.refusedAt FirstBlock (record { block = 1; byte = 0 }))) .made)) [
+      else just (Walk.refusedAt FirstBlock (record { block = 1; byte = 0 })) (firstOf s)) .made)) [
         | true ↦ fine-table (b ∷ bs) (programsFrom b bs)
         | false ↦ fine-none (bedOf s) (begun s room budget)
       ]
@@ -127,8 +127,8 @@ fine-outcome s six bytes room budget = go (ltb 65_535 (length bytes)) (validSetu
     go :
         (long valid : Bool) → validSetup s ≡ valid
         → Fine (bedOf s) (begun s room budget)
-        ((if long then just (Walk.refusedAt DataTooLong nowhere)
-        else if not valid then just (Walk.refusedAt BadSetup nowhere)
+        ((if long then just (Walk.refusedAt DataTooLong nowhere) (firstOf s)
+        else if not valid then just (Walk.refusedAt BadSetup nowhere) (firstOf s)
         else runBlocks s bytes room budget (blocksOf bytes)) .made)
     go true valid e = fine-none (bedOf s) (begun s room budget)
     go false false e = fine-none (bedOf s) (begun s room budget)

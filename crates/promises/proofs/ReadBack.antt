@@ -21,9 +21,9 @@ use Rattle.records.specs.Writing.{ListShort}
 use Rattle.records.proofs.Laid.{list-length}
 use Rattle.records.proofs.Back.{round-trip, whole-list}
 use Rattle.cycles.proofs.Written.{moved-room}
-use Rattle.runs.specs.Walk.{How, ended, returned, unfinished, just}
+use Rattle.runs.specs.Walk.{How, ended, returned, unfinished, nowhere, just}
 use Rattle.runs.specs.Walk as Walk
-use Rattle.runs.specs.Run.{nowhere, outcome, recordsOf, answerBy, answerOf}
+use Rattle.runs.specs.Run.{firstOf, outcome, recordsOf, answerBy, answerOf}
 use Rattle.runs.specs.declared.Budget.{Budget}
 use Rattle.promises.specs.ReadBack.{ReadsBack}
 use Rattle.promises.proofs.Listing.{fine-outcome}
@@ -73,6 +73,8 @@ no-records s bytes room budget e = rw e (go (ltb 65_535 (length bytes)))
   where
     go :
         (long : Bool)
-        → map (recordMoved (offset s)) ((if long then just (Walk.refusedAt DataTooLong nowhere) else just (Walk.refusedAt BadSetup nowhere)) .made) ≡ []
+        → map (recordMoved (offset s))
+        ((if long then just (Walk.refusedAt DataTooLong nowhere) (firstOf s) else just (Walk.refusedAt BadSetup nowhere) (firstOf s)) .made)
+        ≡ []
     go true = refl
     go false = refl

@@ -11,7 +11,7 @@ use Rattle.settings.specs.declared.State.{State}
 use Rattle.blocks.specs.declared.Control.{Control}
 use Rattle.blocks.specs.declared.Control.the-variants.{On, Call, Back, Stop}
 use Rattle.blocks.specs.Exec.{Verdict, refused, accepted}
-use Rattle.runs.specs.Walk.{Job, Going, How, ended, returned, unfinished, refusedAt, Outcome, just, after, goingOn, thenRest, follow, obey, isSpent, isSkipped, verdictOn, runBlock, reached, walk, blocksFor, callees}
+use Rattle.runs.specs.Walk.{Job, Going, How, ended, returned, unfinished, refusedAt, Outcome, nowhere, just, after, goingOn, thenRest, follow, obey, isSpent, isSkipped, verdictOn, runBlock, reached, walk, blocksFor, callees}
 
 abbrev comesBack : How → Bool
 comesBack ended = false
@@ -55,10 +55,12 @@ module _ (Holds : Going → Type 0) (Fine : Going → List Record → Type 0) wh
       }
 
   module _ {job : Job} (each : EachBlock job) where
-    good-just : (g : Going) (how : How) → comesBack how ≡ false → Good g (just how)
-    good-just g how stays = record { made = each .none g; back = λ next e. absurd (true≢false (ap comesBack (sym e) ∙ stays)) }
+    good-just :
+        (g : Going) (how : How) (s : State) (next : Place) → comesBack how ≡ false
+        → Good g (record { how = how; made = []; last = s; next = next })
+    good-just g how s next stays = record { made = each .none g; back = λ on e. absurd (true≢false (ap comesBack (sym e) ∙ stays)) }
 
-    good-return : (g : Going) → Holds g → Good g (just (returned g))
+    good-return : (g : Going) → Holds g → Good g (just (returned g) (g .state))
     good-return g h =
         record {
           made = each .none g;
@@ -69,30 +71,33 @@ module _ (Holds : Going → Type 0) (Fine : Going → List Record → Type 0) wh
 
     module _ (callee : ℕ → Going → Outcome) (rest : Going → Outcome) (calls : (n : ℕ) (g : Going) → Holds g → Good g (callee n g)) (on : (g : Going) → Holds g → Good g (rest g)) where
       -- after a call that did not come back nothing is made
-      good-stopped : {g : Going} {o : Outcome} (how : How) → Good g o → comesBack how ≡ false → Good g (after (o .made) (just how))
+      good-stopped :
+          {g : Going} {o : Outcome} (how : How) (s : State) (next : Place) → Good g o → comesBack how ≡ false
+          → Good g (after (o .made) (record { how = how; made = []; last = s; next = next }))
       unfolding after
-      good-stopped {g} {o} how good stays =
-          record { made = rw (append-nil (o .made)) (good .made); back = λ next e. absurd (true≢false (ap comesBack (sym e) ∙ stays)) }
+      good-stopped {g} {o} how s next good stays =
+          record { made = rw (append-nil (o .made)) (good .made); back = λ on e. absurd (true≢false (ap comesBack (sym e) ∙ stays)) }
 
-      good-then : {g : Going} {o : Outcome} (how : How) → o .how ≡ how → Good g o → Good g (after (o .made) (thenRest how rest))
+      good-then :
+          {g : Going} {o : Outcome} (how : How) (s : State) (next : Place) → o .how ≡ how → Good g o
+          → Good g (after (o .made) (thenRest how s next rest))
       unfolding thenRest
-      good-then ended e good = good-stopped ended good refl
-      good-then (returned g) e good = let r = good .back g e in good-after r (on g (r .holds))
-      good-then unfinished e good = good-stopped unfinished good refl
-      good-then (refusedAt refusal place) e good =
-          good-stopped (refusedAt refusal place) good refl
+      good-then ended s next e good = good-stopped ended s nowhere good refl
+      good-then (returned g) s next e good = let r = good .back g e in good-after r (on g (r .holds))
+      good-then unfinished s next e good = good-stopped unfinished s next good refl
+      good-then (refusedAt refusal place) s next e good = good-stopped (refusedAt refusal place) s nowhere good refl
 
       good-follow : (control : Control) (g : Going) → Holds g → Good g (follow control callee rest g)
       unfolding follow
       good-follow On g h = on g h
-      good-follow (Call n) g h = good-then (callee n g .how) refl (calls n g h)
+      good-follow (Call n) g h = good-then (callee n g .how) (callee n g .last) (callee n g .next) refl (calls n g h)
       good-follow Back g h = good-return g h
-      good-follow Stop g h = good-just g ended refl
+      good-follow Stop g h = good-just g ended (g .state) nowhere refl
 
       module _ (left : ℕ) (b : Block) (g : Going) (h : Holds g) where
         good-obey : (v : Verdict) → verdictOn job left b g ≡ v → Good g (obey v b callee rest g)
         unfolding obey
-        good-obey (refused blame) e = good-just g _ refl
+        good-obey (refused blame) e = good-just g _ (g .state) nowhere refl
         good-obey (accepted s control made) e =
             let l = each .done left b g s control made h e in
             good-after l (good-follow control (goingOn g s made) (l .holds))
@@ -108,16 +113,16 @@ module _ (Holds : Going → Type 0) (Fine : Going → List Record → Type 0) wh
         good-reached :
             (spent end : Bool) (place : Place) (skipped : Bool) → Good g (reached spent end place (runBlock skipped job left callee b rest) g)
         unfolding reached
-        good-reached true end place skipped = good-just g unfinished refl
-        good-reached false true place skipped = good-just g _ refl
+        good-reached true end place skipped = good-just g unfinished (g .state) place refl
+        good-reached false true place skipped = good-just g _ (g .state) nowhere refl
         good-reached false false place skipped = good-block skipped
 
     -- ---- the walk
 
     good-end : (spent : Bool) (place : Place) (f : Going → Outcome) (g : Going) → Good g (reached spent true place f g)
     unfolding reached
-    good-end true place f g = good-just g unfinished refl
-    good-end false place f g = good-just g _ refl
+    good-end true place f g = good-just g unfinished (g .state) place refl
+    good-end false place f g = good-just g _ (g .state) nowhere refl
 
     pub good-walk :
         (left : ℕ) (callee : ℕ → Going → Outcome) → ((n : ℕ) (g : Going) → Holds g → Good g (callee n g))
@@ -130,7 +135,7 @@ module _ (Holds : Going → Type 0) (Fine : Going → List Record → Type 0) wh
 
     pub good-callees : (left n : ℕ) (g : Going) → Holds g → Good g (callees job left n g)
     unfolding callees
-    good-callees zero n g h = good-just g unfinished refl
+    good-callees zero n g h = good-just g unfinished (g .state) nowhere refl
     good-callees (suc left) n g h =
         good-walk left (callees job left) (good-callees left) (blocksFor (job .blocks) (known (job .programs) n)) g h
 

@@ -9,7 +9,7 @@ use lib.ListN.{length, getD}
 use Rattle.terms.specs.Terms.{byte}
 use Rattle.gaps.specs.Comments.{insideAt}
 use Rattle.setup.specs.declared.Setup.{Setup}
-use Rattle.runs.specs.Run.{answerOf, recordsOf}
+use Rattle.runs.specs.Run.{answerOf, recordsOf, standingOf}
 use Rattle.runs.specs.declared.Budget.{Budget}
 
 -- A byte inside a comment, and another that may take its place. The test says whether a comment is open where the bytes begin.
@@ -24,7 +24,8 @@ pub record Replaced (open′ : Bool) (x y : List ℕ) : Type 0 where
   pub size : length x ≡ length y
   pub each : (i : ℕ) → i < length x → (getD x i 0 ≡ getD y i 0) ⊎ MayBecome open′ x i (getD y i 0)
 
--- "change no record and no answer"
+-- "change no record and no answer", nor where the run stands
 pub record SameRun (s : Setup) (room : ℕ) (budget : Budget) (x y : List ℕ) : Type 0 where
   pub answer : answerOf s x room budget ≡ answerOf s y room budget
   pub records : recordsOf s x room budget ≡ recordsOf s y room budget
+  pub standing : standingOf s x room budget ≡ standingOf s y room budget

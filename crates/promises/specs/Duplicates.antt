@@ -13,7 +13,8 @@ use Rattle.lines.specs.Blocks.{Block, blocksOf, closes, opens}
 use Rattle.programs.specs.Openings.{openingOf, placeOf, most}
 use Rattle.programs.specs.declared.Opening.the-variants.{Number}
 use Rattle.setup.specs.declared.Setup.{Setup}
-use Rattle.runs.specs.Run.{nowhere, answerOf, recordsOf}
+use Rattle.runs.specs.Walk.{nowhere}
+use Rattle.runs.specs.Run.{answerOf, recordsOf}
 use Rattle.runs.specs.declared.Budget.{Budget}
 
 -- A block in front of openings: "A later `%` alone ends the data; nothing after it is read.", and an opening is one more.

@@ -1,11 +1,13 @@
 -- What the rules give for the sample of document 01 and for small runs, by computation.
 use mathlib.Core.Path.{_≡_, refl}
 use mathlib.Core.List.{map}
+use Rattle.refusals.specs.Answers.{refusedWith, reportOf}
 use Rattle.setup.specs.Examples.{setupT}
-use Rattle.runs.specs.Examples.{roomT, sample, sampleRecords, rows, answerOfRow}
-use Rattle.runs.specs.Run.{answerOf, recordsOf}
+use Rattle.runs.specs.Examples.{roomT, sample, sampleRecords, tooFar, tooFarSettings, rows, answerOfRow}
+use Rattle.runs.specs.Walk.{nowhere}
+use Rattle.runs.specs.Run.{answerOf, recordsOf, standingOf}
 use Rattle.refusals.specs.declared.Answer.the-variants.{Done}
-use Rattle.runs.specs.declared.Budget.the-variants.{Whole}
+use Rattle.runs.specs.declared.Budget.the-variants.{Whole, First}
 use Rattle.runs.proofs.Opened.{opened}
 
 -- the seven blocks give eight records and `done 8`
@@ -20,3 +22,19 @@ sample-answer = refl
 pub examples-hold : map answerOfRow rows ≡ map (λ r. r .answer) rows
 unfolding opened answerOfRow
 examples-hold = refl
+
+-- ---- where a run stands
+
+-- after one block it stands before the next, block 3, whose first byte is 21
+pub far-one : standingOf setupT tooFar roomT (First 1) ≡ record { state = tooFarSettings; next = record { block = 3; byte = 21 } }
+unfolding opened
+far-one = refl
+
+pub far-refused : reportOf (answerOf setupT tooFar roomT (First 2)) ≡ refusedWith 9 (record { block = 3; byte = 21 }) 1
+unfolding opened
+far-refused = refl
+
+-- "the settings are those before the block"
+pub far-two : standingOf setupT tooFar roomT (First 2) ≡ record { state = tooFarSettings; next = nowhere }
+unfolding opened
+far-two = refl

@@ -13,7 +13,7 @@ use Rattle.arcs.proofs.Opened.{opened as arcs-opened}
 use Rattle.cycles.proofs.Opened.{opened as cycles-opened}
 use Rattle.blocks.proofs.Opened.{opened as blocks-opened}
 use Rattle.programs.proofs.Opened.{opened as programs-opened}
-use Rattle.runs.specs.Run.{firstOf, finishOf, runTable, runBlocks, outcome, recordsOf, answerBy, answerOf}
+use Rattle.runs.specs.Run.{firstOf, finishOf, runTable, runBlocks, outcome, recordsOf, answerBy, answerOf, standingOf}
 use Rattle.runs.specs.Walk.{isSpent, oneLess, after, goingOn, thenRest, follow, obey, isSkipped, slashLength, verdictOn, runBlock, reached, walk, blocksFor, callees}
 
 unfoldable pub opened : Unit {0}
@@ -40,6 +40,7 @@ unfolding
     recordsOf
     answerBy
     answerOf
+    standingOf
     isSpent
     oneLess
     after

@@ -2,15 +2,22 @@
 -- under setup T.
 use Prim.Native.Nat.{ℕ}
 use Prim.Native.String.{String}
+use mathlib.Core.Bool.{false}
 use mathlib.Core.List.{List, [], _∷_}
 use lib.IntN.{ℤ, pos, negsuc}
 use Rattle.terms.specs.Terms.{bytes}
 use Rattle.lengths.specs.Units.{len}
 use Rattle.refusals.specs.Answers.{Report, done, notFinished, refusedWith, reportOf}
+use Rattle.codes.specs.declared.Motion.the-variants.{G01}
+use Rattle.codes.specs.declared.Plane.the-variants.{G17}
+use Rattle.codes.specs.declared.Unit.the-variants.{Millimetre}
+use Rattle.codes.specs.declared.Distance.the-variants.{Incremental}
+use Rattle.codes.specs.declared.Return.the-variants.{ToInitial}
 use Rattle.points.specs.declared.Point.{Point}
 use Rattle.setup.specs.Examples.{setupT}
 use Rattle.records.specs.declared.Record.{Record}
 use Rattle.records.specs.declared.Record.the-variants.{RP, LN, SP, SO, EN}
+use Rattle.settings.specs.declared.State.{State}
 use Rattle.runs.specs.Run.{answerOf}
 use Rattle.runs.specs.declared.Budget.{Budget}
 use Rattle.runs.specs.declared.Budget.the-variants.{Whole, First}
@@ -30,6 +37,22 @@ abbrev pub sampleRecords : List Record
 sampleRecords =
     RP (hole (pos 0)) ∷ SP (len (pos 6_000)) ∷ RP (hole (pos 0)) ∷ RP (hole (negsuc 3_899_999))
     ∷ LN (hole (negsuc 4_199_999)) (len (pos 30_000_000)) ∷ RP (hole (pos 0)) ∷ SO ∷ EN ∷ []
+
+-- a run that is refused at its second block: the first leaves X 100,000, G91, G01 and a feed, and the second, whose path leaves
+-- the travel, sets G00
+abbrev pub tooFar : List ℕ
+tooFar = bytes "%\nG91 G01 X1.0 F70.0\nG00 X900.0\nM30\n"
+
+abbrev pub tooFarSettings : State
+tooFarSettings =
+    record {
+      at = record { x = len (pos 100_000); y = len (pos 0); z = len (pos 0) };
+      modes =
+          record { motion = G01; plane = G17; unit = Millimetre; distance = Incremental; origin = 0; back = ToInitial };
+      feed = len (pos 7_000_000);
+      speed = len (pos 5_000);
+      turning = false;
+    }
 
 pub record Row : Type 0 where
   pub text : String

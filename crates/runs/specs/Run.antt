@@ -15,21 +15,19 @@ use Rattle.setup.specs.Frame.{offset, startOf, bedOf, switchOn}
 use Rattle.records.specs.declared.Record.{Record}
 use Rattle.records.specs.Path.{recordMoved}
 use Rattle.settings.specs.declared.State.{State}
-use Rattle.settings.specs.Settings.{firstState}
+use Rattle.settings.specs.Settings.{firstState, stateMoved}
 use Rattle.blocks.specs.Machine.{machineOf}
 use Rattle.lines.specs.Blocks.{Block, blocksOf, closes}
 use Rattle.programs.specs.Openings.{Table, table, refusedAt, programsFrom, blocksAt}
-use Rattle.runs.specs.Walk.{Job, How, ended, returned, unfinished, Outcome, just, walk, callees}
+use Rattle.runs.specs.Walk.{Job, How, ended, returned, unfinished, Outcome, nowhere, just, walk, callees}
 use Rattle.runs.specs.Walk as Walk
 use Rattle.runs.specs.declared.Budget.{Budget}
+use Rattle.runs.specs.declared.Standing.{Standing}
 use Rattle.refusals.specs.declared.Answer.{Answer}
 use Rattle.refusals.specs.declared.Answer.the-variants.{Done, Unfinished, Refused}
 
 unfoldable pub firstOf : Setup → State
 firstOf s = firstState (startOf s) (len (s .feed)) (len (s .speed))
-
-abbrev pub nowhere : Place
-nowhere = record { block = 0; byte = 0 }
 
 -- "14: the next opening or `%`, else one past the last block, at the data length."
 unfoldable pub finishOf : List ℕ → List Block → Place
@@ -37,7 +35,7 @@ finishOf bytes bs = record { block = length bs + 1; byte = length bytes }
 
 -- the main program from its first block, all four levels left
 unfoldable pub runTable : Setup → List ℕ → List Block → ℕ → Budget → Table → Outcome
-runTable s bytes bs room budget (refusedAt refusal place) = just (Walk.refusedAt refusal place)
+runTable s bytes bs room budget (refusedAt refusal place) = just (Walk.refusedAt refusal place) (firstOf s)
 runTable s bytes bs room budget (table main subs) =
     let job : Job =
     record {
@@ -51,16 +49,16 @@ runTable s bytes bs room budget (table main subs) =
 
 -- "11: block 1, byte 0."
 unfoldable pub runBlocks : Setup → List ℕ → ℕ → Budget → List Block → Outcome
-runBlocks s bytes room budget [] = just (Walk.refusedAt FirstBlock (record { block = 1; byte = 0 }))
+runBlocks s bytes room budget [] = just (Walk.refusedAt FirstBlock (record { block = 1; byte = 0 })) (firstOf s)
 runBlocks s bytes room budget (b ∷ bs) =
     if closes b then runTable s bytes (b ∷ bs) room budget (programsFrom b bs)
-    else just (Walk.refusedAt FirstBlock (record { block = 1; byte = 0 }))
+    else just (Walk.refusedAt FirstBlock (record { block = 1; byte = 0 })) (firstOf s)
 
 -- "12, 13: block 0, byte 0."
 unfoldable pub outcome : Setup → List ℕ → ℕ → Budget → Outcome
 outcome s bytes room budget =
-    if ltb 65_535 (length bytes) then just (Walk.refusedAt DataTooLong nowhere)
-    else if not (validSetup s) then just (Walk.refusedAt BadSetup nowhere)
+    if ltb 65_535 (length bytes) then just (Walk.refusedAt DataTooLong nowhere) (firstOf s)
+    else if not (validSetup s) then just (Walk.refusedAt BadSetup nowhere) (firstOf s)
     else runBlocks s bytes room budget (blocksOf bytes)
 
 -- The records in machine units, and the answer with their count.
@@ -77,3 +75,9 @@ answerBy (Walk.refusedAt refusal place) n = Refused refusal place n
 unfoldable pub answerOf : Setup → List ℕ → ℕ → Budget → Answer
 answerOf s bytes room budget =
     answerBy (outcome s bytes room budget .how) (length (outcome s bytes room budget .made))
+
+-- Where the run stands: the settings, the point in machine units, and, while it is not finished, the place of the next block. A
+-- run that is refused before any block stands where it would have started.
+unfoldable pub standingOf : Setup → List ℕ → ℕ → Budget → Standing
+standingOf s bytes room budget =
+    record { state = stateMoved (offset s) (outcome s bytes room budget .last); next = outcome s bytes room budget .next }

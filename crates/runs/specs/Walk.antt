@@ -51,37 +51,49 @@ pub data How : Type 0 where
   unfinished : How
   refusedAt : Refusal → Place → How
 
+-- What a walk leaves: how it ended, its records, the settings where it stands, and, where the budget is spent, the place of
+-- the block that comes next.
 pub record Outcome : Type 0 where
   pub how : How
   pub made : List Record
+  pub last : State
+  pub next : Place
 
-abbrev pub just : How → Outcome
-just how = record { how = how; made = [] }
+abbrev pub nowhere : Place
+nowhere = record { block = 0; byte = 0 }
+
+-- an end with no record more: "the settings are those before the block" also where it is refused
+abbrev pub just : How → State → Outcome
+just how s = record { how = how; made = []; last = s; next = nowhere }
+
+-- the budget is spent before the block at a place
+abbrev pub spentAt : State → Place → Outcome
+spentAt s place = record { how = unfinished; made = []; last = s; next = place }
 
 -- an outcome that comes after records
 unfoldable pub after : List Record → Outcome → Outcome
-after made o = record { how = o .how; made = made ++ o .made }
+after made o = record { how = o .how; made = made ++ o .made; last = o .last; next = o .next }
 
 -- "every block reached counting, empty and skipped ones too": the block's unit of the budget, and its records' room
 unfoldable pub goingOn : Going → State → List Record → Going
 goingOn g s made = record { state = s; room = g .room - roomOf made; budget = oneLess (g .budget) }
 
 -- what follows a call: "M99: returns", to the block after the call
-unfoldable pub thenRest : How → (Going → Outcome) → Outcome
-thenRest ended rest = just ended
-thenRest (returned g) rest = rest g
-thenRest unfinished rest = just unfinished
-thenRest (refusedAt refusal place) rest = just (refusedAt refusal place)
+unfoldable pub thenRest : How → State → Place → (Going → Outcome) → Outcome
+thenRest ended s next rest = just ended s
+thenRest (returned g) s next rest = rest g
+thenRest unfinished s next rest = spentAt s next
+thenRest (refusedAt refusal place) s next rest = just (refusedAt refusal place) s
 
 unfoldable pub follow : Control → (ℕ → Going → Outcome) → (Going → Outcome) → Going → Outcome
 follow On callee rest g = rest g
-follow (Call n) callee rest g = let o = callee n g in after (o .made) (thenRest (o .how) rest)
-follow Back callee rest g = just (returned g)
-follow Stop callee rest g = just ended
+follow (Call n) callee rest g = let o = callee n g in after (o .made) (thenRest (o .how) (o .last) (o .next) rest)
+follow Back callee rest g = just (returned g) (g .state)
+follow Stop callee rest g = just ended (g .state)
 
 unfoldable pub obey : Verdict → Block → (ℕ → Going → Outcome) → (Going → Outcome) → Going → Outcome
 obey (refused blame) b callee rest g =
-    just (refusedAt (blame .refusal) (record { block = b .number; byte = blame .byte }))
+    just (refusedAt (blame .refusal) (record { block = b .number; byte = blame .byte })) (g .state)
 obey (accepted s control made) b callee rest g = after made (follow control callee rest (goingOn g s made))
 
 -- "`/` as first byte: the block is skipped unread when the switch is on, and the slash ignored when off."
@@ -103,12 +115,12 @@ runBlock false job left callee b rest g = obey (verdictOn job left b g) b callee
 -- A block that is reached: nothing where the budget is spent; 14 where the program has no more blocks, at the next opening
 -- or `%`; else the block.
 unfoldable pub reached : Bool → Bool → Place → (Going → Outcome) → Going → Outcome
-reached true isEnd place run g = just unfinished
-reached false true place run g = just (refusedAt NoEnd place)
+reached true isEnd place run g = spentAt (g .state) place
+reached false true place run g = just (refusedAt NoEnd place) (g .state)
 reached false false place run g = run g
 
 unfoldable pub walk : Job → ℕ → (ℕ → Going → Outcome) → List Block → Going → Outcome
-walk job left callee [] g = reached (isSpent (g .budget)) true (job .finish) (λ g′. just unfinished) g
+walk job left callee [] g = reached (isSpent (g .budget)) true (job .finish) (λ g′. just unfinished (g′ .state)) g
 walk job left callee (b ∷ bs) g =
     reached (isSpent (g .budget)) (opens b || closes b) (placeOf b)
     (runBlock (isSkipped job b) job left callee b (walk job left callee bs)) g
@@ -121,5 +133,5 @@ blocksFor bs (some p) = blocksAt bs p
 -- "Main may call a first level, down to a fourth." The callees of a program from which so many levels are left; a block
 -- that calls where none is left is refused before.
 unfoldable pub callees : Job → ℕ → ℕ → Going → Outcome
-callees job zero n g = just unfinished
+callees job zero n g = just unfinished (g .state)
 callees job (suc left) n g = walk job left (callees job left) (blocksFor (job .blocks) (known (job .programs) n)) g

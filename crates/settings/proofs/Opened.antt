@@ -4,7 +4,7 @@ use Rattle.lengths.proofs.Opened.{opened as lengths-opened}
 use Rattle.codes.proofs.Opened.{opened as codes-opened}
 use Rattle.words.proofs.Opened.{opened as words-opened}
 use Rattle.points.proofs.Opened.{opened as points-opened}
-use Rattle.settings.specs.Settings.{firstModes, firstState, switched, orElse}
+use Rattle.settings.specs.Settings.{firstModes, firstState, stateMoved, switched, orElse}
 use Rattle.settings.specs.Target.{base, aimed, target}
 
 unfoldable pub opened : Unit {0}
@@ -16,6 +16,7 @@ unfolding
     points-opened
     firstModes
     firstState
+    stateMoved
     switched
     orElse
     base

@@ -11,6 +11,7 @@ use Rattle.codes.specs.declared.Code.{Code}
 use Rattle.codes.specs.declared.Code.the-variants.{GroupA, GroupB, GroupC, GroupD, GroupE, GroupF, G04, Unknown}
 use Rattle.words.specs.declared.Given.{Given}
 use Rattle.points.specs.declared.Point.{Point}
+use Rattle.points.specs.Points.{moved}
 use Rattle.settings.specs.declared.Modes.{Modes}
 use Rattle.settings.specs.declared.State.{State}
 
@@ -21,6 +22,11 @@ firstModes =
 
 unfoldable pub firstState : Point → Len → Len → State
 firstState start feed speed = record { at = start; modes = firstModes; feed = feed; speed = speed; turning = false }
+
+-- the settings with their point displaced
+unfoldable pub stateMoved : Point → State → State
+stateMoved by s =
+    record { at = moved by (s .at); modes = s .modes; feed = s .feed; speed = s .speed; turning = s .turning }
 
 -- a code of the groups A to F is on from its block
 unfoldable pub switched : Modes → Code → Modes

@@ -1,6 +1,7 @@
 // The run of a data set under a setup, from files to a file.
 ghost use Prim.Native.Nat.{_≤_};
 use answers::show_answer;
+use answers::show_standing;
 use buffers::list_room;
 use commands::Options;
 use commands::options_of;
@@ -8,6 +9,7 @@ use commands::word;
 use files::Spot;
 use files::spot_for;
 use libc::STDOUT_FILENO;
+use lists::Made;
 use lists::is_written;
 use lists::make_list;
 use setup::Setup;
@@ -74,12 +76,20 @@ fn run_data(setup: Setup, data: &[u8], path: &[u8], options: Options, spot: Spot
     let answer = made.answer;
     let end = made.end;
     if !is_written(answer, options) {
-        return show_answer(data, answer) && show_kept(path, options.listed);
+        return show_made(data, made) && show_kept(path, options.listed);
     }
     if !files::write_whole(path, &list[..end], spot, err) {
         return true;
     }
-    show_answer(data, answer)
+    show_made(data, made)
+}
+
+fn show_made(data: &[u8], made: Made) -> bool {
+    let answer = made.answer;
+    let standing = made.standing;
+    let state = standing.state;
+    let next = standing.next;
+    show_answer(data, answer) && show_standing(answer, state, next)
 }
 
 // A refused run says what became of the list that it was to write.

@@ -47,6 +47,7 @@ fn execute(
                 block: here.block,
                 byte,
             },
+            state,
             p.count,
         )),
         Executed::Accepted(done) => {
@@ -100,7 +101,8 @@ pub fn run_program(
     while !progress::is_spent(p) {
         let here = Place { block, byte: at };
         if progress::program_ends(s, at) {
-            return Ending::Refused(Refusal::NoEnd, here, p.count);
+            let state = p.state;
+            return Ending::Refused(Refusal::NoEnd, here, state, p.count);
         }
         match do_block(s, list, task, left, here, p) {
             Act::Halts(ending) => {
@@ -124,5 +126,6 @@ pub fn run_program(
             }
         }
     }
-    Ending::Unfinished(p.count)
+    let state = p.state;
+    Ending::Unfinished(state, Place { block, byte: at }, p.count)
 }

@@ -6,25 +6,25 @@ use borrow.Author.Needs.{needs}
 use Rattle.cases.proofs.run_case.Statement.{statement}
 use Rattle.cases.proofs.run_case.Tie as tie
 
-sub-answer-to : tie.Need-sub-answer-to
-sub-answer-to c = search needs
+sub-report-to : tie.Need-sub-report-to
+sub-report-to c = search needs
 
-part-answer-to-start : tie.Need-part-answer-to-start
-part-answer-to-start c = search needs
+part-report-to-start : tie.Need-part-report-to-start
+part-report-to-start c = search needs
 
-part-answer-to-end : tie.Need-part-answer-to-end
-part-answer-to-end c = search needs
+part-report-to-end : tie.Need-part-report-to-end
+part-report-to-end c = search needs
 
-slice-relend-prefix-answer-to : tie.Need-slice-relend-prefix-answer-to
-slice-relend-prefix-answer-to c = search needs
+slice-relend-prefix-report-to : tie.Need-slice-relend-prefix-report-to
+slice-relend-prefix-report-to c = search needs
 
-slice-aggregate-answer-to : tie.Need-slice-aggregate-answer-to
-slice-aggregate-answer-to c =
+slice-aggregate-report-to : tie.Need-slice-aggregate-report-to
+slice-aggregate-report-to c =
     let a = c .before .before .before .before .before .args in
     sym (length-take-le (a .case .room) (a .list .now) (omega arith))
 
-answer-to-requires : tie.Need-answer-to-requires
-answer-to-requires c κs = search needs
+report-to-requires : tie.Need-report-to-requires
+report-to-requires c κs = search needs
 
 show-run-requires : tie.Need-show-run-requires
 show-run-requires c κs = search needs
@@ -39,12 +39,12 @@ pub run-case-spec : {M : Type 1} → statement M
 run-case-spec =
     tie.close
     (tie.spec
-    sub-answer-to
-    part-answer-to-start
-    part-answer-to-end
-    slice-relend-prefix-answer-to
-    slice-aggregate-answer-to
-    answer-to-requires
+    sub-report-to
+    part-report-to-start
+    part-report-to-end
+    slice-relend-prefix-report-to
+    slice-aggregate-report-to
+    report-to-requires
     show-run-requires
     same-length
     returns)

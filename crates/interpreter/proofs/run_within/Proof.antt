@@ -22,21 +22,24 @@ use Rattle.interpreter.proofs.run_within.Tie as tie
 
 returns : tie.Need-returns
 returns c =
-    let a = c .before .before .before .args in
-    gives-too-long (a .setup) (a .bytes .now) (a .budget) (a .list .now) (c .if1 .taken)
+    let test = c .before in
+    let a = test .before .before .before .args in
+    gives-too-long (a .setup) (a .bytes .now) (a .budget) (a .list .now) (test .if1 .taken) (c .refused .ensures)
 
 returns-2 : tie.Need-returns-2
 returns-2 c =
-    let a = c .before .before .before .before .before .args in
-    gives-bad-setup (a .setup) (a .bytes .now) (a .budget) (a .list .now) (omega (arith, c .before .before .if1 .left))
-    (sym (c .before .is-valid .ensures) ∙ not-true _ (c .if2 .taken))
+    let test = c .before in
+    let a = test .before .before .before .before .before .args in
+    gives-bad-setup (a .setup) (a .bytes .now) (a .budget) (a .list .now) (omega (arith, test .before .before .if1 .left))
+    (sym (test .before .is-valid .ensures) ∙ not-true _ (test .if2 .taken)) (c .refused2 .ensures)
 
 returns-3 : tie.Need-returns-3
 returns-3 c =
-    let a = c .before .before .before .before .before .before .before .args in
-    gives-first-block (a .setup) (a .bytes .now) (a .budget) (a .list .now) (omega (arith, c .before .before .before .before .if1 .left))
-    (sym (c .before .before .before .is-valid .ensures) ∙ not-false _ (c .before .before .if2 .left))
-    (sym (c .before .is-percent .ensures) ∙ not-true _ (c .if3 .taken))
+    let test = c .before in
+    let a = test .before .before .before .before .before .before .before .args in
+    gives-first-block (a .setup) (a .bytes .now) (a .budget) (a .list .now) (omega (arith, test .before .before .before .before .if1 .left))
+    (sym (test .before .before .before .is-valid .ensures) ∙ not-false _ (test .before .before .if2 .left))
+    (sym (test .before .is-percent .ensures) ∙ not-true _ (test .if3 .taken)) (c .refused3 .ensures)
 
 -- the data are short enough, the setup keeps its limits, and the first block is `%` alone
 module _ (c : tie.Else3) where
@@ -63,10 +66,10 @@ run-main-requires c κs =
 
 returns-4 : tie.Need-returns-4
 returns-4 c =
-    let found = c .before .before .before in
+    let found = c .before .before .before .before in
     let test = found .before in
     let a = test .before .before .before .before .before .before .before .args in
-    gives-opening (a .setup) (a .bytes .now) (a .budget) (a .list .now) (short test) (valid test) (percent test) (found .find-programs .ensures) (c .before .verdict .given .1)
+    gives-opening (a .setup) (a .bytes .now) (a .budget) (a .list .now) (short test) (valid test) (percent test) (found .find-programs .ensures) (c .before .before .verdict .given .1) (c .refused4 .ensures)
 
 returns-5 : tie.Need-returns-5
 returns-5 c =
@@ -81,13 +84,17 @@ pub run-within-spec : {M : Type 1} → statement M
 run-within-spec =
     tie.close
     (tie.spec
+    (λ c κs. search needs)
     returns
     (λ c κs. search needs)
+    (λ c κs. search needs)
     returns-2
+    (λ c κs. search needs)
     (λ c κs. search needs)
     returns-3
     find-programs-requires
     (λ c. search needs)
+    (λ c κs. search needs)
     (λ c. search needs)
     run-main-requires
     returns-4

@@ -8,8 +8,8 @@ use Rattle.progress.proofs.turn.Tie as tie
 
 returns : tie.Need-returns
 returns c =
-    let a = c .before .before .before .before .before .before .args in
-    turn-missing (subsOf (a .t)) (a .here) (a .after) (a .p) (c .before .before .before .before .control .given .1) (c .before .before .find .ensures) (c .enum-told4 .given .1)
+    let a = c .before .before .before .before .before .before .before .args in
+    turn-missing (subsOf (a .t)) (a .here) (a .after) (a .p) (c .before .before .before .before .before .control .given .1) (c .before .before .before .find .ensures) (c .before .enum-told4 .given .1)
 
 returns-2 : tie.Need-returns-2
 unfolding turned
@@ -21,7 +21,7 @@ returns-3 c = rw (c .enum-told2 .given .1)
 
 returns-4 : tie.Need-returns-4
 unfolding turned
-returns-4 c = rw (c .enum-told3 .given .1)
+returns-4 c = rw (c .before .enum-told3 .given .1)
 
 returns-5 : tie.Need-returns-5
 returns-5 c =

@@ -86,15 +86,16 @@ program-ends-requires : (t : ℕ) → run-program-lts.Need-program-ends-requires
 program-ends-requires t c κs = c .before .before .loop .inv .begins .inside
 
 same-length : (t : ℕ) → run-program-lts.Need-same-length (env t) (run-program-at t) run-program.Post Inv μ
-same-length t c = c .before .before .before .before .loop .inv .kept
+same-length t c = c .before .before .before .before .before .loop .inv .kept
 
 returns : (t : ℕ) → run-program-lts.Need-returns (env t) (run-program-at t) run-program.Post Inv μ
 returns t c =
-    let spent = c .before .before .before in
+    let test = c .before in
+    let spent = test .before .before .before in
     let head = spent .before in
     let a = head .before .before .before .args in
-    walking-ends (a .s .now) (a .task) (a .left) (head .loop .inv) (sym (spent .is-spent .ensures) ∙ not-true _ (c .before .before .if1 .taken))
-    (sym (c .before .program-ends .ensures) ∙ c .if2 .taken)
+    walking-ends (a .s .now) (a .task) (a .left) (head .loop .inv) (sym (spent .is-spent .ensures) ∙ not-true _ (test .before .before .if1 .taken))
+    (sym (test .before .program-ends .ensures) ∙ test .if2 .taken)
 
 -- there is budget for the block, and the program does not end
 module _ (t : ℕ) (c : run-program-lts.Else2 (env t) (run-program-at t) run-program.Post Inv μ) where
@@ -252,13 +253,14 @@ loop-again-2 t c =
     (called .before .before .before .callee .given .1) (called .run-program .ensures) (c .before .ending2 .given .1)
 
 same-length-4 : (t : ℕ) → run-program-lts.Need-same-length-4 (env t) (run-program-at t) run-program.Post Inv μ
-same-length-4 t c = c .before .before .loop .inv .kept
+same-length-4 t c = c .before .before .before .loop .inv .kept
 
 returns-4 : (t : ℕ) → run-program-lts.Need-returns-4 (env t) (run-program-at t) run-program.Post Inv μ
 returns-4 t c =
-    let head = c .before .before in
+    let test = c .before in
+    let head = test .before .before in
     let a = head .before .before .before .args in
-    walking-spent (a .s .now) (a .task) (a .left) (head .loop .inv) (sym (c .before .is-spent .ensures) ∙ not-false _ (c .if1 .left))
+    walking-spent (a .s .now) (a .task) (a .left) (head .loop .inv) (sym (test .before .is-spent .ensures) ∙ not-false _ (test .if1 .left))
 
 pub +run-program-spec : {M : Type 1} → statement M
 +run-program-spec =

@@ -1,8 +1,8 @@
--- `cases::answer_to` meets its contract: so many blocks, or the whole run. Assumes nothing.
+-- `cases::report_to` meets its contract: so many blocks, or the whole run. Assumes nothing.
 use Rattle.cases.specs.Budgets.{budgetBy}
 use borrow.Author.Needs.{needs}
-use Rattle.cases.proofs.answer_to.Statement.{statement}
-use Rattle.cases.proofs.answer_to.Tie as tie
+use Rattle.cases.proofs.report_to.Statement.{statement}
+use Rattle.cases.proofs.report_to.Tie as tie
 
 enum-known-blocks : tie.Need-enum-known-blocks
 enum-known-blocks c = search needs
@@ -30,8 +30,8 @@ returns-2 : tie.Need-returns-2
 unfolding budgetBy
 returns-2 c = rw (c .before .before .before .before .enum-told .given .1) (c .before .before .run .ensures)
 
-pub answer-to-spec : {M : Type 1} → statement M
-answer-to-spec =
+pub report-to-spec : {M : Type 1} → statement M
+report-to-spec =
     tie.close
     (tie.spec
     enum-known-blocks

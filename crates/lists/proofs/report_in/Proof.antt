@@ -1,8 +1,8 @@
--- `lists::answer_in` meets its contract: each entry point runs one kind of budget. Assumes nothing.
+-- `lists::report_in` meets its contract: each entry point runs one kind of budget. Assumes nothing.
 use borrow.Author.Needs.{needs}
 use Rattle.lists.proofs.Listing.{budget-whole, budget-first}
-use Rattle.lists.proofs.answer_in.Statement.{statement}
-use Rattle.lists.proofs.answer_in.Tie as tie
+use Rattle.lists.proofs.report_in.Statement.{statement}
+use Rattle.lists.proofs.report_in.Tie as tie
 
 returns : tie.Need-returns
 returns c =
@@ -16,7 +16,7 @@ returns-2 c =
     let t = r .before .before in
     rw (budget-first (t .before .before .before .args .options) (t .if1 .left)) (r .run-blocks .ensures)
 
-pub answer-in-spec : {M : Type 1} → statement M
-answer-in-spec =
+pub report-in-spec : {M : Type 1} → statement M
+report-in-spec =
     tie.close
     (tie.spec (λ c κs. search needs) (λ c. search needs) returns (λ c κs. search needs) (λ c. search needs) returns-2)

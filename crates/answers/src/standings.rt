@@ -1,0 +1,128 @@
+// Where a run stands, on one line: the point in machine units, the code that is on in each of the groups A to F, the feed, the
+// speed, the spindle, and the next block.
+use codes::Cycle;
+use codes::Distance;
+use codes::Motion;
+use codes::Plane;
+use codes::Return;
+use codes::Unit;
+use libc::STDOUT_FILENO;
+use points::Point;
+use printing::show_count;
+use printing::show_number;
+use refusals::Place;
+use settings::Modes;
+use settings::State;
+
+pub fn show_state(state: State, next: Place) -> bool {
+    let at = state.at;
+    let modes = state.modes;
+    show_at(at) && show_modes(modes) && show_values(state) && show_next(next)
+}
+
+fn say(text: &[u8]) -> bool {
+    io::write_all(STDOUT_FILENO, text)
+}
+
+fn show_at(at: Point) -> bool {
+    say(b"at X")
+        && show_number(at.x)
+        && say(b" Y")
+        && show_number(at.y)
+        && say(b" Z")
+        && show_number(at.z)
+}
+
+fn show_modes(m: Modes) -> bool {
+    let motion = m.motion;
+    let plane = m.plane;
+    let unit = m.unit;
+    let distance = m.distance;
+    let back = m.back;
+    say(b", modes")
+        && show_motion(motion)
+        && show_plane(plane)
+        && show_unit(unit)
+        && show_distance(distance)
+        && show_origin(m.origin)
+        && show_return(back)
+}
+
+fn show_motion(motion: Motion) -> bool {
+    match motion {
+        Motion::Off => say(b" G80"),
+        Motion::G00 => say(b" G00"),
+        Motion::G01 => say(b" G01"),
+        Motion::G02 => say(b" G02"),
+        Motion::G03 => say(b" G03"),
+        Motion::Drilling(cycle) => show_cycle(cycle),
+    }
+}
+
+fn show_cycle(cycle: Cycle) -> bool {
+    match cycle {
+        Cycle::G81 => say(b" G81"),
+        Cycle::G82 => say(b" G82"),
+        Cycle::G85 => say(b" G85"),
+        Cycle::G89 => say(b" G89"),
+    }
+}
+
+fn show_plane(plane: Plane) -> bool {
+    match plane {
+        Plane::G17 => say(b" G17"),
+        Plane::G18 => say(b" G18"),
+        Plane::G19 => say(b" G19"),
+    }
+}
+
+fn show_unit(unit: Unit) -> bool {
+    match unit {
+        Unit::Inch => say(b" G20"),
+        Unit::Millimetre => say(b" G21"),
+    }
+}
+
+fn show_distance(distance: Distance) -> bool {
+    match distance {
+        Distance::Absolute => say(b" G90"),
+        Distance::Incremental => say(b" G91"),
+    }
+}
+
+// There are six origins.
+fn show_origin(origin: usize) -> bool {
+    match origin {
+        0 => say(b" G54"),
+        1 => say(b" G55"),
+        2 => say(b" G56"),
+        3 => say(b" G57"),
+        4 => say(b" G58"),
+        _ => say(b" G59"),
+    }
+}
+
+fn show_return(back: Return) -> bool {
+    match back {
+        Return::ToInitial => say(b" G98"),
+        Return::ToR => say(b" G99"),
+    }
+}
+
+fn show_values(state: State) -> bool {
+    let feed = state.feed;
+    let speed = state.speed;
+    let said = say(b", feed") && show_number(feed) && say(b", speed") && show_number(speed);
+    if state.turning {
+        return said && say(b", spindle on");
+    }
+    said && say(b", spindle off")
+}
+
+fn show_next(next: Place) -> bool {
+    say(b", next block")
+        && show_count(next.block as u64)
+        && say(b" at byte")
+        && show_count(next.byte as u64)
+        && say(b"\n")
+}
