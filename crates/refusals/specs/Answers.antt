@@ -12,13 +12,13 @@ countOf (Unfinished n) = n
 countOf (Refused refusal place n) = n
 
 -- "Each returns number, block, byte and the records written so far."
-pub data Report : Type 0 where
-  done : (count : ℕ) → Report
-  notFinished : (count : ℕ) → Report
-  refusedWith : (number : ℕ) (place : Place) (count : ℕ) → Report
+pub data NumberedAnswer : Type 0 where
+  done : (count : ℕ) → NumberedAnswer
+  notFinished : (count : ℕ) → NumberedAnswer
+  refusedWith : (number : ℕ) (place : Place) (count : ℕ) → NumberedAnswer
 
 -- what each case of an answer says; every promise that names a refusal speaks of this
-abbrev pub reportOf : Answer → Report
+abbrev pub reportOf : Answer → NumberedAnswer
 reportOf (Done n) = done n
 reportOf (Unfinished n) = notFinished n
 reportOf (Refused refusal place n) = refusedWith (numberOf refusal) place n

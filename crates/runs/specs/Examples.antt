@@ -7,7 +7,7 @@ use mathlib.Core.List.{List, [], _∷_}
 use lib.IntN.{ℤ, pos, negsuc}
 use Rattle.terms.specs.Terms.{bytes}
 use Rattle.lengths.specs.Units.{len}
-use Rattle.refusals.specs.Answers.{Report, done, notFinished, refusedWith, reportOf}
+use Rattle.refusals.specs.Answers.{NumberedAnswer, done, notFinished, refusedWith, reportOf}
 use Rattle.codes.specs.declared.Motion.the-variants.{G01}
 use Rattle.codes.specs.declared.Plane.the-variants.{G17}
 use Rattle.codes.specs.declared.Unit.the-variants.{Millimetre}
@@ -57,15 +57,15 @@ tooFarSettings =
 pub record Row : Type 0 where
   pub text : String
   pub budget : Budget
-  pub answer : Report
+  pub answer : NumberedAnswer
 
-abbrev row : String → Budget → Report → Row
+abbrev row : String → Budget → NumberedAnswer → Row
 row text budget answer = record { text = text; budget = budget; answer = answer }
 
-abbrev refused : ℕ → ℕ → ℕ → ℕ → Report
+abbrev refused : ℕ → ℕ → ℕ → ℕ → NumberedAnswer
 refused number block byte count = refusedWith number (record { block = block; byte = byte }) count
 
-unfoldable pub answerOfRow : Row → Report
+unfoldable pub answerOfRow : Row → NumberedAnswer
 answerOfRow r = reportOf (answerOf setupT (bytes (r .text)) roomT (r .budget))
 
 abbrev pub rows : List Row
