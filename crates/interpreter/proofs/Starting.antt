@@ -47,8 +47,8 @@ use Rattle.runs.specs.Walk.{How, ended, returned, unfinished, Outcome, nowhere,
 use Rattle.runs.specs.Walk as Walk
 use Rattle.runs.specs.Run.{firstOf, runTable, runBlocks, outcome, recordsOf, answerBy, answerOf, standingOf}
 use Rattle.progress.specs.Progressing.{jobOf, goingOf, walkFrom, endingBy, nextBy, Ran, Sound, Fits}
-use Rattle.interpreter.specs.Owing.{stateFor, nextFor, reportBy, Owes}
-use Rattle.interpreter.specs.Serving.{answerFor, Opened, Gives}
+use Rattle.interpreter.specs.Owing.{Owes}
+use Rattle.interpreter.specs.Serving.{answerFor, Opened, Gives, stateFor, nextFor, reportBy}
 use Rattle.runs.specs.declared.Budget.{Budget}
 use Rattle.runs.specs.declared.Report.{Report}
 use Rattle.runs.specs.declared.Standing.{Standing}

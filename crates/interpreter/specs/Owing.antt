@@ -3,45 +3,16 @@ use Prim.Native.Nat.{ℕ, _+_}
 use mathlib.Core.Path.{_≡_}
 use mathlib.Core.List.{List, _++_}
 use lib.ListN.{length, take, drop}
-use Rattle.points.specs.declared.Point.{Point}
 use Rattle.setup.specs.declared.Setup.{Setup}
 use Rattle.records.specs.declared.Record.{Record}
 use Rattle.records.specs.declared.Listed.the-variants.{End}
 use Rattle.records.specs.Layout.{listBytes}
 use Rattle.records.specs.Reading.{trail, after, readAll}
-use Rattle.refusals.specs.declared.Place.{Place}
-use Rattle.settings.specs.declared.State.{State}
-use Rattle.settings.specs.Settings.{stateMoved}
-use Rattle.runs.specs.Walk.{Outcome, nowhere}
-use Rattle.runs.specs.Run.{answerBy, answerOf, standingOf, recordsOf}
+use Rattle.runs.specs.Run.{answerOf, standingOf, recordsOf}
 use Rattle.runs.specs.declared.Budget.{Budget}
 use Rattle.runs.specs.declared.Report.{Report}
 use Rattle.refusals.specs.declared.Answer.{Answer}
 use Rattle.refusals.specs.Answers.{countOf}
-use Rattle.progress.specs.declared.Ending.{Ending}
-use Rattle.progress.specs.declared.Ending.the-variants.{Ended, Returned, Unfinished, Refused}
-
--- the settings that it leaves
-unfoldable pub stateFor : Ending → State
-stateFor (Ended s count) = s
-stateFor (Returned p) = p .state
-stateFor (Unfinished s next count) = s
-stateFor (Refused refusal place s count) = s
-
--- the place of the next block, where the run is not finished
-unfoldable pub nextFor : Ending → Place
-nextFor (Ended s count) = nowhere
-nextFor (Returned p) = nowhere
-nextFor (Unfinished s next count) = next
-nextFor (Refused refusal place s count) = nowhere
-
--- what an outcome tells the caller, the point in machine units
-unfoldable pub reportBy : Point → Outcome → Report
-reportBy offset o =
-    record {
-      answer = answerBy (o .how) (length (o .made));
-      standing = record { state = stateMoved offset (o .last); next = o .next };
-    }
 
 -- What a run owes: its answer, where it stands, and the list buffer's final bytes in full. The whole buffer is the room.
 pub record Owes (s : Setup) (l : List ℕ) (budget : Budget) (was is : List ℕ) (r : Report) : Type 0 where

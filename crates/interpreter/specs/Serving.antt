@@ -12,13 +12,38 @@ use Rattle.cycles.specs.Writing.{movedBytes}
 use Rattle.programs.specs.declared.Programs.{Programs}
 use Rattle.programs.specs.Openings.{table, programsFrom}
 use Rattle.programs.specs.Found.{subsOf, WellFound}
-use Rattle.runs.specs.Walk.{Outcome}
+use Rattle.settings.specs.declared.State.{State}
+use Rattle.settings.specs.Settings.{stateMoved}
+use Rattle.runs.specs.Walk.{Outcome, nowhere}
+use Rattle.runs.specs.Run.{answerBy}
 use Rattle.runs.specs.declared.Report.{Report}
+use Rattle.refusals.specs.declared.Place.{Place}
 use Rattle.refusals.specs.declared.Answer.{Answer}
 use Rattle.refusals.specs.declared.Answer.the-variants as Answers
 use Rattle.progress.specs.declared.Ending.{Ending}
 use Rattle.progress.specs.declared.Ending.the-variants.{Ended, Returned, Unfinished, Refused}
-use Rattle.interpreter.specs.Owing.{reportBy}
+
+-- the settings that the main program's ending leaves
+unfoldable pub stateFor : Ending → State
+stateFor (Ended s count) = s
+stateFor (Returned p) = p .state
+stateFor (Unfinished s next count) = s
+stateFor (Refused refusal place s count) = s
+
+-- the place of the next block, where the run is not finished
+unfoldable pub nextFor : Ending → Place
+nextFor (Ended s count) = nowhere
+nextFor (Returned p) = nowhere
+nextFor (Unfinished s next count) = next
+nextFor (Refused refusal place s count) = nowhere
+
+-- what an outcome tells the caller, the point in machine units
+unfoldable pub reportBy : Point → Outcome → Report
+reportBy offset o =
+    record {
+      answer = answerBy (o .how) (length (o .made));
+      standing = record { state = stateMoved offset (o .last); next = o .next };
+    }
 
 -- "Order: .. 11; then per opening 1, 8, 7.": the data begin with `%` alone, and these are their programs
 pub record Opened (l : List ℕ) (t : Programs) : Type 0 where

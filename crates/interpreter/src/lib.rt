@@ -30,8 +30,8 @@ ghost use Rattle.runs.specs.declared.Budget.the-variants.{Whole, First};
 ghost use Rattle.settings.specs.Settings.{stateMoved};
 ghost use Rattle.runs.specs.Walk.{just, nowhere, refusedAt};
 ghost use Rattle.runs.specs.Run.{firstOf, runTable, outcome};
-ghost use Rattle.interpreter.specs.Owing.{Owes, reportBy, stateFor, nextFor};
-ghost use Rattle.interpreter.specs.Serving.{Opened, Gives, answerFor};
+ghost use Rattle.interpreter.specs.Owing.{Owes};
+ghost use Rattle.interpreter.specs.Serving.{Opened, Gives, answerFor, reportBy, stateFor, nextFor};
 
 // The settings that a run starts with.
 fn first_state(setup: Setup) -> State

@@ -1,7 +1,7 @@
 -- `interpreter::next_by` meets its contract, ending by ending. Assumes nothing.
 use mathlib.Core.Path.{sym, ap}
 use borrow.Author.Needs.{needs}
-use Rattle.interpreter.specs.Owing.{nextFor}
+use Rattle.interpreter.specs.Serving.{nextFor}
 use Rattle.interpreter.proofs.next_by.Statement.{statement}
 use Rattle.interpreter.proofs.next_by.Tie as tie
 

@@ -1,7 +1,7 @@
 -- `interpreter::refused` meets its contract. Assumes nothing.
 use borrow.Author.Needs.{needs}
 use Rattle.runs.specs.Run.{answerBy}
-use Rattle.interpreter.specs.Owing.{reportBy}
+use Rattle.interpreter.specs.Serving.{reportBy}
 use Rattle.interpreter.proofs.refused.Statement.{statement}
 use Rattle.interpreter.proofs.refused.Tie as tie
 

@@ -1,7 +1,7 @@
 -- `interpreter::state_by` meets its contract, ending by ending. Assumes nothing.
 use mathlib.Core.Path.{sym, ap}
 use borrow.Author.Needs.{needs}
-use Rattle.interpreter.specs.Owing.{stateFor}
+use Rattle.interpreter.specs.Serving.{stateFor}
 use Rattle.interpreter.proofs.state_by.Statement.{statement}
 use Rattle.interpreter.proofs.state_by.Tie as tie
 
