@@ -40,6 +40,7 @@ use Rattle.settings.specs.Settings.{orElse}
 use Rattle.blocks.specs.Machine.{Machine}
 use Rattle.letters.specs.Letters.{
   firstThatMayNot,
+  hasCentre,
   firstUnused,
   firstBadValue,
   miscOfBlock,
@@ -48,7 +49,7 @@ use Rattle.letters.specs.Letters.{
   blockCode,
   valuesOf,
 }
-use Rattle.blocks.specs.Motions.{Moves, endStands, centreStands, cycleDone, movesOf}
+use Rattle.blocks.specs.Motions.{Moves, endStands, centreGiven, cycleDone, movesOf}
 use Rattle.letters.specs.declared.BlockCode.{BlockCode}
 use Rattle.letters.specs.declared.BlockCode.the-variants.{Calling, Returning, Dwelling, Moving}
 use Rattle.blocks.specs.declared.Said.{Said}
@@ -127,13 +128,13 @@ unfoldable pub atWord : Refusal → Option Word → Option Blame
 atWord refusal none = none
 atWord refusal (some w) = some (record { refusal = refusal; byte = w .at })
 
--- "3: G04 or M98 without P; an arc with an end but no centre word"
+-- "3: G04 or M98 without P; an arc with an end but no centre word"; "3 needs R missing too"
 unfoldable pub lacksCentre : Motion → Values → Bool
 lacksCentre Off v = false
 lacksCentre G00 v = false
 lacksCentre G01 v = false
-lacksCentre G02 v = endStands v && not (centreStands v)
-lacksCentre G03 v = endStands v && not (centreStands v)
+lacksCentre G02 v = endStands v && not (centreGiven v)
+lacksCentre G03 v = endStands v && not (centreGiven v)
 lacksCentre (Drilling cycle) v = false
 
 unfoldable pub lacksParameter : BlockCode → Values → Bool
@@ -195,7 +196,7 @@ unfoldable pub blames : Machine → Calls → ℕ → State → ℕ → List Wor
 blames machine calls room s start ws b =
     -- "4 leftmost for unknown or repeated letters (not G) and codes that may not stand; 2 leftmost; 1 leftmost by value"
     atWord CannotExecute (firstThatMayNot (inMain calls) [] ws)
-    ∷ atWord AddressUndefined (firstUnused (b .code) (b .modes .plane) ws)
+    ∷ atWord AddressUndefined (firstUnused (b .code) (b .modes .plane) (hasCentre (b .code) (b .modes .plane) ws) ws)
     ∷ atWord BadParameter (firstBadValue (machine .speeds) (b .modes) (b .code) ws)
     -- "3; 5; 6"
     ∷ atStart start ParameterUndefined (lacksParameter (b .code) (b .values))

@@ -1,12 +1,15 @@
 -- Document 01, "G00, G01", "G02, G03", "Cycles", "P as dwell": the motion or the dwell of a block.
-use mathlib.Core.Bool.{Bool, true, _||_}
+use mathlib.Core.Bool.{Bool, true, false, not, _||_}
 use mathlib.Core.List.{List, [], _∷_}
+use lib.IntN.{pos}
+use lib.Signed.{ltZ}
 use Rattle.terms.specs.Terms.{if_then_else_}
 use Rattle.codes.specs.declared.Cycle.{Cycle}
 use Rattle.codes.specs.declared.Motion.{Motion}
 use Rattle.codes.specs.declared.Motion.the-variants.{Off, G00, G01, G02, G03, Drilling}
 use Rattle.words.specs.declared.Values.{Values}
 use Rattle.points.specs.declared.Point.{Point}
+use Rattle.points.specs.declared.Flat.{Flat}
 use Rattle.points.specs.Points.{moved, flat}
 use Rattle.records.specs.declared.Arc.{Arc}
 use Rattle.records.specs.declared.Record.{Record}
@@ -14,6 +17,7 @@ use Rattle.records.specs.declared.Record.the-variants.{RP, LN, AR, AL, DW}
 use Rattle.settings.specs.declared.State.{State}
 use Rattle.settings.specs.Target.{target}
 use Rattle.arcs.specs.Arcs.{arcHolds}
+use Rattle.centres.specs.Centres.{radiusHolds, centreBy}
 use Rattle.cycles.specs.Cycles.{holeOf, levelsHold, passes}
 use Rattle.letters.specs.declared.BlockCode.{BlockCode}
 use Rattle.letters.specs.declared.BlockCode.the-variants.{Calling, Returning, Dwelling, Moving}
@@ -21,12 +25,13 @@ use Rattle.letters.specs.declared.BlockCode.the-variants.{Calling, Returning, D
 abbrev pub endStands : Values → Bool
 endStands v = v .x .stands || v .y .stands || v .z .stands
 
-abbrev pub centreStands : Values → Bool
-centreStands v = v .i .stands || v .j .stands || v .k .stands
+-- the centre is given: by a word of its own, or by the radius (document 02, #101)
+abbrev pub centreGiven : Values → Bool
+centreGiven v = v .i .stands || v .j .stands || v .k .stands || v .r .stands
 
--- "No end and no centre word: mode only."
+-- "No end and no centre word: mode only", and no R.
 abbrev pub arcStands : Values → Bool
-arcStands v = endStands v || centreStands v
+arcStands v = endStands v || centreGiven v
 
 -- A block's motion: its records, and whether its geometry holds.
 pub record Moves : Type 0 where
@@ -43,19 +48,37 @@ one r = record { records = r ∷ []; sound = true }
 unfoldable pub centreWords : Values → Point
 centreWords v = record { x = v .i .v; y = v .j .v; z = v .k .v }
 
-unfoldable pub arcFor : State → Point → Values → Arc
-arcFor s origin v =
-    let centre = flat (s .modes .plane) (moved (centreWords v) (s .at)) in
-    record {
-      plane = s .modes .plane;
-      end = target (s .modes .distance) origin (s .at) v;
-      first = centre .first;
-      second = centre .second;
-      feed = s .feed;
-    }
+-- The centre in the plane's axes: by its words, or, where R stands, by the radius to the end of the arc. `left` tells that a centre
+-- by radius lies to the left of the way from the start to the end.
+unfoldable pub centreFor : Bool → State → Point → Values → Flat
+centreFor left s end v =
+    let plane = s .modes .plane in
+    if v .r .stands then centreBy left (v .r .v .v) (flat plane (s .at)) (flat plane end)
+    else flat plane (moved (centreWords v) (s .at))
 
-unfoldable pub arcMoves : (Arc → Record) → State → Arc → Moves
-arcMoves make s a = record { records = make a ∷ []; sound = arcHolds (s .at) a }
+unfoldable pub arcTo : Bool → State → Values → Point → Arc
+arcTo left s v end =
+    let centre = centreFor left s end v in
+    record { plane = s .modes .plane; end = end; first = centre .first; second = centre .second; feed = s .feed }
+
+-- a circle of the radius goes through start and end, where R stands
+unfoldable pub radiusFits : State → Values → Point → Bool
+radiusFits s v end =
+    let plane = s .modes .plane in
+    not (v .r .stands) || radiusHolds (v .r .v .v) (flat plane (s .at)) (flat plane end)
+
+-- geometry that gives no record at all
+abbrev pub impossible : Moves
+impossible = record { records = []; sound = false }
+
+unfoldable pub arcMoves : (Arc → Record) → Bool → State → Values → Point → Moves
+arcMoves make left s v end =
+    let a = arcTo left s v end in
+    if radiusFits s v end then record { records = make a ∷ []; sound = arcHolds (s .at) a } else impossible
+
+-- "R positive is the arc of at most half a turn, R negative the larger one"
+abbrev pub isLarger : Values → Bool
+isLarger v = ltZ (v .r .v .v) (pos 0)
 
 -- "done when the block names one, or one is on and X, Y, Z or R stands"
 unfoldable pub cycleDone : Bool → Values → Bool
@@ -73,9 +96,12 @@ motionOf Off named s origin v = noMoves
 motionOf G00 named s origin v = if endStands v then one (RP (target (s .modes .distance) origin (s .at) v)) else noMoves
 motionOf G01 named s origin v =
     if endStands v then one (LN (target (s .modes .distance) origin (s .at) v) (s .feed)) else noMoves
--- `AR` is clockwise, as G02 is
-motionOf G02 named s origin v = if arcStands v then arcMoves AR s (arcFor s origin v) else noMoves
-motionOf G03 named s origin v = if arcStands v then arcMoves AL s (arcFor s origin v) else noMoves
+-- `AR` is clockwise, as G02 is. On the way to the right the arc of at most half a turn has its centre to the right, on the way to
+-- the left it has it to the left (proofs/Sides.antt of `centres`).
+motionOf G02 named s origin v =
+    if arcStands v then arcMoves AR (isLarger v) s v (target (s .modes .distance) origin (s .at) v) else noMoves
+motionOf G03 named s origin v =
+    if arcStands v then arcMoves AL (not (isLarger v)) s v (target (s .modes .distance) origin (s .at) v) else noMoves
 motionOf (Drilling cycle) named s origin v = if cycleDone named v then cycleMoves cycle s origin v else noMoves
 
 unfoldable pub movesOf : BlockCode → Bool → State → Point → Values → Moves

@@ -89,7 +89,10 @@ fn hear(
     let highest = bed.highest;
     let speeds = Speeds { lowest, highest };
     let words = read.words;
-    match judging::judge(speeds, modes, code, words, read.count) {
+    let stood = seen.letters;
+    let plane = modes.plane;
+    let centred = letters::has_centre(code, plane, stood[8], stood[9], stood[10]);
+    match judging::judge(speeds, modes, code, centred, words, read.count) {
         Judged::Unused(byte) => Executed::Refused(Refusal::AddressUndefined, byte),
         Judged::Bad(byte) => Executed::Refused(Refusal::BadParameter, byte),
         Judged::Fine(values) => {

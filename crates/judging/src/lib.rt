@@ -72,12 +72,20 @@ fn values_in(stands: [bool; 11], v: [Len; 11]) -> Values
     }
 }
 
-// A word that the code does not use is named before any bad value, also one on its left; of bad values the first.
+// A word that the code does not use is named before any bad value, also one on its left; of bad values the first. An R beside a
+// centre word is not used: `centred` tells that the block is an arc with one.
 // The values stand in arrays of this function, where each is written once: `Values` handed from word to word would be
 // copied for each of them.
-pub fn judge(speeds: Speeds, m: Modes, code: BlockCode, words: [Word; 13], count: usize) -> Judged
+pub fn judge(
+    speeds: Speeds,
+    m: Modes,
+    code: BlockCode,
+    centred: bool,
+    words: [Word; 13],
+    count: usize,
+) -> Judged
     requires { ⌜ Stored words count ⌝ }
-    ensures { λ r. ⌜ r ≡ judgedBy speeds m code (take count words) ⌝ }
+    ensures { λ r. ⌜ r ≡ judgedBy speeds m code centred (take count words) ⌝ }
 {
     let mut stands = [false; 11];
     let mut v = [Len::zero(); 11];
@@ -89,7 +97,7 @@ pub fn judge(speeds: Speeds, m: Modes, code: BlockCode, words: [Word; 13], count
         i += 1;
         let plane = m.plane;
         let meaning = letters::use_of(code, plane, w.letter);
-        if is_nothing(meaning) {
+        if is_nothing(meaning) | (centred & (w.letter == b'R')) {
             return Judged::Unused(w.at);
         }
         let unit = m.unit;

@@ -13,7 +13,7 @@ use mir.Syntax.{w64}
 use mir.Val.{Fits, SFits, toZ, ofZ}
 use mir.Facts.{toZ-ofZ}
 use Rattle.lengths.specs.declared.Len.{Len}
-use Rattle.lengths.specs.Units.{sq}
+use Rattle.lengths.specs.Units.{sq, halved}
 use Rattle.lengths.specs.View.{over, under, Within}
 use Rattle.lengths.specs.Serving.{Room}
 
@@ -131,6 +131,17 @@ le-lt a b c h k = omega (arith, view)
 
 pub sum-diff : (a b c : ℤ) → a +ℤ b ≡ c → a ≡ c -ℤ b
 sum-diff a b c e = omega (arith, view, sum-bal a b, diff-bal c b)
+
+-- half of a number rounded down: twice that is the number or one below it
+pub halved-over : (z : ℤ) → over (halved z) + over (halved z) + under z ≤ under (halved z) + under (halved z) + over z
+unfolding halved
+halved-over (pos n) = omega arith
+halved-over (negsuc n) = omega arith
+
+pub halved-under : (z : ℤ) → under (halved z) + under (halved z) + over z ≤ over (halved z) + over (halved z) + under z + 1
+unfolding halved
+halved-under (pos n) = omega arith
+halved-under (negsuc n) = omega arith
 
 -- ---- distances from 0
 

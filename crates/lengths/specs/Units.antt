@@ -22,6 +22,11 @@ a ⊖ b = len (a .v -ℤ b .v)
 abbrev pub sq : ℤ → ℕ
 sq z = natAbs z * natAbs z
 
+-- half of a number, rounded down: of −1 it is −1
+unfoldable pub halved : ℤ → ℤ
+halved (pos n) = pos (n / 2)
+halved (negsuc n) = negsuc (n / 2)
+
 -- "numbers are four bytes, little end first, signed"
 
 unfoldable pub fitsFour : ℤ → Bool

@@ -4,7 +4,7 @@
 ghost use mathlib.Core.Path.{_≡_};
 ghost use Prim.Native.Nat.{_+_, _<_, _^_};
 ghost use lib.Signed.{leZ, ltZ};
-ghost use Rattle.lengths.specs.Units.{sq, fitsFour, fourBytes};
+ghost use Rattle.lengths.specs.Units.{len, sq, halved, fitsFour, fourBytes};
 ghost use Rattle.lengths.specs.View.{over, under, Within, Short};
 ghost use Rattle.lengths.specs.Serving.{Room, Is, Counted, Sum, Difference, Negation, Apart, Product, Read};
 
@@ -96,6 +96,14 @@ impl Len {
     {
         let n = self.apart(Len::zero());
         n * n
+    }
+
+    // Half of the number, rounded down: the key is the number plus 2 ^ 63, so half of it is half of the number plus 2 ^ 62.
+    pub fn halved(self) -> Len
+        ensures { λ r. ⌜ r ≡ len (halved (self .v)) ⌝ }
+    {
+        let half = Len::of_count(self.key() / 2);
+        half.minus(Len::of_count(4611686018427387904))
     }
 
     pub fn times(self, b: Len) -> Len

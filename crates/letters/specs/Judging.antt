@@ -1,10 +1,12 @@
 -- The judgement of a block's words by the refusals 2 and then 1, and how it is made word by word.
 use Prim.Native.Nat.{ℕ, _≤_, _<_}
-use mathlib.Core.Bool.{_||_}
+use mathlib.Core.Path.{_≡_}
+use mathlib.Core.Bool.{Bool, _||_}
 use mathlib.Core.Option.{Option, none, some}
 use mathlib.Core.List.{List, [], _∷_}
+use lib.Dec.{eqb}
 use lib.ListN.{getD}
-use Rattle.terms.specs.Terms.{if_then_else_}
+use Rattle.terms.specs.Terms.{if_then_else_, byte, any}
 use Rattle.words.specs.declared.Word.{Word}
 use Rattle.words.specs.declared.Value.{Value}
 use Rattle.words.specs.declared.Value.the-variants as value
@@ -26,9 +28,16 @@ unfoldable pub badOr : Option Word → Values → Judged
 badOr none v = Fine v
 badOr (some w) v = Bad (w .at)
 
-unfoldable pub judgedBy : Speeds → Modes → BlockCode → List Word → Judged
-judgedBy speeds m code ws =
-    unusedOr (firstUnused code (m .plane) ws) (badOr (firstBadValue speeds m code ws) (valuesOf speeds m code ws))
+-- `centred` tells that the block is an arc with a centre word
+unfoldable pub judgedBy : Speeds → Modes → BlockCode → Bool → List Word → Judged
+judgedBy speeds m code centred ws =
+    unusedOr (firstUnused code (m .plane) centred ws) (badOr (firstBadValue speeds m code ws) (valuesOf speeds m code ws))
+
+-- whether the letters of centre words stand among a block's words
+pub record CentreSeen (ws : List Word) (i j k : Bool) : Type 0 where
+  pub hasI : i ≡ any (λ w. eqb (w .letter) (byte "I")) ws
+  pub hasJ : j ≡ any (λ w. eqb (w .letter) (byte "J")) ws
+  pub hasK : k ≡ any (λ w. eqb (w .letter) (byte "K")) ws
 
 -- a block without its G and M words, which are kept as codes and not as words
 unfoldable pub valued : List Word → List Word
@@ -52,8 +61,9 @@ judgedAll speeds m code passed [] = passed
 judgedAll speeds m code passed (w ∷ ws) = judgedAll speeds m code (judgedNext speeds m code passed w) ws
 
 -- what the words that are left make of the judgement so far: one without a use is named whatever its value
-unfoldable pub judgedAfter : Speeds → Modes → BlockCode → Judged → List Word → Judged
-judgedAfter speeds m code passed ws = unusedOr (firstUnused code (m .plane) ws) (judgedAll speeds m code passed ws)
+unfoldable pub judgedAfter : Speeds → Modes → BlockCode → Bool → Judged → List Word → Judged
+judgedAfter speeds m code centred passed ws =
+    unusedOr (firstUnused code (m .plane) centred ws) (judgedAll speeds m code passed ws)
 
 -- the first `count` of an array's words are a block's: each has a number that was read
 pub record Stored (words : List Word) (count : ℕ) : Type 0 where

@@ -124,10 +124,19 @@ straightLetters = each (bytes "XYZ") Length
 
 -- "end as in G01 on the plane's two axes, centre by its distance from the start in the plane's letters (I J for G17, K I
 -- for G18 as Z then X, J K for G19)"
+unfoldable pub endLetters : Plane → List ℕ
+endLetters G17 = bytes "XY"
+endLetters G18 = bytes "ZX"
+endLetters G19 = bytes "YZ"
+
+unfoldable pub centreLetters : Plane → List ℕ
+centreLetters G17 = bytes "IJ"
+centreLetters G18 = bytes "KI"
+centreLetters G19 = bytes "JK"
+
+-- and R (document 02, #101), which stands instead of a centre: `isUnused`
 unfoldable pub arcLetters : Plane → List (ℕ × Use)
-arcLetters G17 = each (bytes "XYIJ") Length
-arcLetters G18 = each (bytes "ZXKI") Length
-arcLetters G19 = each (bytes "YZJK") Length
+arcLetters plane = (byte "R", Length) ∷ each (endLetters plane ++ centreLetters plane) Length
 
 -- "Cycles use X Y Z R K, and P in G82 and G89 only."
 abbrev pub cycleLetters : List (ℕ × Use)
@@ -182,9 +191,30 @@ isNothing Speed = false
 isNothing Dwell = false
 isNothing Count = false
 
--- "2 leftmost"
-unfoldable pub firstUnused : BlockCode → Plane → List Word → Option Word
-firstUnused code plane ws = first (λ w. isNothing (useOf code plane (w .letter))) ws
+unfoldable pub turns : Motion → Bool
+turns Off = false
+turns G00 = false
+turns G01 = false
+turns G02 = true
+turns G03 = true
+turns (Drilling cycle) = false
+
+unfoldable pub isArc : BlockCode → Bool
+isArc Calling = false
+isArc Returning = false
+isArc Dwelling = false
+isArc (Moving motion) = turns motion
+
+-- an arc with a centre word of its plane
+unfoldable pub hasCentre : BlockCode → Plane → List Word → Bool
+hasCentre code plane ws = isArc code && any (λ w. any (eqb (w .letter)) (centreLetters plane)) ws
+
+-- "2 leftmost"; "R beside a centre word is 2": `centred` tells that the block is an arc with one
+unfoldable pub isUnused : BlockCode → Plane → Bool → Word → Bool
+isUnused code plane centred w = isNothing (useOf code plane (w .letter)) || centred && eqb (w .letter) (byte "R")
+
+unfoldable pub firstUnused : BlockCode → Plane → Bool → List Word → Option Word
+firstUnused code plane centred ws = first (isUnused code plane centred) ws
 
 -- "1 leftmost by value"
 unfoldable pub wordValue : Speeds → Modes → BlockCode → Word → Value

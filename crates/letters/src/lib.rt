@@ -7,9 +7,11 @@ use lengths::Len;
 use words::Use;
 use words::Values;
 ghost use mathlib.Core.Path.{_≡_};
-ghost use mathlib.Core.List.{[], _∷_, _++_};
+ghost use mathlib.Core.List.{List, [], _∷_, _++_};
 ghost use Rattle.words.specs.declared.Use.the-variants as Use;
-ghost use Rattle.letters.specs.Letters.{usedIn, each, straightLetters, arcLetters, cycleLetters, dwellingCycleLetters, drillingLetters, motionLetters, dwellLetters, callLetters, feedAndSpeed, useOf, codeUnder};
+ghost use Rattle.words.specs.declared.Word.{Word};
+ghost use Rattle.letters.specs.Judging.{CentreSeen};
+ghost use Rattle.letters.specs.Letters.{usedIn, each, straightLetters, endLetters, centreLetters, turns, isArc, hasCentre, arcLetters, cycleLetters, dwellingCycleLetters, drillingLetters, motionLetters, dwellLetters, callLetters, feedAndSpeed, useOf, codeUnder};
 
 // The code of a block that decides its letters.
 pub enum BlockCode {
@@ -51,6 +53,38 @@ pub fn block_code(misc: Misc, dwells: bool, motion: Motion) -> BlockCode
     }
 }
 
+fn turns(motion: Motion) -> bool
+    ensures { λ r. ⌜ r ≡ turns motion ⌝ }
+{
+    match motion {
+        Motion::G02 => true,
+        Motion::G03 => true,
+        _ => false,
+    }
+}
+
+fn is_arc(code: BlockCode) -> bool
+    ensures { λ r. ⌜ r ≡ isArc code ⌝ }
+{
+    match code {
+        BlockCode::Moving(motion) => turns(motion),
+        _ => false,
+    }
+}
+
+// Whether the block is an arc with a centre word of its plane, beside which no R may stand; i, j and k tell whether these letters
+// stand in the block.
+pub fn has_centre(code: BlockCode, plane: Plane, i: bool, j: bool, k: bool) -> bool
+    ensures { λ r. ⌜ ((ws : List Word) → CentreSeen ws i j k → r ≡ hasCentre code plane ws) ⌝ }
+{
+    let named = match plane {
+        Plane::G17 => i | j,
+        Plane::G18 => k | i,
+        Plane::G19 => j | k,
+    };
+    is_arc(code) & named
+}
+
 fn straight_use(letter: u8) -> Use
     ensures { λ r. ⌜ r ≡ usedIn straightLetters letter ⌝ }
 {
@@ -82,13 +116,23 @@ fn length_among(letter: u8, a: u8, b: u8, c: u8, d: u8) -> Use
 }
 
 // The plane's two axes and the centre's letters.
-fn arc_use(plane: Plane, letter: u8) -> Use
-    ensures { λ r. ⌜ r ≡ usedIn (arcLetters plane) letter ⌝ }
+fn plane_use(plane: Plane, letter: u8) -> Use
+    ensures { λ r. ⌜ r ≡ usedIn (each (endLetters plane ++ centreLetters plane) Use.Length) letter ⌝ }
 {
     match plane {
         Plane::G17 => length_among(letter, b'X', b'Y', b'I', b'J'),
         Plane::G18 => length_among(letter, b'Z', b'X', b'K', b'I'),
         Plane::G19 => length_among(letter, b'Y', b'Z', b'J', b'K'),
+    }
+}
+
+// Those and the radius.
+fn arc_use(plane: Plane, letter: u8) -> Use
+    ensures { λ r. ⌜ r ≡ usedIn (arcLetters plane) letter ⌝ }
+{
+    match letter {
+        b'R' => Use::Length,
+        _ => plane_use(plane, letter),
     }
 }
 

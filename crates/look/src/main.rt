@@ -181,7 +181,10 @@ fn judged(range: Speeds, read: Reading) -> Judged
     let words = read.words;
     let dwells = groups[7];
     let code = letters::block_code(misc, dwells, motion);
-    judging::judge(range, modes, code, words, read.count)
+    let stood = seen.letters;
+    let plane = modes.plane;
+    let centred = letters::has_centre(code, plane, stood[8], stood[9], stood[10]);
+    judging::judge(range, modes, code, centred, words, read.count)
 }
 
 fn speeds() -> Speeds

@@ -19,7 +19,7 @@ use Rattle.letters.specs.declared.BlockCode.{BlockCode}
 use Rattle.letters.specs.declared.BlockCode.the-variants.{Calling, Returning, Dwelling, Moving}
 use Rattle.cycles.specs.declared.Hole.{Hole}
 use Rattle.cycles.specs.Cycles.{holeOf, levelsHold, passes}
-use Rattle.blocks.specs.Motions.{Moves, noMoves, one, endStands, centreStands, arcStands, arcFor, arcMoves, cycleDone, cycleMoves, motionOf, movesOf}
+use Rattle.blocks.specs.Motions.{Moves, noMoves, one, endStands, centreGiven, arcStands, arcFor, arcMoves, cycleDone, cycleMoves, motionOf, movesOf}
 use Rattle.moves.specs.declared.Plan.{Plan}
 use Rattle.moves.specs.declared.Plan.the-variants.{Rest, Single, Passes}
 use Rattle.moves.proofs.Plan.{the-type}
@@ -90,7 +90,7 @@ module _ (s : State) (origin : Point) (v : Values) where
     unfolding motionOf
     cut-rests e = plans-rest (let off : endStands v ≡ false = sym is ∙ e in rw off)
 
-    module _ {u : Bool} (and : u ≡ centreStands v) where
+    module _ {u : Bool} (and : u ≡ centreGiven v) where
       stands : {w : Bool} → (t || u) ≡ w → arcStands v ≡ w
       stands e = let both : (t || u) ≡ arcStands v = rw (is, and) in sym both ∙ e
 

@@ -3,7 +3,9 @@
 use codes::Cycle;
 use codes::Motion;
 use cycles::Hole;
+use lengths::Len;
 use letters::BlockCode;
+use points::Flat;
 use points::Point;
 use records::Arc;
 use records::Record;
@@ -13,15 +15,16 @@ ghost use mathlib.Core.Path.{_≡_};
 ghost use mathlib.Core.Bool.{Bool};
 ghost use Rattle.codes.specs.declared.Motion.the-variants.{G00, G01, G02, G03, Drilling};
 ghost use Rattle.letters.specs.declared.BlockCode.the-variants.{Moving};
-ghost use Rattle.blocks.specs.Motions.{endStands, centreStands, cycleDone, centreWords, arcFor, motionOf, movesOf};
+ghost use Rattle.blocks.specs.Motions.{endStands, centreGiven, cycleDone, centreWords, arcFor, motionOf, movesOf};
 ghost use Rattle.moves.specs.Plans.{Plans};
 ghost use Rattle.moves.specs.Needs.{Poised};
 
-// Nothing, one record, or the passes of a hole. Records are in the frame of the common offset.
+// Nothing, one record, the passes of a hole, or a radius to which there is no arc. Records are in the frame of the common offset.
 pub enum Plan {
     Rest,
     Single(Record),
     Passes(Hole),
+    Impossible,
 }
 
 // Whether a word of the end stands.
@@ -34,14 +37,15 @@ pub fn end_stands(v: Values) -> bool
     x.stands | y.stands | z.stands
 }
 
-// Whether a word of the centre stands.
-pub fn centre_stands(v: Values) -> bool
-    ensures { λ r. ⌜ r ≡ centreStands v ⌝ }
+// Whether a word of the centre or the radius stands.
+pub fn centre_given(v: Values) -> bool
+    ensures { λ r. ⌜ r ≡ centreGiven v ⌝ }
 {
     let i = v.i;
     let j = v.j;
     let k = v.k;
-    i.stands | j.stands | k.stands
+    let r = v.r;
+    i.stands | j.stands | k.stands | r.stands
 }
 
 // A cycle is done where the block names one, and else where X, Y, Z or R stands.
@@ -64,20 +68,55 @@ fn centre_words(v: Values) -> Point
     Point { x, y, z }
 }
 
-// The arc of a block. Its centre lies by the centre's words from the start.
-fn arc_for(code: BlockCode, s: State, origin: Point, v: Values) -> Arc
-    requires { ⌜ Poised code s origin v ⌝ }
-    ensures { λ r. ⌜ r ≡ arcFor s origin v ⌝ }
+// Whether a circle of the radius goes through start and end, where R stands.
+fn radius_fits(s: State, v: Values, end: Point) -> bool
+    requires { ⌜ Aiming s v end ⌝ }
+    ensures { λ r. ⌜ r ≡ radiusFits s v end ⌝ }
 {
     let modes = s.modes;
     let plane = modes.plane;
-    let d = modes.distance;
     let at = s.at;
+    let r = v.r;
+    if !r.stands {
+        return true;
+    }
+    centres::radius_holds(
+        r.v,
+        points::in_plane(plane, at),
+        points::in_plane(plane, end),
+    )
+}
+
+// The centre of an arc: by the radius where R stands, else by the centre's words from the start.
+fn centre_for(left: bool, s: State, v: Values, end: Point) -> Flat
+    requires { ⌜ Fitting s v end ⌝ }
+    ensures { λ r. ⌜ r ≡ centreFor left s end v ⌝ }
+{
+    let modes = s.modes;
+    let plane = modes.plane;
+    let at = s.at;
+    let r = v.r;
+    if r.stands {
+        return centres::centre_by(
+            left,
+            r.v,
+            points::in_plane(plane, at),
+            points::in_plane(plane, end),
+        );
+    }
+    points::in_plane(plane, points::moved(centre_words(v), at))
+}
+
+fn arc_to(left: bool, s: State, v: Values, end: Point) -> Arc
+    requires { ⌜ Fitting s v end ⌝ }
+    ensures { λ r. ⌜ r ≡ arcTo left s v end ⌝ }
+{
+    let modes = s.modes;
+    let plane = modes.plane;
     let feed = s.feed;
-    let centre = points::in_plane(plane, points::moved(centre_words(v), at));
+    let centre = centre_for(left, s, v, end);
     let first = centre.first;
     let second = centre.second;
-    let end = settings::target_point(d, origin, at, v);
     Arc {
         plane,
         end,
@@ -85,6 +124,14 @@ fn arc_for(code: BlockCode, s: State, origin: Point, v: Values) -> Arc
         second,
         feed,
     }
+}
+
+// R negative is the arc of more than half a turn.
+fn is_larger(v: Values) -> bool
+    ensures { λ r. ⌜ r ≡ isLarger v ⌝ }
+{
+    let r = v.r;
+    r.v.below(Len::zero())
 }
 
 fn rapid_plan(s: State, origin: Point, v: Values) -> Plan
@@ -114,25 +161,39 @@ fn cut_plan(s: State, origin: Point, v: Values) -> Plan
     Plan::Rest
 }
 
-// Without a word of the end and of the centre an arc's code is on and does nothing.
+// Without a word of the end and of the centre, and without R, an arc's code is on and does nothing.
 fn clockwise_plan(s: State, origin: Point, v: Values) -> Plan
     requires { ⌜ Poised (Moving G02) s origin v ⌝ }
     ensures { λ p. ⌜ ((named : Bool) → Plans (Moving G02) (motionOf G02 named s origin v) s origin v p) ⌝ }
 {
-    if end_stands(v) | centre_stands(v) {
-        return Plan::Single(Record::AR(arc_for(BlockCode::Moving(Motion::G02), s, origin, v)));
+    let modes = s.modes;
+    let d = modes.distance;
+    let at = s.at;
+    if !(end_stands(v) | centre_given(v)) {
+        return Plan::Rest;
     }
-    Plan::Rest
+    let end = settings::target_point(d, origin, at, v);
+    if !radius_fits(s, v, end) {
+        return Plan::Impossible;
+    }
+    Plan::Single(Record::AR(arc_to(is_larger(v), s, v, end)))
 }
 
 fn counter_plan(s: State, origin: Point, v: Values) -> Plan
     requires { ⌜ Poised (Moving G03) s origin v ⌝ }
     ensures { λ p. ⌜ ((named : Bool) → Plans (Moving G03) (motionOf G03 named s origin v) s origin v p) ⌝ }
 {
-    if end_stands(v) | centre_stands(v) {
-        return Plan::Single(Record::AL(arc_for(BlockCode::Moving(Motion::G03), s, origin, v)));
+    let modes = s.modes;
+    let d = modes.distance;
+    let at = s.at;
+    if !(end_stands(v) | centre_given(v)) {
+        return Plan::Rest;
     }
-    Plan::Rest
+    let end = settings::target_point(d, origin, at, v);
+    if !radius_fits(s, v, end) {
+        return Plan::Impossible;
+    }
+    Plan::Single(Record::AL(arc_to(!is_larger(v), s, v, end)))
 }
 
 fn cycle_plan(cycle: Cycle, named: bool, s: State, origin: Point, v: Values) -> Plan

@@ -42,6 +42,7 @@ pub fn plan_holds(from: Point, p: Plan) -> bool
         Plan::Rest => true,
         Plan::Single(r) => record_holds(from, r),
         Plan::Passes(h) => cycles::levels_hold(h),
+        Plan::Impossible => false,
     }
 }
 
@@ -54,6 +55,7 @@ pub fn plan_fits(offset: Point, p: Plan) -> bool
         Plan::Rest => true,
         Plan::Single(r) => arcs::centre_fits(records::displaced(offset, r)),
         Plan::Passes(_) => true,
+        Plan::Impossible => true,
     }
 }
 
@@ -76,6 +78,7 @@ pub fn plan_way(t: Travel, p: Plan, d: Distance, origin: Point, from: Point, v: 
         Plan::Rest => Way::Ends(from),
         Plan::Single(r) => record_way(t, from, r),
         Plan::Passes(h) => cycles::passes_way(t, h, d, origin, from, v),
+        Plan::Impossible => Way::Ends(from),
     }
 }
 
@@ -88,6 +91,7 @@ pub fn plan_room(p: Plan, v: Values) -> usize
         Plan::Rest => 0,
         Plan::Single(r) => records::room(r),
         Plan::Passes(h) => rooms::passes_room(h, cycles::pass_count(v.k)),
+        Plan::Impossible => 0,
     }
 }
 
@@ -100,6 +104,7 @@ pub fn plan_count(p: Plan, v: Values) -> usize
         Plan::Rest => 0,
         Plan::Single(_) => 1,
         Plan::Passes(h) => rooms::passes_length(h, cycles::pass_count(v.k)),
+        Plan::Impossible => 0,
     }
 }
 
@@ -139,5 +144,6 @@ pub fn put_plan(
         Plan::Rest => at,
         Plan::Single(r) => put_record(list, at, offset, r),
         Plan::Passes(h) => drilling::put_passes(list, at, offset, h, d, origin, from, v),
+        Plan::Impossible => at,
     }
 }

@@ -22,8 +22,8 @@ fn lacks_centre(motion: Motion, v: Values) -> bool
     ensures { λ r. ⌜ r ≡ lacksCentre motion v ⌝ }
 {
     match motion {
-        Motion::G02 => moves::end_stands(v) & !moves::centre_stands(v),
-        Motion::G03 => moves::end_stands(v) & !moves::centre_stands(v),
+        Motion::G02 => moves::end_stands(v) & !moves::centre_given(v),
+        Motion::G03 => moves::end_stands(v) & !moves::centre_given(v),
         _ => false,
     }
 }

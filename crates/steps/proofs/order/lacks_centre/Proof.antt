@@ -12,8 +12,8 @@ enum-told c = search needs
 end-stands-requires : tie.Need-end-stands-requires
 end-stands-requires c κs = search needs
 
-centre-stands-requires : tie.Need-centre-stands-requires
-centre-stands-requires c κs = search needs
+centre-given-requires : tie.Need-centre-given-requires
+centre-given-requires c κs = search needs
 
 enum-told-2 : tie.Need-enum-told-2
 enum-told-2 c = search needs
@@ -21,16 +21,16 @@ enum-told-2 c = search needs
 end-stands-requires-2 : tie.Need-end-stands-requires-2
 end-stands-requires-2 c κs = search needs
 
-centre-stands-requires-2 : tie.Need-centre-stands-requires-2
-centre-stands-requires-2 c κs = search needs
+centre-given-requires-2 : tie.Need-centre-given-requires-2
+centre-given-requires-2 c κs = search needs
 
 returns : tie.Need-returns
 unfolding lacksCentre
-returns c = rw (c .before .before .enum-told .given .1, c .before .end-stands .ensures, c .centre-stands .ensures)
+returns c = rw (c .before .before .enum-told .given .1, c .before .end-stands .ensures, c .centre-given .ensures)
 
 returns-2 : tie.Need-returns-2
 unfolding lacksCentre
-returns-2 c = rw (c .before .before .enum-told2 .given .1, c .before .end-stands2 .ensures, c .centre-stands2 .ensures)
+returns-2 c = rw (c .before .before .enum-told2 .given .1, c .before .end-stands2 .ensures, c .centre-given2 .ensures)
 
 returns-3 : tie.Need-returns-3
 returns-3 c = sym (no-centre (c .before .args .motion) (c .before .args .v) (c .match .keys3))
@@ -41,10 +41,10 @@ lacks-centre-spec =
     (tie.spec
     enum-told
     end-stands-requires
-    centre-stands-requires
+    centre-given-requires
     enum-told-2
     end-stands-requires-2
-    centre-stands-requires-2
+    centre-given-requires-2
     returns
     returns-2
     returns-3)

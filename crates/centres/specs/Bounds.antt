@@ -1,0 +1,40 @@
+-- The bounds under which every number of the centre's computation fits, as linear facts of naturals (specs/View.antt of `lengths`).
+use Prim.Native.Nat.{ℕ, _*_, _≤_, _<_}
+use mathlib.Core.Path.{_≡_}
+use mathlib.Core.Bool.{true}
+use lib.IntN.{ℤ}
+use Rattle.lengths.specs.declared.Len.{Len}
+use Rattle.lengths.specs.Units.{sq}
+use Rattle.lengths.specs.View.{Within}
+use Rattle.points.specs.declared.Flat.{Flat}
+use Rattle.centres.specs.Centres.{radiusHolds}
+
+-- both coordinates are at most n away from 0
+pub record FlatNear (n : ℕ) (p : Flat) : Type 0 where
+  pub first : Within n (p .first .v)
+  pub second : Within n (p .second .v)
+
+-- What a run keeps: an R word is within 1,000,000,000, the tool within 1,100,000,000 in the frame of the common offset, and where
+-- its words lead within 2,100,000,000, inside the travel or not.
+pub record Chord (r : ℤ) (s e : Flat) : Type 0 where
+  pub radius : Within 1_000_000_000 r
+  pub start : FlatNear 1_100_000_000 s
+  pub end : FlatNear 2_100_000_000 e
+
+-- an arc whose radius has been accepted
+pub record Spanned (r : ℤ) (s e : Flat) : Type 0 where
+  pub chord : Chord r s e
+  pub holds : radiusHolds r s e ≡ true
+
+-- The chord's square d is at most 4 R², so n = 4 R² − d and d are at most 4,000,000,000,000,000,000; the square of q is a part of d.
+pub record Divisible (q : ℤ) (n d : ℕ) : Type 0 where
+  pub some : 0 < d
+  pub part : sq q ≤ d
+  pub most : d ≤ 4_000_000_000_000_000_000
+  pub spare : n ≤ 4_000_000_000_000_000_000
+  pub near : Within 2_000_000_000 q
+
+pub record Coordinates (from to q : Len) (n d : ℕ) : Type 0 where
+  pub start : Within 1_100_000_000 (from .v)
+  pub end : Within 2_100_000_000 (to .v)
+  pub divisible : Divisible (q .v) n d

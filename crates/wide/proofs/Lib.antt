@@ -1,0 +1,2 @@
+pub mod Multiplying
+pub mod Dividing

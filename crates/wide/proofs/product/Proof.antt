@@ -1,0 +1,57 @@
+-- `wide::product` meets its contract. Assumes nothing.
+use native.Mathlib.Omega.{arith}
+use Rattle.wide.proofs.Multiplying.{Small, small, four-products}
+use Rattle.wide.proofs.product.Statement.{statement}
+use Rattle.wide.proofs.product.Tie as tie
+
+bounds : (c : tie.Start) → Small (c .args .a) (c .args .b)
+bounds c = small (c .args .a) (c .args .b) (c .fits .a .fits) (c .fits .b .fits)
+
+mul-first : tie.Need-mul-first
+mul-first c = omega (arith, bounds c)
+
+mul-second : tie.Need-mul-second
+mul-second c = omega (arith, bounds c)
+
+add-second : tie.Need-add-second
+add-second c = omega (arith, bounds c)
+
+mul-third : tie.Need-mul-third
+mul-third c = omega (arith, bounds c)
+
+add-third : tie.Need-add-third
+add-third c = omega (arith, bounds c)
+
+mul-high : tie.Need-mul-high
+mul-high c = omega (arith, bounds c)
+
+add-high : tie.Need-add-high
+add-high c = omega (arith, bounds c)
+
+add-high-2 : tie.Need-add-high-2
+add-high-2 c = omega (arith, bounds c)
+
+mul-low : tie.Need-mul-low
+mul-low c = omega arith
+
+add-low : tie.Need-add-low
+add-low c = omega arith
+
+returns : tie.Need-returns
+returns c = omega (arith, four-products (c .args .a) (c .args .b))
+
+pub product-spec : {M : Type 1} → statement M
+product-spec =
+    tie.close
+    (tie.spec
+    mul-first
+    mul-second
+    add-second
+    mul-third
+    add-third
+    mul-high
+    add-high
+    add-high-2
+    mul-low
+    add-low
+    returns)
