@@ -1,7 +1,7 @@
 -- A word's value put at its letter's place, and the judgement of the words so far. Assumes nothing.
 use Prim.Native.Nat.{ℕ, _+_, _≤_, _<_}
 use mathlib.Core.Path.{_≡_, refl, ap, _∙_, fun-ext}
-use mathlib.Core.Bool.{Bool, true, false}
+use mathlib.Core.Bool.{Bool, true, false, _&&_, _||_}
 use mathlib.Core.List.{List}
 use native.Mathlib.Omega.{arith}
 use lib.Dec.{eqb}
@@ -9,7 +9,7 @@ use lib.IntN.{pos}
 use lib.ListN.{length, take, getD, set, replicate, length-set}
 use lib.Seq.{getD-set-same, getD-set-other}
 use borrow.Author.Tests.{eqb-true, eqb-false}
-use Rattle.terms.specs.Terms.{if_then_else_, bytes}
+use Rattle.terms.specs.Terms.{if_then_else_, byte, bytes}
 use Rattle.codes.proofs.Tables.{Others}
 use Rattle.lengths.specs.declared.Len.{Len}
 use Rattle.lengths.specs.Units.{len}
@@ -75,19 +75,19 @@ soFar false place stands v = Fine (valuesIn stands v)
 
 -- what is kept of the words passed, the one at place i being the next
 pub record KeptValues
-    (speeds : Speeds) (m : Modes) (code : BlockCode) (words : List Word) (count : ℕ)
+    (speeds : Speeds) (m : Modes) (code : BlockCode) (centred : Bool) (words : List Word) (count : ℕ)
     (stands : List Bool) (v : List Len) (bad : Bool) (place i : ℕ) : Type 0
   where
     pub inside : i ≤ count
     pub few : count ≤ length words
     pub flags : length stands ≡ 11
     pub values : length v ≡ 11
-    pub left : LeftFrom speeds m code words count (soFar bad place stands v) i
+    pub left : LeftFrom speeds m code centred words count (soFar bad place stands v) i
 
-module _ (speeds : Speeds) (m : Modes) (code : BlockCode) (words : List Word) (count : ℕ) where
+module _ (speeds : Speeds) (m : Modes) (code : BlockCode) (centred : Bool) (words : List Word) (count : ℕ) where
   pub kept-first :
       (z : Len) → z ≡ len (pos 0) → count ≤ length words
-      → KeptValues speeds m code words count (replicate 11 false) (replicate 11 z) false 0 0
+      → KeptValues speeds m code centred words count (replicate 11 false) (replicate 11 z) false 0 0
   unfolding soFar valuesBy
   kept-first z e few =
       record {
@@ -95,28 +95,28 @@ module _ (speeds : Speeds) (m : Modes) (code : BlockCode) (words : List Word) (c
         few = few;
         flags = refl;
         values = refl;
-        left = judge-start speeds m code words count (valuesIn (replicate 11 false) (replicate 11 z)) (rw e);
+        left = judge-start speeds m code centred words count (valuesIn (replicate 11 false) (replicate 11 z)) (rw e);
       }
 
   module _
       (stands : List Bool) (v : List Len) (bad : Bool) (place i : ℕ)
-      (kept : KeptValues speeds m code words count stands v bad place i)
+      (kept : KeptValues speeds m code centred words count stands v bad place i)
     where
-      ended : count ≤ i → soFar bad place stands v ≡ judgedBy speeds m code (take count words)
-      ended h = judge-done speeds m code words count (soFar bad place stands v) i (kept .few) h (kept .left)
+      ended : count ≤ i → soFar bad place stands v ≡ judgedBy speeds m code centred (take count words)
+      ended h = judge-done speeds m code centred words count (soFar bad place stands v) i (kept .few) h (kept .left)
 
-      pub ended-bad : count ≤ i → bad ≡ true → Bad place ≡ judgedBy speeds m code (take count words)
+      pub ended-bad : count ≤ i → bad ≡ true → Bad place ≡ judgedBy speeds m code centred (take count words)
       unfolding soFar
       ended-bad h e = rw e at (ended h)
 
-      pub ended-fine : count ≤ i → bad ≡ false → (u : Values) → u ≡ valuesIn stands v → Fine u ≡ judgedBy speeds m code (take count words)
+      pub ended-fine : count ≤ i → bad ≡ false → (u : Values) → u ≡ valuesIn stands v → Fine u ≡ judgedBy speeds m code centred (take count words)
       unfolding soFar
       ended-fine h e u f = rw f (rw e at (ended h))
 
       -- one word more that the block's code uses, by its value x
       module _
           (d : Word) (h : i < count) (u : Use) (t : Bool)
-          (meaning : u ≡ useOf code (m .plane) (getD words i d .letter)) (test : t ≡ isNothing u) (used : t ≡ false)
+          (meaning : u ≡ useOf code (m .plane) (getD words i d .letter)) (test : t ≡ (isNothing u || centred && eqb (getD words i d .letter) (byte "R"))) (used : t ≡ false)
           (x : Value) (worth : x ≡ valueOf (m .unit) (speeds .lowest .v) (speeds .highest .v) u (getD words i d .number))
         where
           abbrev w : Word
@@ -126,11 +126,11 @@ module _ (speeds : Speeds) (m : Modes) (code : BlockCode) (words : List Word) (c
           unfolding wordValue
           its-value = worth ∙ rw meaning
 
-          past : (new : Judged) → new ≡ judgedNext speeds m code (soFar bad place stands v) w → LeftFrom speeds m code words count new (i + 1)
+          past : (new : Judged) → new ≡ judgedNext speeds m code (soFar bad place stands v) w → LeftFrom speeds m code centred words count new (i + 1)
           past new e =
-              judge-past speeds m code words count (soFar bad place stands v) i d (kept .few) h (kept .left) u t meaning test new used e
+              judge-past speeds m code centred words count (soFar bad place stands v) i d (kept .few) h (kept .left) u t meaning test new used e
 
-          pub past-bad : x ≡ value.Bad → bad ≡ false → KeptValues speeds m code words count stands v true (w .at) (i + 1)
+          pub past-bad : x ≡ value.Bad → bad ≡ false → KeptValues speeds m code centred words count stands v true (w .at) (i + 1)
           unfolding soFar judgedNext valueNext
           past-bad e f =
               record {
@@ -141,7 +141,7 @@ module _ (speeds : Speeds) (m : Modes) (code : BlockCode) (words : List Word) (c
                 left = past (Bad (w .at)) (rw (f, ← its-value, e));
               }
 
-          pub past-bad-again : bad ≡ true → KeptValues speeds m code words count stands v bad place (i + 1)
+          pub past-bad-again : bad ≡ true → KeptValues speeds m code centred words count stands v bad place (i + 1)
           unfolding soFar judgedNext
           past-bad-again f =
               record {
@@ -161,7 +161,7 @@ module _ (speeds : Speeds) (m : Modes) (code : BlockCode) (words : List Word) (c
 
           pub past-fit :
               (z : Len) (k : ℕ) → x ≡ value.Fit z → IsPlace (w .letter) k
-              → KeptValues speeds m code words count (set stands k true) (set v k z) bad place (i + 1)
+              → KeptValues speeds m code centred words count (set stands k true) (set v k z) bad place (i + 1)
           past-fit z k e p =
               record {
                 inside = omega arith;

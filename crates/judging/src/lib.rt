@@ -11,7 +11,10 @@ use words::Values;
 use words::Word;
 ghost use Prim.Native.Nat.{_<_};
 ghost use mathlib.Core.Path.{_≡_};
+ghost use mathlib.Core.Bool.{_&&_, _||_};
+ghost use lib.Dec.{eqb};
 ghost use lib.ListN.{take};
+ghost use Rattle.terms.specs.Terms.{byte};
 ghost use Rattle.letters.specs.Letters.{isNothing};
 ghost use Rattle.letters.specs.Judging.{judgedBy, Stored};
 ghost use Rattle.judging.specs.Places.{givenAt, valuesIn, IsPlace};
@@ -23,6 +26,13 @@ fn is_nothing(meaning: Use) -> bool
         Use::Nothing => true,
         _ => false,
     }
+}
+
+// A letter without a meaning in the block, or an R beside a centre word.
+fn is_unused(meaning: Use, centred: bool, letter: u8) -> bool
+    ensures { λ r. ⌜ r ≡ (isNothing meaning || centred && eqb letter (byte "R")) ⌝ }
+{
+    is_nothing(meaning) | (centred & (letter == b'R'))
 }
 
 // The place of a letter's value in the arrays. N, G and M are no values: what they are worth goes to the last place,
@@ -97,7 +107,7 @@ pub fn judge(
         i += 1;
         let plane = m.plane;
         let meaning = letters::use_of(code, plane, w.letter);
-        if is_nothing(meaning) | (centred & (w.letter == b'R')) {
+        if is_unused(meaning, centred, w.letter) {
             return Judged::Unused(w.at);
         }
         let unit = m.unit;

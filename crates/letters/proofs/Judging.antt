@@ -2,11 +2,12 @@
 -- nothing.
 use Prim.Native.Nat.{ℕ, _+_, _≤_, _<_}
 use mathlib.Core.Path.{_≡_, refl, sym, _∙_}
-use mathlib.Core.Bool.{Bool, true, false}
+use mathlib.Core.Bool.{Bool, true, false, _&&_, _||_}
 use mathlib.Core.Option.{some}
 use mathlib.Core.List.{List, [], _∷_}
 use native.Mathlib.Omega.{arith}
 use native.Mathlib.Numerals.{add-one}
+use lib.Dec.{eqb}
 use lib.ListN.{length, take, drop, getD, drop-of-length-le}
 use lib.Seq.{length-take-le, drop-cons, getD-take}
 use borrow.Author.Tests.{ne-eqb}
@@ -24,7 +25,7 @@ use Rattle.letters.specs.declared.Speeds.{Speeds}
 use Rattle.letters.specs.declared.BlockCode.{BlockCode}
 use Rattle.letters.specs.declared.Judged.{Judged}
 use Rattle.letters.specs.declared.Judged.the-variants.{Fine, Unused, Bad}
-use Rattle.letters.specs.Letters.{useOf, isNothing, firstUnused, wordValue, isBad, firstBadValue, givenBy, withValue, valuesAfter}
+use Rattle.letters.specs.Letters.{useOf, isNothing, isUnused, firstUnused, wordValue, isBad, firstBadValue, givenBy, withValue, valuesAfter}
 use Rattle.letters.specs.Judging.{unusedOr, badOr, judgedBy, valueNext, judgedNext, judgedAll, judgedAfter}
 
 -- a letter that is none of a value's
@@ -72,13 +73,13 @@ module _ (speeds : Speeds) (m : Modes) (code : BlockCode) where
 
   -- ---- one word more, of a block's first words
 
-  module _ (words : List Word) (count : ℕ) where
+  module _ (centred : Bool) (words : List Word) (count : ℕ) where
     abbrev ws : List Word
     ws = take count words
 
     -- what is left from place i on gives the judgement of all
     abbrev pub LeftFrom : Judged → ℕ → Type 0
-    LeftFrom passed i = judgedBy speeds m code ws ≡ judgedAfter speeds m code passed (drop i ws)
+    LeftFrom passed i = judgedBy speeds m code centred ws ≡ judgedAfter speeds m code centred passed (drop i ws)
 
     pub judge-start : (v : Values) → v ≡ noValues → LeftFrom (Fine v) 0
     unfolding judgedBy judgedAfter
@@ -86,7 +87,7 @@ module _ (speeds : Speeds) (m : Modes) (code : BlockCode) where
 
     pub judge-done :
         (passed : Judged) (i : ℕ) → count ≤ length words → count ≤ i → LeftFrom passed i
-        → passed ≡ judgedBy speeds m code ws
+        → passed ≡ judgedBy speeds m code centred ws
     unfolding judgedAfter judgedAll firstUnused first unusedOr
     judge-done passed i few h left =
         let past : length ws ≤ i = omega (arith, length-take-le count words few) in
@@ -101,12 +102,15 @@ module _ (speeds : Speeds) (m : Modes) (code : BlockCode) where
         next : drop i ws ≡ w ∷ drop (i + 1) ws
         next = rw (add-one, drop-cons ws i d (omega (arith, length-take-le count words few)), getD-take count words i d h)
 
-        module _ (u : Use) (t : Bool) (meaning : u ≡ useOf code (m .plane) (w .letter)) (test : t ≡ isNothing u) where
-          pub judge-unused : t ≡ true → Unused (w .at) ≡ judgedBy speeds m code ws
-          unfolding judgedAfter firstUnused first unusedOr
-          judge-unused e = sym (left ∙ rw (next, ← meaning, ← test, e))
+        module _
+            (u : Use) (t : Bool) (meaning : u ≡ useOf code (m .plane) (w .letter))
+            (test : t ≡ (isNothing u || centred && eqb (w .letter) (byte "R")))
+          where
+            pub judge-unused : t ≡ true → Unused (w .at) ≡ judgedBy speeds m code centred ws
+            unfolding judgedAfter firstUnused isUnused first unusedOr
+            judge-unused e = sym (left ∙ rw (next, ← meaning, ← test, e))
 
-          pub judge-past :
-              (new : Judged) → t ≡ false → new ≡ judgedNext speeds m code passed w → LeftFrom new (i + 1)
-          unfolding judgedAfter judgedAll firstUnused first
-          judge-past new e f = left ∙ rw (next, ← meaning, ← test, e, f)
+            pub judge-past :
+                (new : Judged) → t ≡ false → new ≡ judgedNext speeds m code passed w → LeftFrom new (i + 1)
+            unfolding judgedAfter judgedAll firstUnused isUnused first
+            judge-past new e f = left ∙ rw (next, ← meaning, ← test, e, f)

@@ -1,3 +1,4 @@
+pub mod Centred
 pub mod Judging
 pub mod Opened
 pub mod Sizes

@@ -7,7 +7,7 @@ use Rattle.words.proofs.Opened.{opened as words-opened}
 use Rattle.points.proofs.Opened.{opened as points-opened}
 use Rattle.settings.proofs.Opened.{opened as settings-opened}
 use Rattle.letters.specs.Judging.{unusedOr, badOr, judgedBy, valued, valueNext, judgedNext, judgedAll, judgedAfter}
-use Rattle.letters.specs.Letters.{isKnown, codeIn, miscIn, standsAlone, wrongProgram, repeats, badG, badM, mayNotStand, firstThatMayNot, miscOrOther, miscOfBlock, modesIn, namesGroupA, namesG04, codeUnder, blockCode, arcLetters, drillingLetters, motionLetters, lettersOf, useOf, isNothing, firstUnused, wordValue, isBad, firstBadValue, givenBy, withValue, valuesAfter}
+use Rattle.letters.specs.Letters.{isKnown, codeIn, miscIn, standsAlone, wrongProgram, repeats, badG, badM, mayNotStand, firstThatMayNot, miscOrOther, miscOfBlock, modesIn, namesGroupA, namesG04, codeUnder, blockCode, endLetters, centreLetters, arcLetters, drillingLetters, motionLetters, lettersOf, useOf, isNothing, turns, isArc, namesCentre, hasCentre, isUnused, firstUnused, wordValue, isBad, firstBadValue, givenBy, withValue, valuesAfter}
 
 unfoldable pub opened : Unit {0}
 unfolding
@@ -43,12 +43,19 @@ unfolding
     namesG04
     codeUnder
     blockCode
+    endLetters
+    centreLetters
     arcLetters
     drillingLetters
     motionLetters
     lettersOf
     useOf
     isNothing
+    turns
+    isArc
+    namesCentre
+    hasCentre
+    isUnused
     firstUnused
     wordValue
     isBad

@@ -38,6 +38,8 @@ use Rattle.letters.specs.declared.Speeds.{Speeds}
 use Rattle.letters.specs.declared.BlockCode.{BlockCode}
 use Rattle.letters.specs.declared.BlockCode.the-variants.{Calling, Returning, Dwelling, Moving}
 use Rattle.letters.specs.Letters.{
+  endLetters,
+  centreLetters,
   arcLetters,
   drillingLetters,
   motionLetters,
@@ -178,7 +180,7 @@ module _ (code : BlockCode) (plane : Plane) where
   alikeP = everyPlace keeps 0 (bytes "PXYZIJKRFS")
 
 arc-alike : (plane : Plane) → alikeP (Moving G02) plane ≡ true
-unfolding useOf lettersOf motionLetters arcLetters lookup
+unfolding useOf lettersOf motionLetters endLetters centreLetters arcLetters lookup
 arc-alike G17 = refl
 arc-alike G18 = refl
 arc-alike G19 = refl

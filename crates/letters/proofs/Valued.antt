@@ -2,9 +2,10 @@
 -- and is no value. Assumes nothing.
 use Prim.Native.Nat.{ℕ}
 use mathlib.Core.Path.{_≡_, refl}
-use mathlib.Core.Bool.{Bool, true, false, _||_}
+use mathlib.Core.Bool.{Bool, true, false, _||_, and-false}
 use mathlib.Core.Option.{some}
 use mathlib.Core.List.{List, [], _∷_}
+use lib.Dec.{eqb}
 use borrow.Author.Tests.{eqb-true}
 use Rattle.terms.specs.Terms.{if_then_else_, byte, first, lookup}
 use Rattle.codes.specs.declared.Plane.{Plane}
@@ -16,7 +17,7 @@ use Rattle.words.specs.Values.{valueOf, noValues}
 use Rattle.settings.specs.declared.Modes.{Modes}
 use Rattle.letters.specs.declared.Speeds.{Speeds}
 use Rattle.letters.specs.declared.BlockCode.{BlockCode}
-use Rattle.letters.specs.Letters.{isG, isMisc, useOf, isNothing, firstUnused, wordValue, isBad, firstBadValue, givenBy, withValue, valuesAfter, valuesOf}
+use Rattle.letters.specs.Letters.{isG, isMisc, useOf, isNothing, isUnused, firstUnused, wordValue, isBad, firstBadValue, givenBy, withValue, valuesAfter, valuesOf}
 use Rattle.letters.specs.Judging.{judgedBy, valued}
 
 -- what holds of the letters G and M holds of a word that is one of the two
@@ -47,9 +48,15 @@ module _ (code : BlockCode) (plane : Plane) where
   unfolding useOf lookup
   code-use w e = code-word (λ n. useOf code plane n ≡ Codes) w refl refl e
 
-  pub unused-valued : (ws : List Word) → firstUnused code plane (valued ws) ≡ firstUnused code plane ws
-  unfolding firstUnused isNothing
-  unused-valued ws = first-valued (λ w. isNothing (useOf code plane (w .letter))) (λ w e. rw (code-use w e)) ws
+  -- nor is a G or an M the radius
+  no-radius : (w : Word) → isG w || isMisc w ≡ true → eqb (w .letter) (byte "R") ≡ false
+  no-radius w e = code-word (λ n. eqb n (byte "R") ≡ false) w refl refl e
+
+  pub unused-valued :
+      (centred : Bool) (ws : List Word) → firstUnused code plane centred (valued ws) ≡ firstUnused code plane centred ws
+  unfolding firstUnused isUnused isNothing
+  unused-valued centred ws =
+      first-valued (isUnused code plane centred) (λ w e. rw (code-use w e, no-radius w e, and-false centred)) ws
 
 module _ (speeds : Speeds) (m : Modes) (code : BlockCode) where
   pub bad-valued : (ws : List Word) → firstBadValue speeds m code (valued ws) ≡ firstBadValue speeds m code ws
@@ -81,6 +88,7 @@ module _ (speeds : Speeds) (m : Modes) (code : BlockCode) where
   pub values-valued : (ws : List Word) → valuesOf speeds m code (valued ws) ≡ valuesOf speeds m code ws
   values-valued ws = after-valued ws noValues
 
-  pub judged-valued : (ws : List Word) → judgedBy speeds m code (valued ws) ≡ judgedBy speeds m code ws
+  pub judged-valued :
+      (centred : Bool) (ws : List Word) → judgedBy speeds m code centred (valued ws) ≡ judgedBy speeds m code centred ws
   unfolding judgedBy
-  judged-valued ws = rw (unused-valued code (m .plane) ws, bad-valued ws, values-valued ws)
+  judged-valued centred ws = rw (unused-valued code (m .plane) centred ws, bad-valued ws, values-valued ws)

@@ -205,9 +205,12 @@ isArc Returning = false
 isArc Dwelling = false
 isArc (Moving motion) = turns motion
 
+unfoldable pub namesCentre : Plane → List Word → Bool
+namesCentre plane ws = any (λ w. any (eqb (w .letter)) (centreLetters plane)) ws
+
 -- an arc with a centre word of its plane
 unfoldable pub hasCentre : BlockCode → Plane → List Word → Bool
-hasCentre code plane ws = isArc code && any (λ w. any (eqb (w .letter)) (centreLetters plane)) ws
+hasCentre code plane ws = isArc code && namesCentre plane ws
 
 -- "2 leftmost"; "R beside a centre word is 2": `centred` tells that the block is an arc with one
 unfoldable pub isUnused : BlockCode → Plane → Bool → Word → Bool

@@ -11,7 +11,7 @@ ghost use mathlib.Core.List.{List, [], _∷_, _++_};
 ghost use Rattle.words.specs.declared.Use.the-variants as Use;
 ghost use Rattle.words.specs.declared.Word.{Word};
 ghost use Rattle.letters.specs.Judging.{CentreSeen};
-ghost use Rattle.letters.specs.Letters.{usedIn, each, straightLetters, endLetters, centreLetters, turns, isArc, hasCentre, arcLetters, cycleLetters, dwellingCycleLetters, drillingLetters, motionLetters, dwellLetters, callLetters, feedAndSpeed, useOf, codeUnder};
+ghost use Rattle.letters.specs.Letters.{usedIn, each, straightLetters, endLetters, centreLetters, turns, isArc, namesCentre, hasCentre, arcLetters, cycleLetters, dwellingCycleLetters, drillingLetters, motionLetters, dwellLetters, callLetters, feedAndSpeed, useOf, codeUnder};
 
 // The code of a block that decides its letters.
 pub enum BlockCode {
@@ -72,17 +72,22 @@ fn is_arc(code: BlockCode) -> bool
     }
 }
 
-// Whether the block is an arc with a centre word of its plane, beside which no R may stand; i, j and k tell whether these letters
-// stand in the block.
-pub fn has_centre(code: BlockCode, plane: Plane, i: bool, j: bool, k: bool) -> bool
-    ensures { λ r. ⌜ ((ws : List Word) → CentreSeen ws i j k → r ≡ hasCentre code plane ws) ⌝ }
+// Whether a centre word of the plane stands; i, j and k tell whether these letters stand in the block.
+fn names_centre(plane: Plane, i: bool, j: bool, k: bool) -> bool
+    ensures { λ r. ⌜ ((ws : List Word) → CentreSeen ws i j k → r ≡ namesCentre plane ws) ⌝ }
 {
-    let named = match plane {
+    match plane {
         Plane::G17 => i | j,
         Plane::G18 => k | i,
         Plane::G19 => j | k,
-    };
-    is_arc(code) & named
+    }
+}
+
+// Whether the block is an arc with a centre word, beside which no R may stand.
+pub fn has_centre(code: BlockCode, plane: Plane, i: bool, j: bool, k: bool) -> bool
+    ensures { λ r. ⌜ ((ws : List Word) → CentreSeen ws i j k → r ≡ hasCentre code plane ws) ⌝ }
+{
+    is_arc(code) & names_centre(plane, i, j, k)
 }
 
 fn straight_use(letter: u8) -> Use

@@ -9,10 +9,10 @@ use Rattle.judging.proofs.judge.Statement.{statement}
 use Rattle.judging.proofs.judge.Tie as tie
 
 abbrev Inv-loop : tie.InvT-loop
-Inv-loop speeds m code count words stands₀ v₀ bad₀ place₀ i₀ stands v bad place i = KeptValues speeds m code words count stands v bad place i
+Inv-loop speeds m code centred count words stands₀ v₀ bad₀ place₀ i₀ stands v bad place i = KeptValues speeds m code centred words count stands v bad place i
 
 abbrev μ-loop : tie.MeasureT-loop
-μ-loop speeds m code count words stands₀ v₀ bad₀ place₀ i₀ stands v bad place i = count - i
+μ-loop speeds m code centred count words stands₀ v₀ bad₀ place₀ i₀ stands v bad place i = count - i
 
 zero-requires : tie.Need-zero-requires Inv-loop μ-loop
 zero-requires c κs = search needs
@@ -20,8 +20,8 @@ zero-requires c κs = search needs
 loop-holds : tie.Need-loop-holds Inv-loop μ-loop
 loop-holds c =
     let a = c .before .args in
-    kept-first (a .speeds) (a .m) (a .code) (a .t4) (a .count) (c .zero .result) (c .zero .ensures .is)
-    (omega (arith, c .before .pre .few, c .before .good .1 .1 .1 .0))
+    kept-first (a .speeds) (a .m) (a .code) (a .centred) (a .t5) (a .count) (c .zero .result) (c .zero .ensures .is)
+    (omega (arith, c .before .pre .few, c .before .good .1 .1 .1 .1 .0))
 
 mul-w : tie.Need-mul-w Inv-loop μ-loop
 mul-w c = omega arith
@@ -35,8 +35,8 @@ add-i c = omega arith
 use-of-requires : tie.Need-use-of-requires Inv-loop μ-loop
 use-of-requires c κs = search needs
 
-is-nothing-requires : tie.Need-is-nothing-requires Inv-loop μ-loop
-is-nothing-requires c κs = search needs
+is-unused-requires : tie.Need-is-unused-requires Inv-loop μ-loop
+is-unused-requires c κs = search needs
 
 returns : tie.Need-returns Inv-loop μ-loop
 returns c =
@@ -45,14 +45,14 @@ returns c =
     let l = t .before in
     let k = l .loop in
     let a = l .before .before .args in
-    judge-unused (a .speeds) (a .m) (a .code) (a .t4) (a .count) (soFar (k .bad) (k .place) (k .stands) (k .v)) (k .i) _
+    judge-unused (a .speeds) (a .m) (a .code) (a .centred) (a .t5) (a .count) (soFar (k .bad) (k .place) (k .stands) (k .v)) (k .i) _
     (k .inv .few)
     (t .loop-test .taken)
     (k .inv .left)
     (n .before .use-of .result)
-    (n .is-nothing .result)
+    (n .is-unused .result)
     (n .before .use-of .ensures)
-    (n .is-nothing .ensures)
+    (n .is-unused .ensures)
     (c .if1 .taken)
 
 value-of-requires : tie.Need-value-of-requires Inv-loop μ-loop
@@ -79,12 +79,12 @@ loop-again c =
     let l = t .before in
     let k = l .loop in
     let a = l .before .before .args in
-    past-bad (a .speeds) (a .m) (a .code) (a .t4) (a .count) (k .stands) (k .v) (k .bad) (k .place) (k .i) (k .inv) _
+    past-bad (a .speeds) (a .m) (a .code) (a .centred) (a .t5) (a .count) (k .stands) (k .v) (k .bad) (k .place) (k .i) (k .inv) _
     (t .loop-test .taken)
     (n .before .use-of .result)
-    (n .is-nothing .result)
+    (n .is-unused .result)
     (n .before .use-of .ensures)
-    (n .is-nothing .ensures)
+    (n .is-unused .ensures)
     (e .if1 .left)
     (q .value-of .result)
     (q .value-of .ensures)
@@ -103,12 +103,12 @@ loop-again-2 c =
     let l = t .before in
     let k = l .loop in
     let a = l .before .before .args in
-    past-bad-again (a .speeds) (a .m) (a .code) (a .t4) (a .count) (k .stands) (k .v) (k .bad) (k .place) (k .i) (k .inv) _
+    past-bad-again (a .speeds) (a .m) (a .code) (a .centred) (a .t5) (a .count) (k .stands) (k .v) (k .bad) (k .place) (k .i) (k .inv) _
     (t .loop-test .taken)
     (n .before .use-of .result)
-    (n .is-nothing .result)
+    (n .is-unused .result)
     (n .before .use-of .ensures)
-    (n .is-nothing .ensures)
+    (n .is-unused .ensures)
     (e .if1 .left)
     (q .value-of .result)
     (q .value-of .ensures)
@@ -139,12 +139,12 @@ loop-again-3 c =
     let l = t .before in
     let k = l .loop in
     let a = l .before .before .args in
-    past-fit (a .speeds) (a .m) (a .code) (a .t4) (a .count) (k .stands) (k .v) (k .bad) (k .place) (k .i) (k .inv) _
+    past-fit (a .speeds) (a .m) (a .code) (a .centred) (a .t5) (a .count) (k .stands) (k .v) (k .bad) (k .place) (k .i) (k .inv) _
     (t .loop-test .taken)
     (n .before .use-of .result)
-    (n .is-nothing .result)
+    (n .is-unused .result)
     (n .before .use-of .ensures)
-    (n .is-nothing .ensures)
+    (n .is-unused .ensures)
     (e .if1 .left)
     (q .value-of .result)
     (q .value-of .ensures)
@@ -158,7 +158,7 @@ returns-2 c =
     let l = c .before .before in
     let k = l .loop in
     let a = l .before .before .args in
-    ended-bad (a .speeds) (a .m) (a .code) (a .t4) (a .count) (k .stands) (k .v) (k .bad) (k .place) (k .i) (k .inv)
+    ended-bad (a .speeds) (a .m) (a .code) (a .centred) (a .t5) (a .count) (k .stands) (k .v) (k .bad) (k .place) (k .i) (k .inv)
     (c .before .loop-test .left)
     (c .if3 .taken)
 
@@ -170,7 +170,7 @@ returns-3 c =
     let l = c .before .before .before in
     let k = l .loop in
     let a = l .before .before .args in
-    ended-fine (a .speeds) (a .m) (a .code) (a .t4) (a .count) (k .stands) (k .v) (k .bad) (k .place) (k .i) (k .inv)
+    ended-fine (a .speeds) (a .m) (a .code) (a .centred) (a .t5) (a .count) (k .stands) (k .v) (k .bad) (k .place) (k .i) (k .inv)
     (c .before .before .loop-test .left)
     (c .before .if3 .left)
     (c .values-in .result)
@@ -188,7 +188,7 @@ judge-spec =
     array-copy-out-w
     add-i
     use-of-requires
-    is-nothing-requires
+    is-unused-requires
     returns
     value-of-requires
     enum-known-z

@@ -1,0 +1,17 @@
+-- `letters::is_arc` meets its contract. Assumes nothing.
+use mathlib.Core.Path.{sym}
+use borrow.Author.Needs.{needs}
+use Rattle.letters.specs.Letters.{isArc}
+use Rattle.letters.proofs.Centred.{other-codes}
+use Rattle.letters.proofs.is_arc.Statement.{statement}
+use Rattle.letters.proofs.is_arc.Tie as tie
+
+pub is-arc-spec : {M : Type 1} → statement M
+unfolding isArc
+is-arc-spec =
+    tie.close
+    (tie.spec
+    (λ c. search needs)
+    (λ c κs. search needs)
+    (λ c. rw (c .before .before .code .given .1) (c .turns .ensures))
+    (λ c. sym (other-codes (c .before .args .code) (c .match .keys2))))
