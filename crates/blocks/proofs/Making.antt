@@ -1,7 +1,7 @@
 -- The records that a whole block makes, and the state that it leaves. Assumes nothing.
 use Prim.Native.Nat.{ℕ, zero, suc}
 use mathlib.Core.Path.{_≡_, refl}
-use mathlib.Core.Bool.{Bool, true, false, _&&_, _||_}
+use mathlib.Core.Bool.{Bool, true, false, not, _&&_, _||_}
 use mathlib.Core.List.{List, [], _∷_, _++_, map}
 use native.Mathlib.Omega.{arith}
 use Rattle.terms.specs.Terms.{if_then_else_, all}
@@ -18,6 +18,7 @@ use Rattle.codes.specs.Codes.{isM, endsProgram}
 use Rattle.words.specs.declared.Values.{Values}
 use Rattle.points.specs.declared.Point.{Point}
 use Rattle.points.specs.Points.{atHeight}
+use Rattle.records.specs.declared.Arc.{Arc}
 use Rattle.records.specs.declared.Record.{Record}
 use Rattle.records.specs.declared.Record.the-variants.{RP, LN, AR, AL, DW, SP, SO, PA, EN}
 use Rattle.records.specs.Path.{pathStaysIn, recordMoved}
@@ -26,17 +27,18 @@ use Rattle.setup.specs.declared.Bed.{Bed}
 use Rattle.setup.specs.Frame.{originAt}
 use Rattle.settings.specs.declared.State.{State}
 use Rattle.settings.specs.Target.{target}
+use Rattle.arcs.specs.Arcs.{arcHolds}
 use Rattle.cycles.specs.declared.Hole.{Hole}
 use Rattle.cycles.specs.Cycles.{holeOf, returnLevel, dwelling, upUnder, leaving, passTo, passesAt, passCount, passes}
 use Rattle.letters.specs.declared.BlockCode.{BlockCode}
 use Rattle.letters.specs.declared.BlockCode.the-variants.{Calling, Returning, Dwelling, Moving}
 use Rattle.blocks.specs.declared.Said.{Said}
 use Rattle.blocks.specs.Machine.{machineOf}
-use Rattle.blocks.specs.Motions.{Moves, noMoves, one, endStands, arcStands, arcFor, arcMoves, cycleDone, cycleMoves, motionOf, movesOf}
+use Rattle.blocks.specs.Motions.{Moves, noMoves, one, impossible, endStands, arcStands, arcTo, radiusFits, arcMoves, isLarger, cycleDone, cycleMoves, motionOf, movesOf}
 use Rattle.blocks.specs.Exec.{working, spindleRecords, movesIn, lastRecords, madeBy, settled}
 use Rattle.blocks.specs.Reach.{Reachable, Steady}
 use Rattle.blocks.proofs.Nearness.{feed-near, speed-near, hole-feed, hole-dwell}
-use Rattle.blocks.proofs.Shortness.{AllOthers, others-both, all-fit, stays-inside, records-short, arc-others}
+use Rattle.blocks.proofs.Shortness.{ArcShort, OthersShort, AllOthers, others-both, all-fit, stays-inside, records-short, arc-others}
 
 -- ---- the numbers that the travel does not bound, of each part of a block's records
 
@@ -102,6 +104,9 @@ module _ (bed : Bed) (s : State) (b : Said) where
   abbrev v : Values
   v = b .values
 
+  abbrev end : Point
+  end = target (w .modes .distance) origin (w .at) v
+
   abbrev made : List Record
   made = madeBy (machineOf bed) s b
 
@@ -119,19 +124,33 @@ module _ (bed : Bed) (s : State) (b : Said) where
         passes-others by h (hole-feed bed s b steady cycle e) (hole-dwell bed s b steady cycle e) (passCount (v .k))
         (λ p. target (w .modes .distance) origin p v) (h .initial) (w .at)
 
+    -- an arc, or none where the radius does not fit
+    turn-others :
+        (make : Arc → Record) → ((a : Arc) → ArcShort by a → OthersShort by (make a)) → (left : Bool)
+        → AllOthers by (arcMoves make left w v end .records)
+    unfolding arcMoves
+    turn-others make short left = go (radiusFits w v end) refl
+      where
+        a : Arc
+        a = arcTo left w v end
+
+        go :
+            (t : Bool) → radiusFits w v end ≡ t
+            → AllOthers by ((if t then record { records = make a ∷ []; sound = arcHolds (w .at) a } else impossible) .records)
+        go true e = (short a (arc-others bed s b steady left e), tt)
+        go false e = tt
+
     motion-others : (motion : Motion) → b .code ≡ Moving motion → AllOthers by (motionOf motion (b .named) w origin v .records)
-    unfolding motionOf arcMoves
+    unfolding motionOf
     motion-others Off e = tt
     motion-others G00 e = either-moves by (endStands v) (one (RP (target (w .modes .distance) origin (w .at) v))) noMoves (tt, tt) tt
     motion-others G01 e =
         either-moves by (endStands v) (one (LN (target (w .modes .distance) origin (w .at) v) (w .feed))) noMoves
         (omega (arith, feed-near bed s b steady), tt) tt
     motion-others G02 e =
-        let a = arcFor w origin v in
-        either-moves by (arcStands v) (arcMoves AR w a) noMoves (arc-others bed s b steady, tt) tt
+        either-moves by (arcStands v) (arcMoves AR (isLarger v) w v end) noMoves (turn-others AR (λ a h. h) (isLarger v)) tt
     motion-others G03 e =
-        let a = arcFor w origin v in
-        either-moves by (arcStands v) (arcMoves AL w a) noMoves (arc-others bed s b steady, tt) tt
+        either-moves by (arcStands v) (arcMoves AL (not (isLarger v)) w v end) noMoves (turn-others AL (λ a h. h) (not (isLarger v))) tt
     motion-others (Drilling cycle) e =
         either-moves by (cycleDone (b .named) v) (cycleMoves cycle w origin v) noMoves (cycle-others cycle e) tt
 

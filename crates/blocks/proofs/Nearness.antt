@@ -1,7 +1,7 @@
 -- Points of a run and how near they are, in the frame of the common offset and in machine units. Assumes nothing.
 use Prim.Native.Nat.{ℕ, _^_}
 use mathlib.Core.Path.{_≡_, ap₂}
-use mathlib.Core.Bool.{true, false, _&&_}
+use mathlib.Core.Bool.{Bool, true, false, not, _&&_, _||_}
 use native.Mathlib.Omega.{arith}
 use lib.IntN.{ℤ, _+ℤ_}
 use lib.Signed.{leZ}
@@ -18,11 +18,11 @@ use Rattle.codes.specs.declared.Plane.{Plane}
 use Rattle.codes.specs.declared.Plane.the-variants.{G17, G18, G19}
 use Rattle.words.specs.declared.Given.{Given}
 use Rattle.points.specs.declared.Point.{Point}
+use Rattle.points.specs.declared.Flat.{Flat}
 use Rattle.points.specs.Points.{moved, flat, inside}
 use Rattle.points.specs.Near.{Near}
-use Rattle.records.specs.declared.Arc.{Arc}
-use Rattle.records.specs.declared.Record.the-variants.{AR, AL}
-use Rattle.records.specs.Path.{pathOf, arcMoved, recordMoved}
+use Rattle.points.proofs.Near.{flat-near}
+use Rattle.records.specs.Path.{arcMoved}
 use Rattle.setup.specs.declared.Bed.{Bed}
 use Rattle.setup.specs.Frame.{originAt}
 use Rattle.setup.specs.Fair.{Fair}
@@ -32,7 +32,9 @@ use Rattle.settings.specs.Target.{target}
 use Rattle.settings.specs.Bounds.{Aims}
 use Rattle.settings.proofs.Near.{target-near}
 use Rattle.arcs.specs.Bounds.{Reach, Beside, Bounds}
-use Rattle.arcs.specs.Arcs.{centreFits}
+use Rattle.centres.specs.Centres.{radiusHolds, centreBy}
+use Rattle.centres.specs.Bounds.{Chord}
+use Rattle.centres.proofs.Reaching.{centre-reach}
 use Rattle.cycles.specs.declared.Hole.{Hole}
 use Rattle.cycles.specs.Cycles.{holeOf, passes}
 use Rattle.cycles.specs.Ways.{staysIn}
@@ -41,7 +43,7 @@ use Rattle.cycles.specs.Writing.{Framed, Puts}
 use Rattle.cycles.proofs.Paths.{inside-near}
 use Rattle.letters.specs.declared.BlockCode.the-variants.{Moving}
 use Rattle.blocks.specs.declared.Said.{Said}
-use Rattle.blocks.specs.Motions.{centreWords, arcFor}
+use Rattle.blocks.specs.Motions.{centreWords, centreFor, arcTo, radiusFits}
 use Rattle.blocks.specs.Exec.{working}
 use Rattle.blocks.specs.Reach.{Steady}
 
@@ -125,22 +127,19 @@ module _ (by p : Point) where
         sum-bal (q .z .v) (by .z .v),
       )
 
-  axis-centre : (a w o : ℤ) → Within 1_000_000_000 w → Within 100_000_000 (a +ℤ o) → Within 1_100_000_000 (a +ℤ w +ℤ o)
-  axis-centre a w o h k = omega (arith, sum-bal a o, sum-bal a w, sum-bal (a +ℤ w) o)
-
-  -- a point of the machine displaced by centre words
-  module _ (words : Point) (h : Near 1_000_000_000 words) (k : Near 100_000_000 (moved by p)) where
-    centre-first : (plane : Plane) → Within 1_100_000_000 (flat plane (moved words p) .first .v +ℤ flat plane by .first .v)
+  -- a centre that is near its start, in machine units
+  module _ (c : Flat) (k : Near 100_000_000 (moved by p)) where
+    centre-first : (plane : Plane) → Reach 1_000_000_000 c (flat plane p) → Within 1_100_000_000 (c .first .v +ℤ flat plane by .first .v)
     unfolding moved flat
-    centre-first G17 = axis-centre (p .x .v) (words .x .v) (by .x .v) (h .x) (k .x)
-    centre-first G18 = axis-centre (p .z .v) (words .z .v) (by .z .v) (h .z) (k .z)
-    centre-first G19 = axis-centre (p .y .v) (words .y .v) (by .y .v) (h .y) (k .y)
+    centre-first G17 h = omega (arith, sum-bal (p .x .v) (by .x .v), sum-bal (c .first .v) (by .x .v))
+    centre-first G18 h = omega (arith, sum-bal (p .z .v) (by .z .v), sum-bal (c .first .v) (by .z .v))
+    centre-first G19 h = omega (arith, sum-bal (p .y .v) (by .y .v), sum-bal (c .first .v) (by .y .v))
 
-    centre-second : (plane : Plane) → Within 1_100_000_000 (flat plane (moved words p) .second .v +ℤ flat plane by .second .v)
+    centre-second : (plane : Plane) → Reach 1_000_000_000 c (flat plane p) → Within 1_100_000_000 (c .second .v +ℤ flat plane by .second .v)
     unfolding moved flat
-    centre-second G17 = axis-centre (p .y .v) (words .y .v) (by .y .v) (h .y) (k .y)
-    centre-second G18 = axis-centre (p .x .v) (words .x .v) (by .x .v) (h .x) (k .x)
-    centre-second G19 = axis-centre (p .z .v) (words .z .v) (by .z .v) (h .z) (k .z)
+    centre-second G17 h = omega (arith, sum-bal (p .y .v) (by .y .v), sum-bal (c .second .v) (by .y .v))
+    centre-second G18 h = omega (arith, sum-bal (p .x .v) (by .x .v), sum-bal (c .second .v) (by .x .v))
+    centre-second G19 h = omega (arith, sum-bal (p .z .v) (by .z .v), sum-bal (c .second .v) (by .z .v))
 
 -- both coordinates of a centre fit four signed bytes
 pub both-fit : (a b : ℤ) → Short a → Short b → (fitsFour a && fitsFour b) ≡ true
@@ -155,8 +154,8 @@ module _ (bed : Bed) (s : State) (b : Said) where
   abbrev w : State
   w = working s b
 
-  abbrev arc : Arc
-  arc = arcFor w origin (b .values)
+  abbrev end : Point
+  end = target (w .modes .distance) origin (w .at) (b .values)
 
   abbrev hole : Cycle → Hole
   hole cycle = holeOf cycle w origin (b .values)
@@ -185,8 +184,11 @@ module _ (bed : Bed) (s : State) (b : Said) where
         }
 
     -- where the words lead can be moved by the common offset, inside the travel or not
-    pub target-sums : (Near (2 ^ 61) (bed .offset)) × (Near (2 ^ 61) (target (w .modes .distance) origin (w .at) (b .values)))
-    target-sums = omega (arith, steady .fair .offset, target-near (w .modes .distance) origin (w .at) (b .values) aims)
+    end-near : Near 2_100_000_000 end
+    end-near = target-near (w .modes .distance) origin (w .at) (b .values) aims
+
+    pub target-sums : (Near (2 ^ 61) (bed .offset)) × (Near (2 ^ 61) end)
+    target-sums = omega (arith, steady .fair .offset, end-near)
 
     pub holes : Holes origin (w .at) (b .values)
     holes = record { aims = aims; r = steady .said .sizes .r }
@@ -222,44 +224,60 @@ module _ (bed : Bed) (s : State) (b : Said) where
             dwell = hole-dwell;
           }
 
-    -- the start can be moved by the centre words
+    from-machine : Near 100_000_000 (moved (bed .offset) (w .at))
+    from-machine = near-machine bed (steady .fair) (w .at) from-inside
+
     words-near : Near 1_000_000_000 (centreWords (b .values))
     unfolding centreWords
     words-near = record { x = steady .said .sizes .i; y = steady .said .sizes .j; z = steady .said .sizes .k }
 
-    pub centre-sums : (Near (2 ^ 61) (centreWords (b .values))) × (Near (2 ^ 61) (w .at))
-    centre-sums = omega (arith, words-near, aims .from)
+    -- ---- an arc to the end, whose centre lies on one side or the other
 
-    from-machine : Near 100_000_000 (moved (bed .offset) (w .at))
-    from-machine = near-machine bed (steady .fair) (w .at) from-inside
+    module _ (left : Bool) (fits : radiusFits w (b .values) end ≡ true) where
+      abbrev start : Flat
+      start = flat (w .modes .plane) (w .at)
 
-    pub bounds : Bounds (bed .travel) (w .at) arc
-    unfolding arcFor
-    bounds =
-        let t = bed .travel in
-        let by = bed .offset in
-        record {
-          centre = moved-reach (centreWords (b .values)) (w .at) words-near (w .modes .plane);
-          low = near-beside by (t .low) (w .at) (steady .fair .low) from-machine;
-          high = near-beside by (t .high) (w .at) (steady .fair .high) from-machine;
-        }
+      -- the centre is near the start, by its words and by the radius
+      pub centre-close : Reach 1_000_000_000 (centreFor left w (b .values) end) start
+      unfolding centreFor radiusFits
+      centre-close = go (b .values .r .stands) fits
+        where
+          r : ℤ
+          r = b .values .r .v .v
 
-    -- the centre in machine units
-    pub first-near : Within 1_100_000_000 (arcMoved (bed .offset) arc .first .v)
-    unfolding arcMoved arcFor
-    first-near = centre-first (bed .offset) (w .at) (centreWords (b .values)) words-near from-machine (w .modes .plane)
+          to : Flat
+          to = flat (w .modes .plane) end
 
-    pub second-near : Within 1_100_000_000 (arcMoved (bed .offset) arc .second .v)
-    unfolding arcMoved arcFor
-    second-near = centre-second (bed .offset) (w .at) (centreWords (b .values)) words-near from-machine (w .modes .plane)
+          chord : Chord r start to
+          chord =
+              record {
+                radius = steady .said .sizes .r;
+                start = flat-near (w .modes .plane) (w .at) (aims .from);
+                end = flat-near (w .modes .plane) end end-near;
+              }
 
-    -- refusal 16 never comes in a state that a run can reach
-    pub fits-always : centreFits (pathOf (recordMoved (bed .offset) (AR arc))) ≡ true
-    unfolding centreFits pathOf recordMoved
-    fits-always =
-        let m = arcMoved (bed .offset) arc in
-        both-fit (m .first .v) (m .second .v) (omega (arith, first-near)) (omega (arith, second-near))
+          go :
+              (t : Bool) → (not t || radiusHolds r start to) ≡ true
+              → Reach 1_000_000_000 (if t then centreBy left r start to else flat (w .modes .plane) (moved (centreWords (b .values)) (w .at))) start
+          go true f = centre-reach left r start to (record { chord = chord; holds = f })
+          go false f = moved-reach (centreWords (b .values)) (w .at) words-near (w .modes .plane)
 
-    pub left-fits-always : centreFits (pathOf (recordMoved (bed .offset) (AL arc))) ≡ true
-    unfolding centreFits pathOf recordMoved
-    left-fits-always = fits-always
+      pub bounds : Bounds (bed .travel) (w .at) (arcTo left w (b .values) end)
+      unfolding arcTo
+      bounds =
+          let t = bed .travel in
+          let by = bed .offset in
+          record {
+            centre = centre-close;
+            low = near-beside by (t .low) (w .at) (steady .fair .low) from-machine;
+            high = near-beside by (t .high) (w .at) (steady .fair .high) from-machine;
+          }
+
+      -- the centre in machine units
+      pub first-near : Within 1_100_000_000 (arcMoved (bed .offset) (arcTo left w (b .values) end) .first .v)
+      unfolding arcMoved arcTo
+      first-near = centre-first (bed .offset) (w .at) (centreFor left w (b .values) end) from-machine (w .modes .plane) centre-close
+
+      pub second-near : Within 1_100_000_000 (arcMoved (bed .offset) (arcTo left w (b .values) end) .second .v)
+      unfolding arcMoved arcTo
+      second-near = centre-second (bed .offset) (w .at) (centreFor left w (b .values) end) from-machine (w .modes .plane) centre-close

@@ -12,11 +12,12 @@ use Rattle.records.proofs.Opened.{opened as records-opened}
 use Rattle.settings.proofs.Opened.{opened as settings-opened}
 use Rattle.letters.proofs.Opened.{opened as letters-opened}
 use Rattle.arcs.proofs.Opened.{opened as arcs-opened}
+use Rattle.centres.proofs.Opened.{opened as centres-opened}
 use Rattle.cycles.proofs.Opened.{opened as cycles-opened}
 use Rattle.blocks.specs.Exec.{saidBy, working, spindleRecords, movesIn, lastRecords, madeBy, settled, controlOf, atWord, lacksCentre, lacksParameter, isG17, drills, cannotDrill, callsIn, callTo, unknownCall, tooDeep, atStart, blames, unless, judged, execWords, exec}
 use Rattle.blocks.specs.Machine.{machineOf}
 use Rattle.blocks.specs.Doing.{madeOf, executed}
-use Rattle.blocks.specs.Motions.{centreWords, arcFor, arcMoves, cycleDone, cycleMoves, motionOf, movesOf}
+use Rattle.blocks.specs.Motions.{centreWords, centreFor, arcTo, radiusFits, arcMoves, cycleDone, cycleMoves, motionOf, movesOf}
 
 unfoldable pub opened : Unit {0}
 unfolding
@@ -33,6 +34,7 @@ unfolding
     settings-opened
     letters-opened
     arcs-opened
+    centres-opened
     cycles-opened
     saidBy
     working
@@ -62,7 +64,9 @@ unfolding
     madeOf
     executed
     centreWords
-    arcFor
+    centreFor
+    arcTo
+    radiusFits
     arcMoves
     cycleDone
     cycleMoves

@@ -7,7 +7,7 @@ use native.Mathlib.Omega.{arith}
 use Rattle.terms.specs.Terms.{all}
 use Rattle.terms.proofs.Laws.{both-left, both-right}
 use Rattle.lengths.specs.declared.Len.{Len}
-use Rattle.lengths.specs.View.{Within, Short}
+use Rattle.lengths.specs.View.{Short}
 use Rattle.points.specs.declared.Point.{Point}
 use Rattle.points.specs.declared.Flat.{Flat}
 use Rattle.points.specs.declared.Travel.{Travel}
@@ -23,10 +23,11 @@ use Rattle.setup.specs.declared.Bed.{Bed}
 use Rattle.setup.specs.Frame.{originAt}
 use Rattle.setup.specs.Fair.{Fair}
 use Rattle.settings.specs.declared.State.{State}
+use Rattle.settings.specs.Target.{target}
 use Rattle.arcs.specs.Arcs.{centreOf, radius², extremesInside, leftWay, rightWay, arcStays, pathStays, centreFits}
 use Rattle.blocks.specs.Machine.{machineOf}
 use Rattle.blocks.specs.declared.Said.{Said}
-use Rattle.blocks.specs.Motions.{arcFor}
+use Rattle.blocks.specs.Motions.{arcTo, radiusFits}
 use Rattle.blocks.specs.Exec.{working}
 use Rattle.blocks.specs.Reach.{Steady}
 use Rattle.blocks.proofs.Nearness.{near-machine, both-fit, feed-near, first-near, second-near}
@@ -146,44 +147,19 @@ module _ (bed : Bed) where
         let rest = pathStaysIn (machineOf bed .stays) next rs in
         (record-short from r (both-left now rest e) (h .0), records-short next rs (both-right now rest e) (h .1))
 
-    -- ---- each record that a block makes
-
-    pub rapid-short : (p : Point) → inside (bed .travel) p ≡ true → AllShort (numbersOf (recordMoved (bed .offset) (RP p)))
-    unfolding numbersOf recordMoved
-    rapid-short p e = inside-short p [] e tt
-
-    pub cut-short :
-        (p : Point) (feed : Len) → inside (bed .travel) p ≡ true → Within 1_000_000_000 (feed .v)
-        → AllShort (numbersOf (recordMoved (bed .offset) (LN p feed)))
-    unfolding numbersOf recordMoved
-    cut-short p feed e h = inside-short p (feed ∷ []) e (omega arith, tt)
-
-pub dwell-short : (by : Point) (ms : Len) → Within 3_600_000 (ms .v) → AllShort (numbersOf (recordMoved by (DW ms)))
-unfolding numbersOf recordMoved
-dwell-short by ms h = (omega arith, tt)
-
-pub speed-short : (by : Point) (speed : Len) → Within 99_999 (speed .v) → AllShort (numbersOf (recordMoved by (SP speed)))
-unfolding numbersOf recordMoved
-speed-short by speed h = (omega arith, tt)
-
 module _ (bed : Bed) (s : State) (b : Said) where
-  abbrev arc : Arc
-  arc = arcFor (working s b) (originAt bed (b .modes .origin)) (b .values)
+  abbrev w : State
+  w = working s b
+
+  abbrev end : Point
+  end = target (w .modes .distance) (originAt bed (b .modes .origin)) (w .at) (b .values)
 
   module _ (steady : Steady bed s b) where
-    pub arc-others : ArcShort (bed .offset) arc
-    unfolding arcFor
-    arc-others =
+    pub arc-others : (left : Bool) → radiusFits w (b .values) end ≡ true → ArcShort (bed .offset) (arcTo left w (b .values) end)
+    unfolding arcTo
+    arc-others left fits =
         record {
-          first = omega (arith, first-near bed s b steady);
-          second = omega (arith, second-near bed s b steady);
+          first = omega (arith, first-near bed s b steady left fits);
+          second = omega (arith, second-near bed s b steady left fits);
           feed = omega (arith, feed-near bed s b steady);
         }
-
-    pub arc-short : inside (bed .travel) (arc .end) ≡ true → AllShort (numbersOf (recordMoved (bed .offset) (AR arc)))
-    unfolding numbersOf recordMoved
-    arc-short e = arc-numbers bed (steady .fair) arc e arc-others
-
-    pub left-arc-short : inside (bed .travel) (arc .end) ≡ true → AllShort (numbersOf (recordMoved (bed .offset) (AL arc)))
-    unfolding numbersOf recordMoved
-    left-arc-short e = arc-numbers bed (steady .fair) arc e arc-others

@@ -50,15 +50,15 @@ centreWords v = record { x = v .i .v; y = v .j .v; z = v .k .v }
 
 -- The centre in the plane's axes: by its words, or, where R stands, by the radius to the end of the arc. `left` tells that a centre
 -- by radius lies to the left of the way from the start to the end.
-unfoldable pub centreFor : Bool → State → Point → Values → Flat
-centreFor left s end v =
+unfoldable pub centreFor : Bool → State → Values → Point → Flat
+centreFor left s v end =
     let plane = s .modes .plane in
     if v .r .stands then centreBy left (v .r .v .v) (flat plane (s .at)) (flat plane end)
     else flat plane (moved (centreWords v) (s .at))
 
 unfoldable pub arcTo : Bool → State → Values → Point → Arc
 arcTo left s v end =
-    let centre = centreFor left s end v in
+    let centre = centreFor left s v end in
     record { plane = s .modes .plane; end = end; first = centre .first; second = centre .second; feed = s .feed }
 
 -- a circle of the radius goes through start and end, where R stands

@@ -90,7 +90,7 @@ fn radius_fits(s: State, v: Values, end: Point) -> bool
 // The centre of an arc: by the radius where R stands, else by the centre's words from the start.
 fn centre_for(left: bool, s: State, v: Values, end: Point) -> Flat
     requires { ⌜ Fitting s v end ⌝ }
-    ensures { λ r. ⌜ r ≡ centreFor left s end v ⌝ }
+    ensures { λ r. ⌜ r ≡ centreFor left s v end ⌝ }
 {
     let modes = s.modes;
     let plane = modes.plane;
