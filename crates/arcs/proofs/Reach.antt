@@ -32,7 +32,7 @@ distance-near {n} a b h =
     omega (arith, sq-near (b .first .v -ℤ a .first .v) f, sq-near (b .second .v -ℤ a .second .v) s)
 
 -- and two points whose squared distance is at most n * n
-near-distance : {n : ℕ} (a b : Flat) → distance² a b ≤ n * n → Reach n a b
+pub near-distance : {n : ℕ} (a b : Flat) → distance² a b ≤ n * n → Reach n a b
 unfolding distance²
 near-distance {n} a b h =
     let f : Within n (b .first .v -ℤ a .first .v) = near-sq (b .first .v -ℤ a .first .v) (omega arith) in
