@@ -1,3 +1,4 @@
 pub mod Computing
 pub mod Opened
 pub mod Rounding
+pub mod Reaching
