@@ -9,7 +9,7 @@ use native.Mathlib.Decide.{decLe}
 use lib.IntN.{ℤ, pos, negsuc, negℤ, _+ℤ_, _-ℤ_, _*ℤ_, natAbs}
 use lib.Signed.{leZ}
 use Rattle.lengths.specs.Units.{len, sq}
-use Rattle.lengths.specs.View.{Within}
+use Rattle.lengths.specs.View.{over, under, Within}
 use Rattle.lengths.proofs.Laws.{view, sum-bal, diff-bal, neg-over, neg-under, abs-sum, near-abs, near-sq}
 use Rattle.points.specs.declared.Flat.{Flat}
 use Rattle.arcs.specs.Turning.{direction}
@@ -47,51 +47,66 @@ above-across (negsuc a) q n d h k = absurd (omega (arith, view, h))
 above-across (pos a) (pos b) n d h k = omega (arith, view, square-bal (pos a) d, square-bal (pos b) n)
 above-across (pos a) (negsuc b) n d h k = omega (arith, view, square-bal (pos a) d, square-bal (negsuc b) n)
 
--- One coordinate of the centre of an arc from s to e with the radius m. Twice the centre's distance from the start lies between
--- −2 m and 2 m, so twice its distance from the chord's middle lies between −x − 2 m and 2 m − x.
-module _
-    (m : ℕ) (s e q : ℤ) (n d : ℕ)
-    (some : 0 < d) (whole : sq q + sq (e -ℤ s) ≡ d) (spare : n + d ≡ 4 * (m * m))
-  where
-    span : Within (2 * m) (e -ℤ s)
-    span = near-sq (e -ℤ s) (omega arith)
+-- One coordinate of the centre of an arc from s to e with the radius m; x is the chord's. Twice the centre's distance from the start
+-- lies between −2 m and 2 m, so twice its distance from the chord's middle lies between −x − 2 m and 2 m − x.
+module _ (m : ℕ) (s e q : ℤ) (n d : ℕ) (some : 0 < d) (whole : sq q + sq (e -ℤ s) ≡ d) (all : n + d ≡ 4 * (m * m)) where
+  x : ℤ
+  x = e -ℤ s
 
-    coordinate-reach : {c : ℤ} → RoundedDown (s +ℤ e) q n d c → Close m (len c) (len s)
-    coordinate-reach {c} f =
-        let w = span in
-        let x = e -ℤ s in
-        let low = negℤ x -ℤ pos (2 * m) in
-        let high = pos (2 * m) -ℤ x in
-        let lowBal = diff-bal (negℤ x) (pos (2 * m)) in
-        let highBal = diff-bal (pos (2 * m)) x in
-        let g : sq q * n ≤ sq low * d =
-        rw (sym whole) (axis-most m (natAbs low) (natAbs x) (sq q) n (omega arith)
-        (omega (arith, abs-sum low, abs-sum x, lowBal, neg-over x, neg-under x))) in
-        let h : sq q * n ≤ sq high * d =
-        rw (sym whole) (axis-most m (natAbs high) (natAbs x) (sq q) n (omega arith)
-        (omega (arith, abs-sum high, abs-sum x, highBal))) in
-        let a = below-across low q n d (omega (arith, view, w, lowBal, neg-over x, neg-under x)) g in
-        let b = above-across high q n d (omega (arith, view, w, highBal)) h in
-        let i = less-square low (c +ℤ c +ℤ pos 2 -ℤ (s +ℤ e)) d (omega (arith, view, a, f .largest)) in
-        let j = most-square (c +ℤ c -ℤ (s +ℤ e)) high d some (omega (arith, view, b, f .notAbove)) in
-        record {
-          hi = omega (arith, view, j, highBal, diff-bal e s, sum-bal c c, sum-bal s e, diff-bal (c +ℤ c) (s +ℤ e));
-          lo = omega (arith, view, i, lowBal, neg-over x, neg-under x, diff-bal e s, sum-bal c c, sum-bal s e, sum-bal (c +ℤ c) (pos 2), diff-bal (c +ℤ c +ℤ pos 2) (s +ℤ e));
-        }
+  span : Within (2 * m) x
+  unfolding x
+  span = near-sq x (omega arith)
+
+  side : (t : ℤ) → 2 * m ≤ natAbs t + natAbs x → sq q * n ≤ sq t * d
+  unfolding x
+  side t h = rw (sym whole) (axis-most m (natAbs t) (natAbs x) (sq q) n (omega arith) h)
+
+  module _ {c : ℤ} (f : RoundedDown (s +ℤ e) q n d c) where
+    coordinate-low : over s + under c ≤ over c + under s + m
+    unfolding x
+    coordinate-low =
+        let t = negℤ x -ℤ pos (2 * m) in
+        let next = c +ℤ c +ℤ pos 2 -ℤ (s +ℤ e) in
+        let b : over t + over x + 2 * m ≡ under t + under x = omega (arith, diff-bal (negℤ x) (pos (2 * m)), neg-over x, neg-under x) in
+        let h = side t (omega (arith, abs-sum t, abs-sum x)) in
+        let k = below-across t q n d (omega (arith, view, span)) h in
+        let l = less-square t next d (omega (arith, view, k, f .largest)) in
+        omega (
+          arith,
+          view,
+          l,
+          diff-bal e s,
+          sum-bal s e,
+          sum-bal c c,
+          sum-bal (c +ℤ c) (pos 2),
+          diff-bal (c +ℤ c +ℤ pos 2) (s +ℤ e),
+        )
+
+    coordinate-high : over c + under s ≤ over s + under c + m
+    unfolding x
+    coordinate-high =
+        let t = pos (2 * m) -ℤ x in
+        let b : over t + over x ≡ under t + under x + 2 * m = omega (arith, diff-bal (pos (2 * m)) x) in
+        let h = side t (omega (arith, abs-sum t, abs-sum x)) in
+        let k = above-across t q n d (omega (arith, view, span)) h in
+        let l = most-square (c +ℤ c -ℤ (s +ℤ e)) t d some (omega (arith, view, k, f .notAbove)) in
+        omega (arith, view, l, diff-bal e s, sum-bal s e, sum-bal c c, diff-bal (c +ℤ c) (s +ℤ e))
+
+    coordinate-reach : m ≤ 1_000_000_000 → Close 1_000_000_000 (len c) (len s)
+    coordinate-reach h = omega (arith, coordinate-low, coordinate-high)
 
 pub centre-reach : (left : Bool) (r : ℤ) (s e : Flat) → Spanned r s e → Reach 1_000_000_000 (centreBy left r s e) s
 unfolding spare
 centre-reach left r s e h =
-    let c = centreBy left r s e in
-    let d = distance² s e in
-    let g = held r s e (h .holds) in
-    let k = centre-is left r s e (h .chord .radius) (h .holds) in
     let q = across left (direction s e) in
+    let d = distance² s e in
     let m = natAbs r in
     let n = 4 * sq r - d in
-    let near : m ≤ 1_000_000_000 = near-abs r (h .chord .radius) in
-    let a : Close m (c .first) (s .first) =
-    coordinate-reach m (s .first .v) (e .first .v) (q .first .v) n d (g .some) (across-first left s e) (omega arith) (k .first) in
-    let b : Close m (c .second) (s .second) =
-    coordinate-reach m (s .second .v) (e .second .v) (q .second .v) n d (g .some) (across-second left s e) (omega arith) (k .second) in
-    omega (arith, near, a, b)
+    let g = held r s e (h .holds) in
+    let all : n + d ≡ 4 * (m * m) = omega arith in
+    let c = centre-is left r s e (h .chord .radius) (h .holds) in
+    let k = near-abs r (h .chord .radius) in
+    record {
+      first = coordinate-reach m (s .first .v) (e .first .v) (q .first .v) n d (g .some) (across-first left s e) all (c .first) k;
+      second = coordinate-reach m (s .second .v) (e .second .v) (q .second .v) n d (g .some) (across-second left s e) all (c .second) k;
+    }
