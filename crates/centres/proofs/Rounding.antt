@@ -23,7 +23,8 @@ use Rattle.centres.specs.Centres.{radiusHolds, across, spare, signedSqua
 -- ---- signed squares, multiplied by a natural
 
 -- the signed square is over² − under², one of the two being 0
-pub square-bal : (z : ℤ) (d : ℕ) → over (signedSquare z *ℤ pos d) + under z * under z * d ≡ under (signedSquare z *ℤ pos d) + over z * over z * d
+pub square-bal :
+    (z : ℤ) (d : ℕ) → over (signedSquare z *ℤ pos d) + under z * under z * d ≡ under (signedSquare z *ℤ pos d) + over z * over z * d
 unfolding signedSquare
 square-bal (pos n) d = omega arith
 square-bal (negsuc n) d =
@@ -34,6 +35,9 @@ square-bal (negsuc n) d =
 negated-bal : (m d : ℕ) → over (signedSquare (negℤ (pos m)) *ℤ pos d) + m * m * d ≡ under (signedSquare (negℤ (pos m)) *ℤ pos d)
 negated-bal zero d = omega (arith, square-bal (pos zero) d)
 negated-bal (suc m) d = omega (arith, square-bal (negsuc m) d)
+
+one-above : (m : ℕ) → negsuc m +ℤ pos 1 ≡ negℤ (pos m)
+one-above m = omega (arith, view, sum-bal (negsuc m) (pos 1), neg-over (pos m), neg-under (pos m))
 
 -- the larger of two numbers has the larger signed square
 pub square-most : (a b : ℤ) (d : ℕ) → leZ a b ≡ true → leZ (signedSquare a *ℤ pos d) (signedSquare b *ℤ pos d) ≡ true
@@ -113,11 +117,10 @@ module _ (n d m : ℕ) (k : 0 < d) where
   -- and else one below it
   floor-down : (a : ℕ) → Scaled (suc a * suc a * n) d m → (m * m * d ≡ suc a * suc a * n → ⊥) → Floor (negsuc a) n d (negsuc m)
   floor-down a h f =
-      let e : negsuc m +ℤ pos 1 ≡ negℤ (pos m) =
-      omega (arith, view, sum-bal (negsuc m) (pos 1), neg-over (pos m), neg-under (pos m)) in
-      let g : ltZ (signedSquare (negsuc a) *ℤ pos n) (signedSquare (negℤ (pos m)) *ℤ pos d) ≡ true =
-      omega (arith, view, negated-bal m d, square-bal (negsuc a) n, h .notAbove, f) in
-      record { notAbove = omega (arith, view, square-bal (negsuc m) d, square-bal (negsuc a) n, h .largest); largest = rw e g }
+      record {
+        notAbove = omega (arith, view, square-bal (negsuc m) d, square-bal (negsuc a) n, h .largest);
+        largest = rw (one-above m) (omega (arith, view, negated-bal m d, square-bal (negsuc a) n, h .notAbove, f));
+      }
 
 module _ (n d : ℕ) (k : 0 < d) (small : n < 2 ^ 64) where
   scaled-is : (q : ℤ) → sq q ≤ d → Floor q n d (scaledRoot q n d)
@@ -143,22 +146,30 @@ module _ (n d : ℕ) (k : 0 < d) (small : n < 2 ^ 64) where
 
 -- ---- a coordinate
 
+-- twice the half of p + z is p + z or one less
+half-low : (p z : ℤ) → let c = halved (p +ℤ z) in leZ (c +ℤ c -ℤ p) z ≡ true
+half-low p z =
+    let c = halved (p +ℤ z) in
+    omega (arith, view, sum-bal c c, diff-bal (c +ℤ c) p, sum-bal p z, halved-over (p +ℤ z))
+
+half-high : (p z : ℤ) → let c = halved (p +ℤ z) in leZ (z +ℤ pos 1) (c +ℤ c +ℤ pos 2 -ℤ p) ≡ true
+half-high p z =
+    let c = halved (p +ℤ z) in
+    let b = diff-bal (c +ℤ c +ℤ pos 2) p in
+    omega (arith, view, sum-bal c c, sum-bal (c +ℤ c) (pos 2), sum-bal p z, sum-bal z (pos 1), halved-under (p +ℤ z))
+
 pub coordinate-is : (p q : ℤ) (n d : ℕ) → 0 < d → sq q ≤ d → n < 2 ^ 64 → RoundedDown p q n d (coordinate p q n d)
 unfolding coordinate
 coordinate-is p q n d k h small =
     let z = scaledRoot q n d in
     let c = halved (p +ℤ z) in
     let f = scaled-is n d k small q h in
-    let low : leZ (c +ℤ c -ℤ p) z ≡ true =
-    omega (arith, view, sum-bal c c, diff-bal (c +ℤ c) p, sum-bal p z, halved-over (p +ℤ z)) in
-    let high : leZ (z +ℤ pos 1) (c +ℤ c +ℤ pos 2 -ℤ p) ≡ true =
-    omega (arith, view, sum-bal c c, sum-bal (c +ℤ c) (pos 2), diff-bal (c +ℤ c +ℤ pos 2) p, sum-bal p z, sum-bal z (pos 1), halved-under (p +ℤ z)) in
     record {
-      notAbove = omega (arith, view, square-most (c +ℤ c -ℤ p) z d low, f .notAbove);
-      largest = omega (arith, view, square-most (z +ℤ pos 1) (c +ℤ c +ℤ pos 2 -ℤ p) d high, f .largest);
+      notAbove = omega (arith, view, square-most (c +ℤ c -ℤ p) z d (half-low p z), f .notAbove);
+      largest = omega (arith, view, square-most (z +ℤ pos 1) (c +ℤ c +ℤ pos 2 -ℤ p) d (half-high p z), f .largest);
     }
 
--- a number rounded down is not below another
+-- of two numbers that are one number rounded down, neither is below the other
 not-below : {p q : ℤ} {n d : ℕ} {a b : ℤ} → RoundedDown p q n d a → RoundedDown p q n d b → leZ b a ≡ true
 not-below {p} {q} {n} {d} {a} {b} f g =
     let e = less-square (b +ℤ b -ℤ p) (a +ℤ a +ℤ pos 2 -ℤ p) d (omega (arith, view, g .notAbove, f .largest)) in
