@@ -7,12 +7,8 @@ use Rattle.lengths.specs.declared.Len.{Len}
 use Rattle.lengths.specs.Units.{sq}
 use Rattle.lengths.specs.View.{Within}
 use Rattle.points.specs.declared.Flat.{Flat}
+use Rattle.points.specs.Near.{FlatNear}
 use Rattle.centres.specs.Centres.{radiusHolds}
-
--- both coordinates are at most n away from 0
-pub record FlatNear (n : ℕ) (p : Flat) : Type 0 where
-  pub first : Within n (p .first .v)
-  pub second : Within n (p .second .v)
 
 -- What a run keeps: an R word is within 1,000,000,000, the tool within 1,100,000,000 in the frame of the common offset, and where
 -- its words lead within 2,100,000,000, inside the travel or not.

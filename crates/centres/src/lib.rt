@@ -7,7 +7,8 @@ ghost use lib.IntN.{_+ℤ_};
 ghost use Rattle.lengths.specs.Units.{len, sq};
 ghost use Rattle.arcs.specs.Arcs.{distance²};
 ghost use Rattle.centres.specs.Centres.{radiusHolds, across, spare, scaledRoot, coordinate, centreBy};
-ghost use Rattle.centres.specs.Bounds.{FlatNear, Chord, Spanned, Divisible, Coordinates};
+ghost use Rattle.points.specs.Near.{FlatNear};
+ghost use Rattle.centres.specs.Bounds.{Chord, Spanned, Divisible, Coordinates};
 
 // Whether a circle of the radius goes through start and end. An end may lie 3,200,000,000 units away, and the square of that
 // does not fit: where it is further than twice the radius on one axis, it is further than that; else each axis is at most

@@ -3,12 +3,10 @@ use Prim.Native.Nat.{ℕ, _+_}
 use native.Mathlib.Omega.{arith}
 use Rattle.lengths.proofs.Laws.{sum-bal, diff-bal}
 use Rattle.points.specs.declared.Point.{Point}
-use Rattle.lengths.specs.View.{Within}
 use Rattle.points.specs.Points.{moved, movedBack, flat}
-use Rattle.points.specs.Near.{Near}
+use Rattle.points.specs.Near.{Near, FlatNear}
 use Rattle.codes.specs.declared.Plane.{Plane}
 use Rattle.codes.specs.declared.Plane.the-variants.{G17, G18, G19}
-use Rattle.points.specs.declared.Flat.{Flat}
 
 pub moved-near : {m n : ℕ} (by p : Point) → Near m by → Near n p → Near (m + n) (moved by p)
 unfolding moved
@@ -21,11 +19,7 @@ moved-back-near by p h k =
     omega (arith, diff-bal (p .x .v) (by .x .v), diff-bal (p .y .v) (by .y .v), diff-bal (p .z .v) (by .z .v))
 
 -- a point of a plane is as near as the point in space
-pub record Flatly (n : ℕ) (f : Flat) : Type 0 where
-  pub first : Within n (f .first .v)
-  pub second : Within n (f .second .v)
-
-pub flat-near : {n : ℕ} (plane : Plane) (p : Point) → Near n p → Flatly n (flat plane p)
+pub flat-near : {n : ℕ} (plane : Plane) (p : Point) → Near n p → FlatNear n (flat plane p)
 unfolding flat
 flat-near G17 p h = record { first = h .x; second = h .y }
 flat-near G18 p h = record { first = h .z; second = h .x }

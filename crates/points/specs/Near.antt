@@ -5,6 +5,7 @@ use mathlib.Core.Path.{_≡_}
 use Rattle.lengths.specs.View.{Within}
 use Rattle.lengths.specs.Serving.{Sum, Difference}
 use Rattle.points.specs.declared.Point.{Point}
+use Rattle.points.specs.declared.Flat.{Flat}
 use Rattle.points.specs.Points.{moved, movedBack}
 
 -- each coordinate is at most n away from 0
@@ -12,6 +13,11 @@ pub record Near (n : ℕ) (p : Point) : Type 0 where
   pub x : Within n (p .x .v)
   pub y : Within n (p .y .v)
   pub z : Within n (p .z .v)
+
+-- and each of the two in a plane
+pub record FlatNear (n : ℕ) (f : Flat) : Type 0 where
+  pub first : Within n (f .first .v)
+  pub second : Within n (f .second .v)
 
 pub record Moved (by p r : Point) : Type 0 where
   pub is : r ≡ moved by p

@@ -2,12 +2,13 @@
 use native.Mathlib.Omega.{arith}
 use borrow.Author.Needs.{needs}
 use Prim.Native.Nat.{_^_}
-use Rattle.points.proofs.Near.{Flatly, flat-near}
+use Rattle.points.specs.Near.{FlatNear}
+use Rattle.points.proofs.Near.{flat-near}
 use Rattle.records.specs.Path.{arcMoved}
 use Rattle.records.proofs.displacing.displaced_arc.Statement.{statement}
 use Rattle.records.proofs.displacing.displaced_arc.Tie as tie
 
-step-near : (c : tie.After-in-plane) → Flatly (2 ^ 61) (c .in-plane .result)
+step-near : (c : tie.After-in-plane) → FlatNear (2 ^ 61) (c .in-plane .result)
 step-near c =
     let s = c .before .before .before in
     rw (c .in-plane .ensures) (flat-near (s .args .a .plane) (s .args .by) (s .pre .0))
