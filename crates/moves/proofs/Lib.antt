@@ -1,3 +1,4 @@
+pub mod Centring
 pub mod Opened
 pub mod Planning
 pub mod Ways

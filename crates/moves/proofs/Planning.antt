@@ -1,9 +1,10 @@
 -- A plan stands for the motion that the rules give. Assumes nothing.
 use mathlib.Core.Path.{_≡_, refl, sym, _∙_}
-use mathlib.Core.Bool.{Bool, true, false, _||_}
+use mathlib.Core.Bool.{Bool, true, false, not, _||_}
 use mathlib.Core.List.{List, [], _∷_}
 use denote.Enum.Declared.{tagOf}
 use types.Run.{OneOf, miss}
+use borrow.Author.Tests.{not-true, not-false}
 use Rattle.codes.specs.declared.Cycle.{Cycle}
 use Rattle.codes.specs.declared.Distance.{Distance}
 use Rattle.codes.specs.declared.Motion.the-variants.{Off, G00, G01, G02, G03, Drilling}
@@ -19,11 +20,11 @@ use Rattle.letters.specs.declared.BlockCode.{BlockCode}
 use Rattle.letters.specs.declared.BlockCode.the-variants.{Calling, Returning, Dwelling, Moving}
 use Rattle.cycles.specs.declared.Hole.{Hole}
 use Rattle.cycles.specs.Cycles.{holeOf, levelsHold, passes}
-use Rattle.blocks.specs.Motions.{Moves, noMoves, one, endStands, centreGiven, arcStands, arcFor, arcMoves, cycleDone, cycleMoves, motionOf, movesOf}
+use Rattle.blocks.specs.Motions.{Moves, noMoves, one, impossible, endStands, centreGiven, arcStands, arcTo, radiusFits, arcMoves, isLarger, cycleDone, cycleMoves, motionOf, movesOf}
 use Rattle.moves.specs.declared.Plan.{Plan}
-use Rattle.moves.specs.declared.Plan.the-variants.{Rest, Single, Passes}
+use Rattle.moves.specs.declared.Plan.the-variants.{Rest, Single, Passes, Impossible}
 use Rattle.moves.proofs.Plan.{the-type}
-use Rattle.moves.specs.Plans.{planRecords, briefRecords, pathHolds, planHolds, HoleFrom, RecordFrom, Plans}
+use Rattle.moves.specs.Plans.{planRecords, briefRecords, pathHolds, planHolds, HoleFrom, ArcFrom, RecordFrom, Plans}
 
 -- the records of a plan by its kind
 module _ {p : Plan} (d : Distance) (origin from : Point) (v : Values) where
@@ -39,20 +40,29 @@ module _ {p : Plan} (d : Distance) (origin from : Point) (v : Values) where
   unfolding planRecords
   records-passes e = rw e
 
+  pub records-impossible : p ≡ Impossible → planRecords p d origin from v ≡ []
+  unfolding planRecords
+  records-impossible e = rw e
+
 pub brief-single : {p : Plan} {r : Record} → p ≡ Single r → briefRecords p ≡ r ∷ []
 unfolding briefRecords
 brief-single e = rw e
 
-pub brief-none : (p : Plan) → OneOf (0 ∷ 2 ∷ []) (tagOf the-type p) → briefRecords p ≡ []
+pub brief-none : (p : Plan) → OneOf (0 ∷ 2 ∷ 3 ∷ []) (tagOf the-type p) → briefRecords p ≡ []
 unfolding briefRecords
 brief-none Rest h = refl
-brief-none (Single r) h = absurd (miss (0 ∷ 2 ∷ []) 1 tt h)
+brief-none (Single r) h = absurd (miss (0 ∷ 2 ∷ 3 ∷ []) 1 tt h)
 brief-none (Passes h) g = refl
+brief-none Impossible h = refl
 
 module _ {code : BlockCode} {s : State} {origin : Point} {v : Values} {moves : Moves} where
   plans-rest : moves ≡ noMoves → Plans code moves s origin v Rest
   unfolding planRecords planHolds
   plans-rest e = record { records = rw e; sound = rw e; from = tt }
+
+  plans-impossible : moves ≡ impossible → Plans code moves s origin v Impossible
+  unfolding planRecords planHolds
+  plans-impossible e = record { records = rw e; sound = rw e; from = tt }
 
   plans-single :
       (r : Record) → moves ≡ record { records = r ∷ []; sound = pathHolds (s .at) (pathOf r) } → RecordFrom s origin v r
@@ -90,29 +100,53 @@ module _ (s : State) (origin : Point) (v : Values) where
     unfolding motionOf
     cut-rests e = plans-rest (let off : endStands v ≡ false = sym is ∙ e in rw off)
 
+    -- an arc, by its two tests: a word of the end, of the centre or the radius stands, and the radius fits
     module _ {u : Bool} (and : u ≡ centreGiven v) where
       stands : {w : Bool} → (t || u) ≡ w → arcStands v ≡ w
       stands e = let both : (t || u) ≡ arcStands v = rw (is, and) in sym both ∙ e
 
-      pub clockwise-moves :
-          {a : Arc} → (t || u) ≡ true → a ≡ arcFor s origin v
-          → Plans (Moving G02) (motionOf G02 named s origin v) s origin v (Single (AR a))
-      unfolding motionOf arcMoves pathOf pathHolds
-      clockwise-moves e f = plans-single (AR _) (rw (stands e, f)) f
-
-      pub clockwise-rests : (t || u) ≡ false → Plans (Moving G02) (motionOf G02 named s origin v) s origin v Rest
+      pub clockwise-rests : not (t || u) ≡ true → Plans (Moving G02) (motionOf G02 named s origin v) s origin v Rest
       unfolding motionOf
-      clockwise-rests e = plans-rest (rw (stands e))
+      clockwise-rests e = plans-rest (rw (stands (not-true (t || u) e)))
 
-      pub counter-moves :
-          {a : Arc} → (t || u) ≡ true → a ≡ arcFor s origin v
-          → Plans (Moving G03) (motionOf G03 named s origin v) s origin v (Single (AL a))
-      unfolding motionOf arcMoves pathOf pathHolds
-      counter-moves e f = plans-single (AL _) (rw (stands e, f)) f
-
-      pub counter-rests : (t || u) ≡ false → Plans (Moving G03) (motionOf G03 named s origin v) s origin v Rest
+      pub counter-rests : not (t || u) ≡ true → Plans (Moving G03) (motionOf G03 named s origin v) s origin v Rest
       unfolding motionOf
-      counter-rests e = plans-rest (rw (stands e))
+      counter-rests e = plans-rest (rw (stands (not-true (t || u) e)))
+
+      module _
+          (some : not (t || u) ≡ false) {end : Point} (to : end ≡ target (s .modes .distance) origin (s .at) v)
+          {f : Bool} (fit : f ≡ radiusFits s v end)
+        where
+          on : arcStands v ≡ true
+          on = stands (not-false (t || u) some)
+
+          fits : {w : Bool} → f ≡ w → radiusFits s v (target (s .modes .distance) origin (s .at) v) ≡ w
+          fits e = let same : f ≡ radiusFits s v (target (s .modes .distance) origin (s .at) v) = rw to at fit in sym same ∙ e
+
+          pub clockwise-impossible : not f ≡ true → Plans (Moving G02) (motionOf G02 named s origin v) s origin v Impossible
+          unfolding motionOf arcMoves
+          clockwise-impossible e = plans-impossible (rw (on, fits (not-true f e)))
+
+          pub counter-impossible : not f ≡ true → Plans (Moving G03) (motionOf G03 named s origin v) s origin v Impossible
+          unfolding motionOf arcMoves
+          counter-impossible e = plans-impossible (rw (on, fits (not-true f e)))
+
+          module _ (e : not f ≡ false) {a : Arc} (left : Bool) (arc : a ≡ arcTo left s v end) where
+            arc-is : a ≡ arcTo left s v (target (s .modes .distance) origin (s .at) v)
+            arc-is = rw to at arc
+
+            from : ArcFrom s origin v a
+            from = record { left = left; fits = fits (not-false f e); is = arc-is }
+
+            pub clockwise-moves :
+                left ≡ isLarger v → Plans (Moving G02) (motionOf G02 named s origin v) s origin v (Single (AR a))
+            unfolding motionOf arcMoves pathOf pathHolds
+            clockwise-moves side = plans-single (AR _) (rw (on, fits (not-false f e), ← side, arc-is)) from
+
+            pub counter-moves :
+                left ≡ not (isLarger v) → Plans (Moving G03) (motionOf G03 named s origin v) s origin v (Single (AL a))
+            unfolding motionOf arcMoves pathOf pathHolds
+            counter-moves side = plans-single (AL _) (rw (on, fits (not-false f e), ← side, arc-is)) from
 
   module _ (cycle : Cycle) (named : Bool) {t : Bool} (is : t ≡ cycleDone named v) where
     pub cycle-moves :

@@ -27,7 +27,7 @@ use Rattle.cycles.specs.Cycles.{passCount, passes}
 use Rattle.cycles.specs.Writing.{movedBytes, RoomFor}
 use Rattle.cycles.proofs.Written.{moved-kind, put-one}
 use Rattle.moves.specs.declared.Plan.{Plan}
-use Rattle.moves.specs.declared.Plan.the-variants.{Rest, Single, Passes}
+use Rattle.moves.specs.declared.Plan.the-variants.{Rest, Single, Passes, Impossible}
 use Rattle.moves.specs.Plans.{planRecords}
 use Rattle.moves.specs.Needs.{Amount}
 
@@ -37,6 +37,10 @@ module _ (amount : List Record → ℕ) {p : Plan} {v : Values} where
   pub rest-amount : p ≡ Rest → amount [] ≡ 0 → Amount amount p v 0
   unfolding planRecords
   rest-amount e f = record { is = λ d origin from. rw e (sym f); few = omega arith }
+
+  pub impossible-amount : p ≡ Impossible → amount [] ≡ 0 → Amount amount p v 0
+  unfolding planRecords
+  impossible-amount e f = record { is = λ d origin from. rw e (sym f); few = omega arith }
 
   pub single-amount : {r : Record} {n : ℕ} → p ≡ Single r → n ≡ amount (r ∷ []) → n ≤ 1_000_000 → Amount amount p v n
   unfolding planRecords

@@ -25,7 +25,7 @@ use Rattle.cycles.specs.declared.Way.the-variants.{Ends, Leaves}
 use Rattle.cycles.specs.Cycles.{dwelling, upUnder, leaving, passTo, passesAt, returnLevel, passes, passCount}
 use Rattle.cycles.specs.Ways.{wayOf}
 use Rattle.moves.specs.declared.Plan.{Plan}
-use Rattle.moves.specs.declared.Plan.the-variants.{Rest, Single, Passes}
+use Rattle.moves.specs.declared.Plan.the-variants.{Rest, Single, Passes, Impossible}
 use Rattle.moves.specs.Plans.{planRecords}
 
 module _ (t : Travel) (from : Point) (r : Record) where
@@ -94,6 +94,10 @@ module _ (offset : Point) where
     pub rest-fits : p ≡ Rest → all fits (planRecords p d origin from v) ≡ true
     unfolding all planRecords
     rest-fits e = rw e
+
+    pub impossible-fits : p ≡ Impossible → all fits (planRecords p d origin from v) ≡ true
+    unfolding all planRecords
+    impossible-fits e = rw e
 
     pub single-fits : {t : Bool} {r q : Record} → p ≡ Single r → q ≡ recordMoved offset r → t ≡ centreFits (pathOf q) → t ≡ all fits (planRecords p d origin from v)
     unfolding all planRecords

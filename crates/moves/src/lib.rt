@@ -15,9 +15,9 @@ ghost use mathlib.Core.Path.{_≡_};
 ghost use mathlib.Core.Bool.{Bool};
 ghost use Rattle.codes.specs.declared.Motion.the-variants.{G00, G01, G02, G03, Drilling};
 ghost use Rattle.letters.specs.declared.BlockCode.the-variants.{Moving};
-ghost use Rattle.blocks.specs.Motions.{endStands, centreGiven, cycleDone, centreWords, arcFor, motionOf, movesOf};
+ghost use Rattle.blocks.specs.Motions.{endStands, centreGiven, cycleDone, centreWords, centreFor, radiusFits, arcTo, isLarger, motionOf, movesOf};
 ghost use Rattle.moves.specs.Plans.{Plans};
-ghost use Rattle.moves.specs.Needs.{Poised};
+ghost use Rattle.moves.specs.Needs.{Poised, Aiming, Fitting};
 
 // Nothing, one record, the passes of a hole, or a radius to which there is no arc. Records are in the frame of the common offset.
 pub enum Plan {

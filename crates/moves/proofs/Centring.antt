@@ -1,0 +1,71 @@
+-- The centre of an arc by its radius or by its words, with what was computed. Assumes nothing.
+use Prim.Native.Nat.{_^_}
+use mathlib.Core.Path.{_≡_, sym, _∙_}
+use mathlib.Core.Bool.{Bool, true, false, not}
+use native.Mathlib.Omega.{arith}
+use lib.IntN.{ℤ}
+use borrow.Author.Tests.{not-false}
+use Rattle.words.specs.declared.Values.{Values}
+use Rattle.points.specs.declared.Point.{Point}
+use Rattle.points.specs.declared.Flat.{Flat}
+use Rattle.points.specs.Points.{moved, flat}
+use Rattle.points.specs.Near.{Near}
+use Rattle.points.proofs.Near.{flat-near}
+use Rattle.settings.specs.declared.State.{State}
+use Rattle.letters.specs.declared.BlockCode.{BlockCode}
+use Rattle.centres.specs.Centres.{radiusHolds, centreBy}
+use Rattle.centres.specs.Bounds.{Chord, Spanned}
+use Rattle.blocks.specs.Motions.{centreWords, centreFor, radiusFits}
+use Rattle.moves.specs.Needs.{Poised, Aiming, Fitting}
+
+module _ (s : State) (v : Values) (end : Point) where
+  abbrev r : ℤ
+  r = v .r .v .v
+
+  pub radius-missing : v .r .stands ≡ false → true ≡ radiusFits s v end
+  unfolding radiusFits
+  radius-missing e = rw e
+
+  -- start and end in the axes of the plane
+  module _ {a b : Flat} (from : a ≡ flat (s .modes .plane) (s .at)) (to : b ≡ flat (s .modes .plane) end) where
+    pub chord : Aiming s v end → Chord r a b
+    chord h =
+        rw (from, to)
+        (record {
+          radius = h .radius;
+          start = flat-near (s .modes .plane) (s .at) (h .at);
+          end = flat-near (s .modes .plane) end (h .near);
+        })
+
+    pub radius-tested : {t : Bool} → v .r .stands ≡ true → t ≡ radiusHolds r a b → t ≡ radiusFits s v end
+    unfolding radiusFits
+    radius-tested e f = rw e (rw (from, to) at f)
+
+    pub spanned : Fitting s v end → v .r .stands ≡ true → Spanned r a b
+    unfolding radiusFits
+    spanned h e = record { chord = chord (h .aiming); holds = rw (from, to) (rw e at (h .fits)) }
+
+    pub by-radius : {c : Flat} (left : Bool) → v .r .stands ≡ true → c ≡ centreBy left r a b → c ≡ centreFor left s v end
+    unfolding centreFor
+    by-radius left e f = rw e (rw (from, to) at f)
+
+  pub by-words :
+      {c : Flat} (left : Bool) → v .r .stands ≡ false → c ≡ flat (s .modes .plane) (moved (centreWords v) (s .at)) → c ≡ centreFor left s v end
+  unfolding centreFor centreWords
+  by-words left e f = rw e f
+
+  pub words-sums : Fitting s v end → {p : Point} → p ≡ centreWords v → (Near (2 ^ 61) p) × (Near (2 ^ 61) (s .at))
+  words-sums h e = rw e (omega (arith, h .words, h .aiming .at))
+
+-- an arc whose radius has been tested
+pub fitting :
+    {code : BlockCode} {s : State} {origin end : Point} {v : Values} {t : Bool}
+    → Poised code s origin v → Near 2_100_000_000 end → t ≡ radiusFits s v end → not t ≡ false → Fitting s v end
+unfolding centreWords
+fitting {t = t} h near fit e =
+    let sizes = h .sizes in
+    record {
+      aiming = record { radius = sizes .r; at = h .at; near = near };
+      words = record { x = sizes .i; y = sizes .j; z = sizes .k };
+      fits = sym fit ∙ not-false t e;
+    }
