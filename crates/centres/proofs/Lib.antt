@@ -1,5 +1,10 @@
+pub mod Accepted
+pub mod Approximating
 pub mod Computing
-pub mod Opened
-pub mod Rounding
-pub mod Reaching
 pub mod Displaced
+pub mod Nearness
+pub mod Opened
+pub mod Reaching
+pub mod Rounding
+pub mod Sides
+pub mod Triangle
