@@ -91,7 +91,8 @@ module _ (w q t : ℤ) {f n : ℕ} (h : Apart q f n t) where
   moved : over (pos n *ℤ (w +ℤ t)) + (n * under w + n * under t) ≡ under (pos n *ℤ (w +ℤ t)) + (n * over w + n * over t)
   moved = omega (arith, (var (pos n) ⊠ (var w ⊞ var t)) .bal)
 
-  turned : over (pos n *ℤ w +ℤ q *ℤ pos f) + (n * under w + under q * f) ≡ under (pos n *ℤ w +ℤ q *ℤ pos f) + (n * over w + over q * f)
+  turned :
+      over (pos n *ℤ w +ℤ q *ℤ pos f) + (n * under w + under q * f) ≡ under (pos n *ℤ w +ℤ q *ℤ pos f) + (n * over w + over q * f)
   turned = omega (arith, (var (pos n) ⊠ var w ⊞ var q ⊠ var (pos f)) .bal)
 
   -- x is at most v + 2 n + |q|, and v at most x + 2 n + |q|

@@ -1,19 +1,25 @@
--- On which side of the chord the exact centre lies. Assumes nothing.
-use Prim.Native.Nat.{_+_}
-use mathlib.Core.Path.{_≡_}
+-- On which side of the chord the exact centre lies, and what that has to do with half a turn. Assumes nothing.
+use Prim.Native.Nat.{ℕ, zero, suc, _+_, _*_, _≤_, _<_}
+use mathlib.Core.Path.{_≡_, ap, _∙_}
 use mathlib.Core.Bool.{Bool, true, false}
+use native.Mathlib.Nat.{mul-le-mul}
 use native.Mathlib.Omega.{arith}
-use lib.IntN.{pos, _-ℤ_}
-use Rattle.lengths.specs.Units.{sq}
-use Rattle.lengths.proofs.Laws.{sq-neg}
+use lib.IntN.{ℤ, pos, negsuc, negℤ, _+ℤ_, _-ℤ_, _*ℤ_, natAbs}
+use lib.Signed.{ltZ}
+use borrow.Author.Tests.{lt-ltb}
+use Rattle.lengths.specs.Units.{sq, halved}
+use Rattle.lengths.specs.View.{over, under}
+use Rattle.lengths.proofs.Laws.{view, sq-neg, sq-mul, halved-over, halved-under}
 use Rattle.lengths.proofs.Ring.{var, _⊞_, _⊟_, _⊠_, neg, same}
 use Rattle.points.specs.declared.Flat.{Flat}
 use Rattle.arcs.specs.Arcs.{distance²}
-use Rattle.arcs.specs.Turning.{direction, dot}
-use Rattle.centres.specs.Centres.{across}
+use Rattle.arcs.specs.Turning.{direction, cross, dot, left}
+use Rattle.centres.specs.Centres.{radiusHolds, across, spare, signedSquare, RoundedDown, Centre}
+use Rattle.centres.specs.Sides.{times, acrossAt}
+use Rattle.centres.proofs.Accepted.{chord-some, chord-spare}
 
 -- the way across is at right angles to the way from start to end, and to the way back
-pub perpendicular : (left : Bool) (d : Flat) → dot d (across left d) ≡ pos 0
+pub perpendicular : (side : Bool) (d : Flat) → dot d (across side d) ≡ pos 0
 unfolding across dot
 perpendicular true d =
     let a = var (d .first .v) in
@@ -24,7 +30,7 @@ perpendicular false d =
     let b = var (d .second .v) in
     same (a ⊠ b ⊞ b ⊠ neg a) (var (pos 0)) (omega arith)
 
-pub perpendicular-back : (left : Bool) (s e : Flat) → dot (direction e s) (across left (direction s e)) ≡ pos 0
+pub perpendicular-back : (side : Bool) (s e : Flat) → dot (direction e s) (across side (direction s e)) ≡ pos 0
 unfolding across dot direction
 perpendicular-back true s e =
     let a = var (s .first .v) in
@@ -41,8 +47,200 @@ perpendicular-back false s e =
 
 -- and as long as the chord
 pub as-long :
-    (left : Bool) (s e : Flat)
-    → sq (across left (direction s e) .first .v) + sq (across left (direction s e) .second .v) ≡ distance² s e
+    (side : Bool) (s e : Flat)
+    → sq (across side (direction s e) .first .v) + sq (across side (direction s e) .second .v) ≡ distance² s e
 unfolding across direction distance²
 as-long true s e = omega (arith, sq-neg (e .second .v -ℤ s .second .v))
 as-long false s e = omega (arith, sq-neg (e .first .v -ℤ s .first .v))
+
+-- ---- to the left, or to the right
+
+-- the way across is a quarter of a turn on from the way d to the left, or d from the way across
+pub cross-left : (d : Flat) → cross d (across true d) ≡ pos (sq (d .first .v) + sq (d .second .v))
+unfolding across cross
+cross-left d =
+    let a = d .first .v in
+    let b = d .second .v in
+    same (var a ⊠ var a ⊟ var b ⊠ neg (var b)) (var (pos (sq a + sq b)))
+    (omega (arith, view, sq-mul a, sq-mul b, (var a ⊠ var a) .bal, (var b ⊠ var b) .bal))
+
+pub cross-right : (d : Flat) → cross (across false d) d ≡ pos (sq (d .first .v) + sq (d .second .v))
+unfolding across cross
+cross-right d =
+    let a = d .first .v in
+    let b = d .second .v in
+    same (var b ⊠ var b ⊟ neg (var a) ⊠ var a) (var (pos (sq a + sq b)))
+    (omega (arith, view, sq-mul a, sq-mul b, (var a ⊠ var a) .bal, (var b ⊠ var b) .bal))
+
+module _ (s e : Flat) (differ : 0 < distance² s e) where
+  pub across-left : left (direction s e) (across true (direction s e)) ≡ true
+  unfolding left direction distance²
+  across-left = rw (cross-left (direction s e)) (lt-ltb 0 (distance² s e) differ)
+
+  pub across-right : left (across false (direction s e)) (direction s e) ≡ true
+  unfolding left direction distance²
+  across-right = rw (cross-right (direction s e)) (lt-ltb 0 (distance² s e) differ)
+
+-- Why a centre on the left is that of a left turn of at most half a turn, and one on the right that of such a right turn: seen from
+-- any point c the end lies to the left of the start, less than half a turn on, exactly where c lies to the left of the way from
+-- start to end. So turning left, G03, about a centre on the left is the shorter way, and about one on the right the longer;
+-- turning right, G02, it is the other way round. About the chord's middle both are half a turn.
+pub seen-from : (c s e : Flat) → cross (direction c s) (direction c e) ≡ cross (direction s e) (direction s c)
+unfolding cross direction
+seen-from c s e =
+    let a = var (c .first .v) in
+    let b = var (c .second .v) in
+    let f = var (s .first .v) in
+    let g = var (s .second .v) in
+    let h = var (e .first .v) in
+    let i = var (e .second .v) in
+    same ((f ⊟ a) ⊠ (i ⊟ b) ⊟ (g ⊟ b) ⊠ (h ⊟ a)) ((h ⊟ f) ⊠ (b ⊟ g) ⊟ (i ⊟ g) ⊠ (a ⊟ f)) (omega arith)
+
+pub left-seen : (c s e : Flat) → left (direction c s) (direction c e) ≡ left (direction s e) (direction s c)
+unfolding left
+left-seen c s e = ap (λ z. ltZ (pos 0) z) (seen-from c s e)
+
+-- ---- The same of the points straight across from the chord's middle: whatever the fraction, seen from a point on the left the end
+-- lies to the left of the start, and seen from a point on the right the start lies to the left of the end.
+
+-- one coordinate of the way from such a point to the start, and to the end
+to-start :
+    (n f : ℕ) (s e q : ℤ) → pos (2 * n) *ℤ s -ℤ (pos n *ℤ (s +ℤ e) +ℤ pos f *ℤ q) ≡ negℤ (pos n *ℤ (e -ℤ s)) -ℤ pos f *ℤ q
+to-start n f s e q =
+    let x = var (pos n) ⊠ (var s ⊞ var e) ⊞ var (pos f) ⊠ var q in
+    same (var (pos (2 * n)) ⊠ var s ⊟ x) (neg (var (pos n) ⊠ (var e ⊟ var s)) ⊟ var (pos f) ⊠ var q) (omega arith)
+
+to-end : (n f : ℕ) (s e q : ℤ) → pos (2 * n) *ℤ e -ℤ (pos n *ℤ (s +ℤ e) +ℤ pos f *ℤ q) ≡ pos n *ℤ (e -ℤ s) -ℤ pos f *ℤ q
+to-end n f s e q =
+    let x = var (pos n) ⊠ (var s ⊞ var e) ⊞ var (pos f) ⊠ var q in
+    same (var (pos (2 * n)) ⊠ var e ⊟ x) (var (pos n) ⊠ (var e ⊟ var s) ⊟ var (pos f) ⊠ var q) (omega arith)
+
+-- the product of the two ways, and the factors n and f drawn out of it
+between : (a b c d : ℤ) → (negℤ a -ℤ c) *ℤ (b -ℤ d) -ℤ (negℤ b -ℤ d) *ℤ (a -ℤ c) ≡ pos 2 *ℤ (a *ℤ d -ℤ b *ℤ c)
+between a b c d =
+    same
+    ((neg (var a) ⊟ var c) ⊠ (var b ⊟ var d) ⊟ (neg (var b) ⊟ var d) ⊠ (var a ⊟ var c))
+    (var (pos 2) ⊠ (var a ⊠ var d ⊟ var b ⊠ var c))
+    (omega arith)
+
+one-factor : (n f : ℕ) (a d : ℤ) → pos n *ℤ a *ℤ (pos f *ℤ d) ≡ pos (n * f) *ℤ (a *ℤ d)
+one-factor n f a d = same (var (pos n) ⊠ var a ⊠ (var (pos f) ⊠ var d)) (var (pos (n * f)) ⊠ (var a ⊠ var d)) (omega arith)
+
+drawn : (k : ℕ) (x y : ℤ) → pos 2 *ℤ (pos k *ℤ x -ℤ pos k *ℤ y) ≡ pos (2 * k) *ℤ (x -ℤ y)
+drawn k x y =
+    same (var (pos 2) ⊠ (var (pos k) ⊠ var x ⊟ var (pos k) ⊠ var y)) (var (pos (2 * k)) ⊠ (var x ⊟ var y)) (omega arith)
+
+pub seen-across :
+    (side : Bool) (f n : ℕ) (s e : Flat)
+    → let x = acrossAt side f n s e in
+    let d = direction s e in
+    cross (direction x (times (2 * n) s)) (direction x (times (2 * n) e)) ≡ pos (2 * (n * f)) *ℤ cross d (across side d)
+unfolding cross direction times acrossAt
+seen-across side f n s e =
+    let a = e .first .v -ℤ s .first .v in
+    let b = e .second .v -ℤ s .second .v in
+    let c = across side (direction s e) .first .v in
+    let d = across side (direction s e) .second .v in
+    rw (
+      to-start n f (s .first .v) (e .first .v) c,
+      to-start n f (s .second .v) (e .second .v) d,
+      to-end n f (s .first .v) (e .first .v) c,
+      to-end n f (s .second .v) (e .second .v) d,
+      between (pos n *ℤ a) (pos n *ℤ b) (pos f *ℤ c) (pos f *ℤ d),
+      one-factor n f a d,
+      one-factor n f b c,
+      drawn (n * f) (a *ℤ d) (b *ℤ c),
+    )
+
+cross-back : (a b : Flat) → cross a b ≡ negℤ (cross b a)
+unfolding cross
+cross-back a b =
+    let p = var (a .first .v) in
+    let q = var (a .second .v) in
+    let x = var (b .first .v) in
+    let y = var (b .second .v) in
+    same (p ⊠ y ⊟ q ⊠ x) (neg (x ⊠ q ⊟ y ⊠ p)) (omega arith)
+
+product-back : (k : ℕ) (z : ℤ) → negℤ (pos k *ℤ negℤ z) ≡ pos k *ℤ z
+product-back k z = same (neg (var (pos k) ⊠ neg (var z))) (var (pos k) ⊠ var z) (omega arith)
+
+module _ (f n : ℕ) (s e : Flat) where
+  pub seen-left :
+      let x = acrossAt true f n s e in
+      cross (direction x (times (2 * n) s)) (direction x (times (2 * n) e)) ≡ pos (2 * (n * f) * distance² s e)
+  unfolding distance² direction
+  seen-left = seen-across true f n s e ∙ ap (λ z. pos (2 * (n * f)) *ℤ z) (cross-left (direction s e))
+
+  pub seen-right :
+      let x = acrossAt false f n s e in
+      cross (direction x (times (2 * n) e)) (direction x (times (2 * n) s)) ≡ pos (2 * (n * f) * distance² s e)
+  unfolding distance² direction
+  seen-right =
+      let x = acrossAt false f n s e in
+      let d = direction s e in
+      let q = across false d in
+      cross-back (direction x (times (2 * n) e)) (direction x (times (2 * n) s))
+      ∙ ap negℤ (seen-across false f n s e ∙ ap (λ z. pos (2 * (n * f)) *ℤ z) (cross-back d q))
+      ∙ product-back (2 * (n * f)) (cross q d)
+      ∙ ap (λ z. pos (2 * (n * f)) *ℤ z) (cross-right d)
+
+  module _ (whole : 0 < n) (some : 0 < f) (differ : 0 < distance² s e) where
+    turns : 0 < 2 * (n * f) * distance² s e
+    turns = omega (arith, mul-le-mul (mul-le-mul whole some) differ)
+
+    pub end-left :
+        let x = acrossAt true f n s e in
+        left (direction x (times (2 * n) s)) (direction x (times (2 * n) e)) ≡ true
+    unfolding left
+    end-left = rw seen-left (lt-ltb 0 (2 * (n * f) * distance² s e) turns)
+
+    pub end-right :
+        let x = acrossAt false f n s e in
+        left (direction x (times (2 * n) e)) (direction x (times (2 * n) s)) ≡ true
+    unfolding left
+    end-right = rw seen-right (lt-ltb 0 (2 * (n * f) * distance² s e) turns)
+
+-- ---- Where the chord is twice the radius, the centre is its middle, rounded down.
+
+pub chord-longest :
+    (r : ℤ) (s e : Flat) → radiusHolds r s e ≡ true
+    → (spare r s e ≡ 0 → distance² s e ≡ 4 * sq r) × (distance² s e ≡ 4 * sq r → spare r s e ≡ 0)
+chord-longest r s e holds = omega (arith, chord-spare r s e holds)
+
+-- a number is not above 0, or is above it, where its signed square is so
+not-over : (t : ℤ) (d : ℕ) → 0 < d → over t * natAbs t * d ≤ under t * natAbs t * d → over t ≤ under t
+not-over (pos zero) d some h = omega arith
+not-over (pos (suc t)) d some h = omega arith
+not-over (negsuc t) d some h = omega arith
+
+not-under : (t : ℤ) (d : ℕ) → 0 < d → under t * natAbs t * d < over t * natAbs t * d → under t < over t
+not-under (pos zero) d some h = omega arith
+not-under (pos (suc t)) d some h = omega arith
+not-under (negsuc t) d some h = omega arith
+
+-- one coordinate
+middle : (p q c : ℤ) (d : ℕ) → 0 < d → RoundedDown p q 0 d c → c ≡ halved p
+unfolding signedSquare
+middle p q c d some h =
+    let t = c +ℤ c -ℤ p in
+    let u = c +ℤ c +ℤ pos 2 -ℤ p in
+    let z = (var q ⊠ var (pos (natAbs q)) ⊠ var (pos 0)) .bal in
+    let a = (var t ⊠ var (pos (natAbs t)) ⊠ var (pos d)) .bal in
+    let b = (var u ⊠ var (pos (natAbs u)) ⊠ var (pos d)) .bal in
+    let k = not-over t d some (omega (arith, view, z, a, h .notAbove)) in
+    let l = not-under u d some (omega (arith, view, z, b, h .largest)) in
+    let i = (var c ⊞ var c ⊟ var p) .bal in
+    let j = (var c ⊞ var c ⊞ var (pos 2) ⊟ var p) .bal in
+    omega (arith, view, k, l, i, j, halved-over p, halved-under p)
+
+pub centre-middle :
+    (side : Bool) (r : ℤ) (s e c : Flat) → radiusHolds r s e ≡ true → distance² s e ≡ 4 * sq r → Centre side r s e c
+    → (c .first .v ≡ halved (s .first .v +ℤ e .first .v)) × (c .second .v ≡ halved (s .second .v +ℤ e .second .v))
+centre-middle side r s e c holds h k =
+    let d = distance² s e in
+    let q = across side (direction s e) in
+    let z = chord-longest r s e holds .1 h in
+    let some = chord-some r s e holds in (
+      middle (s .first .v +ℤ e .first .v) (q .first .v) (c .first .v) d some (rw z at (k .first)),
+      middle (s .second .v +ℤ e .second .v) (q .second .v) (c .second .v) d some (rw z at (k .second)),
+    )

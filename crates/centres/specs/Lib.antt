@@ -1,3 +1,4 @@
 pub mod Centres
 pub mod Bounds
 pub mod Nearness
+pub mod Sides
