@@ -21,10 +21,10 @@ returns-2 c =
     let e = g .before in
     let a = e .before .before .before .args in
     λ named.
-        clockwise-impossible (a .s) (a .origin) (a .v) (e .end-stands .ensures) named (g .centre-given .ensures) (t .if1 .left)
-        (p .target-point .ensures .is)
-        (f .radius-fits .ensures)
-        (c .if2 .taken)
+    clockwise-impossible (a .s) (a .origin) (a .v) (e .end-stands .ensures) named (g .centre-given .ensures) (t .if1 .left)
+    (p .target-point .ensures .is)
+    (f .radius-fits .ensures)
+    (c .if2 .taken)
 
 arc-to-requires : tie.Need-arc-to-requires
 arc-to-requires c κs =
@@ -45,13 +45,13 @@ returns-3 c =
     let e = g .before in
     let a = e .before .before .before .args in
     λ named.
-        clockwise-moves (a .s) (a .origin) (a .v) (e .end-stands .ensures) named (g .centre-given .ensures) (t .if1 .left)
-        (p .target-point .ensures .is)
-        (f .radius-fits .ensures)
-        (u .if2 .left)
-        (i .result)
-        (c .arc-to .ensures)
-        (i .ensures)
+    clockwise-moves (a .s) (a .origin) (a .v) (e .end-stands .ensures) named (g .centre-given .ensures) (t .if1 .left)
+    (p .target-point .ensures .is)
+    (f .radius-fits .ensures)
+    (u .if2 .left)
+    (i .result)
+    (c .arc-to .ensures)
+    (i .ensures)
 
 pub clockwise-plan-spec : {M : Type 1} → statement M
 clockwise-plan-spec =

@@ -23,10 +23,10 @@ returns-2 c =
     let e = g .before in
     let a = e .before .before .before .args in
     λ named.
-        counter-impossible (a .s) (a .origin) (a .v) (e .end-stands .ensures) named (g .centre-given .ensures) (t .if1 .left)
-        (p .target-point .ensures .is)
-        (f .radius-fits .ensures)
-        (c .if2 .taken)
+    counter-impossible (a .s) (a .origin) (a .v) (e .end-stands .ensures) named (g .centre-given .ensures) (t .if1 .left)
+    (p .target-point .ensures .is)
+    (f .radius-fits .ensures)
+    (c .if2 .taken)
 
 arc-to-requires : tie.Need-arc-to-requires
 arc-to-requires c κs =
@@ -47,13 +47,13 @@ returns-3 c =
     let e = g .before in
     let a = e .before .before .before .args in
     λ named.
-        counter-moves (a .s) (a .origin) (a .v) (e .end-stands .ensures) named (g .centre-given .ensures) (t .if1 .left)
-        (p .target-point .ensures .is)
-        (f .radius-fits .ensures)
-        (u .if2 .left)
-        (not (i .result))
-        (c .arc-to .ensures)
-        (ap not (i .ensures))
+    counter-moves (a .s) (a .origin) (a .v) (e .end-stands .ensures) named (g .centre-given .ensures) (t .if1 .left)
+    (p .target-point .ensures .is)
+    (f .radius-fits .ensures)
+    (u .if2 .left)
+    (not (i .result))
+    (c .arc-to .ensures)
+    (ap not (i .ensures))
 
 pub counter-plan-spec : {M : Type 1} → statement M
 counter-plan-spec =

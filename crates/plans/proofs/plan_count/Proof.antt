@@ -2,7 +2,7 @@
 use mathlib.Core.Path.{refl}
 use native.Mathlib.Omega.{arith}
 use lib.ListN.{length}
-use Rattle.moves.proofs.Putting.{rest-amount, single-amount, passes-amount}
+use Rattle.moves.proofs.Putting.{rest-amount, impossible-amount, single-amount, passes-amount}
 use borrow.Author.Needs.{needs}
 use Rattle.plans.proofs.plan_count.Statement.{statement}
 use Rattle.plans.proofs.plan_count.Tie as tie
@@ -22,6 +22,9 @@ pass-count-requires c κs = rw (c .before .p .given .1) at (c .before .before .b
 passes-length-requires : tie.Need-passes-length-requires
 passes-length-requires c κs = search needs
 
+enum-told-3 : tie.Need-enum-told-3
+enum-told-3 c = search needs
+
 returns : tie.Need-returns
 returns c = rest-amount length (c .enum-told .given .1) refl
 
@@ -30,6 +33,9 @@ returns-2 c = single-amount length (c .enum-told2 .given .1) refl (omega arith)
 
 returns-3 : tie.Need-returns-3
 returns-3 c = passes-amount length (c .before .before .before .p .given .1) (c .before .pass-count .ensures .is) (c .passes-length .ensures .0) (omega (arith, c .passes-length .ensures .1))
+
+returns-4 : tie.Need-returns-4
+returns-4 c = impossible-amount length (c .enum-told3 .given .1) refl
 
 pub plan-count-spec : {M : Type 1} → statement M
 plan-count-spec =
@@ -40,6 +46,8 @@ plan-count-spec =
     enum-known-p
     pass-count-requires
     passes-length-requires
+    enum-told-3
     returns
     returns-2
-    returns-3)
+    returns-3
+    returns-4)

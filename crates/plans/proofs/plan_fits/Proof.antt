@@ -1,6 +1,6 @@
 -- `plans::plan_fits` meets its contract. Assumes nothing.
 use mathlib.Core.Path.{sym}
-use Rattle.moves.proofs.Ways.{rest-fits, single-fits, passes-fits}
+use Rattle.moves.proofs.Ways.{rest-fits, impossible-fits, single-fits, passes-fits}
 use borrow.Author.Needs.{needs}
 use Rattle.plans.proofs.plan_fits.Statement.{statement}
 use Rattle.plans.proofs.plan_fits.Tie as tie
@@ -20,6 +20,9 @@ centre-fits-requires c κs = search needs
 enum-told-2 : tie.Need-enum-told-2
 enum-told-2 c = search needs
 
+enum-told-3 : tie.Need-enum-told-3
+enum-told-3 c = search needs
+
 returns : tie.Need-returns
 returns c = λ d origin from v. sym (rest-fits (c .before .before .args .offset) d origin from v (c .enum-told .given .1))
 
@@ -28,6 +31,9 @@ returns-2 c = λ d origin from v. single-fits (c .before .before .before .before
 
 returns-3 : tie.Need-returns-3
 returns-3 c = λ d origin from v. sym (passes-fits (c .before .before .args .offset) d origin from v (c .enum-told2 .given .1))
+
+returns-4 : tie.Need-returns-4
+returns-4 c = λ d origin from v. sym (impossible-fits (c .before .before .args .offset) d origin from v (c .enum-told3 .given .1))
 
 pub plan-fits-spec : {M : Type 1} → statement M
 plan-fits-spec =
@@ -38,6 +44,8 @@ plan-fits-spec =
     displaced-requires
     centre-fits-requires
     enum-told-2
+    enum-told-3
     returns
     returns-2
-    returns-3)
+    returns-3
+    returns-4)

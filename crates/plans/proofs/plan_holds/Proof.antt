@@ -19,6 +19,9 @@ enum-known-p-2 c = search needs
 levels-hold-requires : tie.Need-levels-hold-requires
 levels-hold-requires c κs = search needs
 
+enum-told-2 : tie.Need-enum-told-2
+enum-told-2 c = search needs
+
 returns : tie.Need-returns
 unfolding planHolds
 returns c = rw (c .enum-told .given .1)
@@ -31,6 +34,10 @@ returns-3 : tie.Need-returns-3
 unfolding planHolds
 returns-3 c = rw (c .before .before .p2 .given .1) (c .levels-hold .ensures)
 
+returns-4 : tie.Need-returns-4
+unfolding planHolds
+returns-4 c = rw (c .enum-told2 .given .1)
+
 pub plan-holds-spec : {M : Type 1} → statement M
 plan-holds-spec =
     tie.close
@@ -40,6 +47,8 @@ plan-holds-spec =
     record-holds-requires
     enum-known-p-2
     levels-hold-requires
+    enum-told-2
     returns
     returns-2
-    returns-3)
+    returns-3
+    returns-4)

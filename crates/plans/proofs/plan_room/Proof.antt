@@ -2,7 +2,7 @@
 use mathlib.Core.Path.{refl, _∙_}
 use native.Mathlib.Omega.{arith}
 use Rattle.records.specs.Layout.{roomOf}
-use Rattle.moves.proofs.Putting.{rest-amount, single-amount, passes-amount, room-one, kind-few}
+use Rattle.moves.proofs.Putting.{rest-amount, impossible-amount, single-amount, passes-amount, room-one, kind-few}
 use borrow.Author.Needs.{needs}
 use Rattle.plans.proofs.plan_room.Statement.{statement}
 use Rattle.plans.proofs.plan_room.Tie as tie
@@ -25,6 +25,9 @@ pass-count-requires c κs = rw (c .before .p2 .given .1) at (c .before .before .
 passes-room-requires : tie.Need-passes-room-requires
 passes-room-requires c κs = search needs
 
+enum-told-2 : tie.Need-enum-told-2
+enum-told-2 c = search needs
+
 returns : tie.Need-returns
 unfolding roomOf
 returns c = rest-amount roomOf (c .enum-told .given .1) refl
@@ -37,6 +40,10 @@ returns-2 c =
 returns-3 : tie.Need-returns-3
 returns-3 c = passes-amount roomOf (c .before .before .before .p2 .given .1) (c .before .pass-count .ensures .is) (c .passes-room .ensures .0) (omega (arith, c .passes-room .ensures .1))
 
+returns-4 : tie.Need-returns-4
+unfolding roomOf
+returns-4 c = impossible-amount roomOf (c .enum-told2 .given .1) refl
+
 pub plan-room-spec : {M : Type 1} → statement M
 plan-room-spec =
     tie.close
@@ -47,6 +54,8 @@ plan-room-spec =
     enum-known-p-2
     pass-count-requires
     passes-room-requires
+    enum-told-2
     returns
     returns-2
-    returns-3)
+    returns-3
+    returns-4)

@@ -21,6 +21,9 @@ enum-known-p-2 c = search needs
 passes-way-requires : tie.Need-passes-way-requires
 passes-way-requires c κs = rw (c .before .p2 .given .1) at (c .before .before .before .pre)
 
+enum-told-2 : tie.Need-enum-told-2
+enum-told-2 c = search needs
+
 returns : tie.Need-returns
 unfolding planRecords wayOf endOf pathStaysIn
 returns c = rw (c .enum-told .given .1)
@@ -33,6 +36,10 @@ returns-3 : tie.Need-returns-3
 unfolding planRecords passesWay
 returns-3 c = rw (c .before .before .p2 .given .1) (c .passes-way .ensures)
 
+returns-4 : tie.Need-returns-4
+unfolding planRecords wayOf endOf pathStaysIn
+returns-4 c = rw (c .enum-told2 .given .1)
+
 pub plan-way-spec : {M : Type 1} → statement M
 plan-way-spec =
     tie.close
@@ -42,6 +49,8 @@ plan-way-spec =
     record-way-requires
     enum-known-p-2
     passes-way-requires
+    enum-told-2
     returns
     returns-2
-    returns-3)
+    returns-3
+    returns-4)

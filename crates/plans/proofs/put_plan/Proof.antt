@@ -1,6 +1,6 @@
 -- `plans::put_plan` meets its contract. Assumes nothing.
 use Rattle.cycles.proofs.Written.{ready-as, put-as, put-none}
-use Rattle.moves.proofs.Planning.{records-rest, records-single, records-passes}
+use Rattle.moves.proofs.Planning.{records-rest, records-impossible, records-single, records-passes}
 use borrow.Author.Needs.{needs}
 use Rattle.plans.proofs.put_plan.Statement.{statement}
 use Rattle.plans.proofs.put_plan.Tie as tie
@@ -27,6 +27,9 @@ put-passes-requires c κs =
     let e = c .before .before .p2 .given .1 in
     (ready-as (a .offset) (records-passes (a .d) (a .origin) (a .from) (a .v) e) (s .pre .0) .room, rw e at (s .pre .1))
 
+enum-told-2 : tie.Need-enum-told-2
+enum-told-2 c = search needs
+
 returns : tie.Need-returns
 returns c =
     let a = c .before .before .before .args in
@@ -50,6 +53,11 @@ returns-3 c =
     let a = c .before .before .before .before .before .before .before .before .args in
     put-as (a .offset) (records-passes (a .d) (a .origin) (a .from) (a .v) (put .before .before .before .p2 .given .1)) (put .put-passes .ensures)
 
+returns-4 : tie.Need-returns-4
+returns-4 c =
+    let a = c .before .before .before .args in
+    put-as (a .offset) (records-impossible (a .d) (a .origin) (a .from) (a .v) (c .enum-told2 .given .1)) (put-none (a .offset) _ (a .at))
+
 pub put-plan-spec : {M : Type 1} → statement M
 put-plan-spec =
     tie.close
@@ -59,8 +67,10 @@ put-plan-spec =
     put-record-requires
     enum-known-p-2
     put-passes-requires
+    enum-told-2
     returns
     same-length
     returns-2
     same-length-2
-    returns-3)
+    returns-3
+    returns-4)
