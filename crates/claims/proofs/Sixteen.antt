@@ -37,7 +37,7 @@ use Rattle.setup.specs.Fair.{Fair}
 use Rattle.setup.proofs.Valid as Valid
 use Rattle.words.specs.declared.Word.{Word}
 use Rattle.words.specs.Words.{Words, these, badAt, wordsOf}
-use Rattle.letters.specs.Letters.{firstThatMayNot, firstUnused, firstBadValue}
+use Rattle.letters.specs.Letters.{firstThatMayNot, hasCentre, firstUnused, firstBadValue}
 use Rattle.records.specs.declared.Record.{Record}
 use Rattle.records.specs.Layout.{roomOf}
 use Rattle.records.specs.Path.{pathStaysIn}
@@ -138,7 +138,7 @@ module _ (bed : Bed) (fair : Fair bed) (calls : Calls) (room : ℕ) (s : State) 
         (first-blames (firstBlames machine calls s start ws b) last (
           at-word CannotExecute (firstThatMayNot (inMain calls) [] ws) refl,
           (
-            at-word AddressUndefined (firstUnused (b .code) (b .modes .plane) ws) refl,
+            at-word AddressUndefined (firstUnused (b .code) (b .modes .plane) (hasCentre (b .code) (b .modes .plane) ws) ws) refl,
             (
               at-word BadParameter (firstBadValue (machine .speeds) (b .modes) (b .code) ws) refl,
               (

@@ -24,7 +24,7 @@ use Rattle.points.specs.declared.Point.{Point}
 use Rattle.codes.specs.Codes.{miscNumber, isM, isNoM, endsProgram}
 use Rattle.words.specs.declared.Word.{Word}
 use Rattle.words.specs.Words.{Words, these, badAt, wordsOf}
-use Rattle.letters.specs.Letters.{isKnown, isG, isMisc, miscIn, miscOrOther, miscOfBlock, standsAlone, wrongProgram, repeats, badG, badM, mayNotStand, firstThatMayNot, firstUnused, firstBadValue}
+use Rattle.letters.specs.Letters.{isKnown, isG, isMisc, miscIn, miscOrOther, miscOfBlock, standsAlone, wrongProgram, repeats, badG, badM, mayNotStand, firstThatMayNot, hasCentre, firstUnused, firstBadValue}
 use Rattle.records.specs.declared.Record.{Record}
 use Rattle.records.specs.Layout.{roomOf}
 use Rattle.records.specs.Path.{endOf, pathStaysIn}
@@ -40,7 +40,7 @@ use Rattle.blocks.specs.Exec.{Blame, Calls, Verdict, accepted, saidBy, movesIn,
 abbrev pub firstBlames : Machine → Calls → State → ℕ → List Word → Said → List (Option Blame)
 firstBlames machine calls s start ws b =
     atWord CannotExecute (firstThatMayNot (inMain calls) [] ws)
-    ∷ atWord AddressUndefined (firstUnused (b .code) (b .modes .plane) ws)
+    ∷ atWord AddressUndefined (firstUnused (b .code) (b .modes .plane) (hasCentre (b .code) (b .modes .plane) ws) ws)
     ∷ atWord BadParameter (firstBadValue (machine .speeds) (b .modes) (b .code) ws)
     ∷ atStart start ParameterUndefined (lacksParameter (b .code) (b .values))
     ∷ atStart start NumberNotFound (unknownCall calls (callTo (controlOf b)))

@@ -6,11 +6,13 @@ ghost use mathlib.Core.Path.{_≡_};
 ghost use Prim.Native.Nat.{_≤_, _<_};
 ghost use mathlib.Core.Bool.{false};
 ghost use lib.IntN.{pos};
+ghost use mathlib.Core.List.{List};
 ghost use lib.ListN.{length, getD, take};
+ghost use Rattle.words.specs.declared.Word.{Word};
 ghost use Rattle.lengths.specs.Units.{len};
 ghost use Rattle.settings.specs.Settings.{firstModes};
-ghost use Rattle.letters.specs.Letters.{codeUnder};
-ghost use Rattle.letters.specs.Judging.{Stored, judgedBy};
+ghost use Rattle.letters.specs.Letters.{codeUnder, hasCentre};
+ghost use Rattle.letters.specs.Judging.{CentreSeen, Stored, judgedBy};
 use lengths::Len;
 use letters::Judged;
 use letters::Speeds;
@@ -171,7 +173,7 @@ fn after_slash(s: &[u8], at: usize) -> usize
 // What the block's code makes of its words. The codes' group 7 is G04 alone.
 fn judged(range: Speeds, read: Reading) -> Judged
     requires { ⌜ Stored (read .words) (read .count) ⌝ }
-    ensures { λ r. ⌜ r ≡ judgedBy range (read .seen .modes) (codeUnder (read .seen .misc) (getD (read .seen .groups) 7 false) (read .seen .modes .motion)) (take (read .count) (read .words)) ⌝ }
+    ensures { λ r. ⌜ ((ws : List Word) → CentreSeen ws (getD (read .seen .letters) 8 false) (getD (read .seen .letters) 9 false) (getD (read .seen .letters) 10 false) → r ≡ judgedBy range (read .seen .modes) (codeUnder (read .seen .misc) (getD (read .seen .groups) 7 false) (read .seen .modes .motion)) (hasCentre (codeUnder (read .seen .misc) (getD (read .seen .groups) 7 false) (read .seen .modes .motion)) (read .seen .modes .plane) ws) (take (read .count) (read .words))) ⌝ }
 {
     let seen = read.seen;
     let misc = seen.misc;

@@ -15,8 +15,8 @@ use Rattle.settings.specs.declared.Modes.{Modes}
 use Rattle.letters.specs.declared.BlockCode.{BlockCode}
 use Rattle.letters.specs.declared.Judged.{Judged}
 use Rattle.letters.specs.declared.Judged.the-variants.{Fine}
-use Rattle.letters.specs.Letters.{modesIn, miscOfBlock, namesGroupA, namesG04, codeUnder, blockCode, valuesOf}
-use Rattle.letters.specs.Judging.{judgedBy}
+use Rattle.letters.specs.Letters.{modesIn, miscOfBlock, namesGroupA, namesG04, codeUnder, blockCode, hasCentre, valuesOf}
+use Rattle.letters.specs.Judging.{CentreSeen, judgedBy}
 use Rattle.letters.proofs.Valued.{judged-valued}
 use Rattle.reading.specs.declared.Reading.{Reading}
 use Rattle.blocks.specs.declared.Said.{Said}
@@ -39,6 +39,15 @@ module _ (bed : Bed) (s : State) (read : Reading) (ws : List Word) (says : Says 
   unfolding namesG04 isG04
   dwells-is = says .seen .coded .each 7 (omega arith)
 
+  -- whether the letter at a place of the alphabet stood in the block
+  abbrev stood : ℕ → Bool
+  stood k = getD (read .seen .letters) k false
+
+  centre-seen : CentreSeen ws (stood 8) (stood 9) (stood 10)
+  centre-seen =
+      let letters = says .seen .letters in
+      record { hasI = letters 8 (omega arith); hasJ = letters 9 (omega arith); hasK = letters 10 (omega arith) }
+
   module _ {code : BlockCode} (is : code ≡ codeUnder (read .seen .misc) (getD (read .seen .groups) 7 false) (read .seen .modes .motion)) where
     code-is : code ≡ blockCode (modesIn (s .modes) ws) ws
     unfolding blockCode
@@ -46,13 +55,21 @@ module _ (bed : Bed) (s : State) (read : Reading) (ws : List Word) (says : Says 
 
     -- the judgement of the words that were kept is that of all words
     pub judged-is :
-        {j : Judged}
-        → j ≡ judgedBy (record { lowest = bed .lowest; highest = bed .highest }) (read .seen .modes) code (take (read .count) (read .words))
-        → j ≡ judgedBy (machineOf bed .speeds) (said .modes) (said .code) ws
+        {centred : Bool} {j : Judged}
+        → ((us : List Word) → CentreSeen us (stood 8) (stood 9) (stood 10) → centred ≡ hasCentre code (read .seen .modes .plane) us)
+        → j ≡ judgedBy (record { lowest = bed .lowest; highest = bed .highest }) (read .seen .modes) code centred (take (read .count) (read .words))
+        → j ≡ judgedBy (machineOf bed .speeds) (said .modes) (said .code) (hasCentre (said .code) (said .modes .plane) ws) ws
     unfolding saidBy machineOf
-    judged-is e = e ∙ rw (says .words, code-is, says .seen .modes) (judged-valued (machineOf bed .speeds) (modesIn (s .modes) ws) (blockCode (modesIn (s .modes) ws) ws) ws)
+    judged-is h e =
+        let m = modesIn (s .modes) ws in
+        e
+        ∙ rw (h ws centre-seen, says .words, code-is, says .seen .modes)
+        (judged-valued (machineOf bed .speeds) m (blockCode m ws) (hasCentre (blockCode m ws) (m .plane) ws) ws)
 
-    module _ {values : Values} (e : Fine values ≡ judgedBy (machineOf bed .speeds) (said .modes) (said .code) ws) where
+    module _
+        {values : Values}
+        (e : Fine values ≡ judgedBy (machineOf bed .speeds) (said .modes) (said .code) (hasCentre (said .code) (said .modes .plane) ws) ws)
+      where
       abbrev heard : Said
       heard =
           record {

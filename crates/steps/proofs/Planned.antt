@@ -12,9 +12,10 @@ use Rattle.lengths.specs.View.{Within}
 use Rattle.codes.specs.declared.Distance.{Distance}
 use Rattle.words.specs.declared.Values.{Values}
 use Rattle.points.specs.declared.Point.{Point}
-use Rattle.points.specs.Points.{moved, flat}
-use Rattle.points.specs.Near.{Near}
-use Rattle.points.proofs.Near.{moved-near, flat-near}
+use Rattle.points.specs.declared.Flat.{Flat}
+use Rattle.points.specs.Points.{flat}
+use Rattle.points.specs.Near.{Near, FlatNear}
+use Rattle.points.proofs.Near.{flat-near}
 use Rattle.setup.specs.declared.Bed.{Bed}
 use Rattle.setup.specs.Frame.{originAt}
 use Rattle.records.specs.declared.Arc.{Arc}
@@ -24,22 +25,24 @@ use Rattle.records.specs.Layout.{roomOf}
 use Rattle.records.specs.Path.{pathOf, endOf, pathStaysIn}
 use Rattle.records.specs.Displacing.{LooseArc, Loose}
 use Rattle.settings.specs.declared.State.{State}
+use Rattle.settings.specs.Target.{target}
 use Rattle.arcs.specs.Bounds as Arcs
+use Rattle.arcs.specs.Bounds.{Reach}
 use Rattle.cycles.specs.declared.Way.the-variants.{Ends, Leaves}
 use Rattle.cycles.specs.Ways.{staysIn, wayOf}
 use Rattle.cycles.specs.Writing.{RoomFor}
 use Rattle.cycles.proofs.Rooms.{room-append}
 use Rattle.moves.specs.declared.Plan.{Plan}
-use Rattle.moves.specs.declared.Plan.the-variants.{Rest, Single, Passes}
-use Rattle.moves.specs.Plans.{planRecords, pathHolds, planHolds, RecordFrom, From}
+use Rattle.moves.specs.declared.Plan.the-variants.{Rest, Single, Passes, Impossible}
+use Rattle.moves.specs.Plans.{planRecords, pathHolds, planHolds, ArcFrom, RecordFrom, From}
 use Rattle.moves.specs.Needs.{Poised, Round, PlanRound, PlanLoose, PlanReady, PlanCounts, PlanPuts, Amount}
 use Rattle.blocks.specs.declared.Said.{Said}
 use Rattle.blocks.specs.declared.Control.{Control}
 use Rattle.blocks.specs.Machine.{machineOf}
-use Rattle.blocks.specs.Motions.{centreWords, arcFor, movesOf}
+use Rattle.blocks.specs.Motions.{centreFor, arcTo, movesOf}
 use Rattle.blocks.specs.Exec.{working, spindleRecords, movesIn, lastRecords, madeBy, settled}
 use Rattle.blocks.specs.Reach.{Steady}
-use Rattle.blocks.proofs.Nearness.{near-inside, from-inside, aims, target-sums, centre-sums, bounds, passing, puts, framed}
+use Rattle.blocks.proofs.Nearness.{near-inside, from-inside, aims, target-sums, centre-close, bounds, passing, puts, framed}
 use Rattle.blocks.proofs.Making.{made-short, made-fits}
 use Rattle.steps.specs.Steps.{Brief, Planned, settledAt, threeRecords, ThreePuts}
 use Rattle.steps.proofs.Still.{block-way, way-ends, way-leaves, all-middle}
@@ -67,8 +70,8 @@ module _ (bed : Bed) (s : State) (b : Said) (steady : Steady bed s b) where
   unfolding pathOf
   round-one (RP p) e = tt
   round-one (LN p feed) e = tt
-  round-one (AR a) e = rw e (bounds bed s b steady .centre)
-  round-one (AL a) e = rw e (bounds bed s b steady .centre)
+  round-one (AR a) e = rw (e .is) (bounds bed s b steady (e .left) (e .fits) .centre)
+  round-one (AL a) e = rw (e .is) (bounds bed s b steady (e .left) (e .fits) .centre)
   round-one (DW ms) e = tt
   round-one (SP speed) e = tt
   round-one SO e = tt
@@ -79,23 +82,26 @@ module _ (bed : Bed) (s : State) (b : Said) (steady : Steady bed s b) where
   round Rest e = tt
   round (Single r) e = round-one r e
   round (Passes h) e = tt
+  round Impossible e = tt
 
-  words-near : Near 1_000_000_000 (centreWords v)
-  unfolding centreWords
-  words-near = let sizes = steady .said .sizes in record { x = sizes .i; y = sizes .j; z = sizes .k }
+  -- a point that is near another can be moved where that one is near
+  reach-loose : (c p : Flat) → Reach 1_000_000_000 c p → FlatNear 1_100_000_000 p → FlatNear (2 ^ 61) c
+  reach-loose c p h k = omega (arith, h .first, h .second, k .first, k .second)
 
-  arc-loose : LooseArc (arcFor w o v)
-  unfolding arcFor
-  arc-loose =
-      let near = flat-near (w .modes .plane) (moved (centreWords v) (w .at)) (moved-near (centreWords v) (w .at) words-near (aims bed s b steady .from)) in
-      record { end = target-sums bed s b steady .1; first = omega (arith, near .first); second = omega (arith, near .second) }
+  arc-loose : {a : Arc} → ArcFrom w o v a → LooseArc a
+  unfolding arcTo
+  arc-loose h =
+      let left = h .left in
+      let end = target (w .modes .distance) o (w .at) v in
+      let near = reach-loose (centreFor left w v end) (flat (w .modes .plane) (w .at)) (centre-close bed s b steady left (h .fits)) (flat-near (w .modes .plane) (w .at) (aims bed s b steady .from)) in
+      rw (h .is) (record { end = target-sums bed s b steady .1; first = near .first; second = near .second })
 
   loose-one : (r : Record) → RecordFrom w o v r → Loose (pathOf r)
   unfolding pathOf
   loose-one (RP p) e = rw e (target-sums bed s b steady .1)
   loose-one (LN p feed) e = rw e (target-sums bed s b steady .1)
-  loose-one (AR a) e = rw e arc-loose
-  loose-one (AL a) e = rw e arc-loose
+  loose-one (AR a) e = arc-loose e
+  loose-one (AL a) e = arc-loose e
   loose-one (DW ms) e = tt
   loose-one (SP speed) e = tt
   loose-one SO e = tt
@@ -106,13 +112,14 @@ module _ (bed : Bed) (s : State) (b : Said) (steady : Steady bed s b) where
   loose Rest e = tt
   loose (Single r) e = loose-one r e
   loose (Passes h) e = tt
+  loose Impossible e = tt
 
   ready-one : (r : Record) → RecordFrom w o v r → pathHolds (w .at) (pathOf r) ≡ true → Arcs.PathBounds (bed .travel) (w .at) (pathOf r)
   unfolding pathOf pathHolds
   ready-one (RP p) e h = tt
   ready-one (LN p feed) e h = tt
-  ready-one (AR a) e h = record { bounds = rw e (bounds bed s b steady); holds = h }
-  ready-one (AL a) e h = record { bounds = rw e (bounds bed s b steady); holds = h }
+  ready-one (AR a) e h = record { bounds = rw (e .is) (bounds bed s b steady (e .left) (e .fits)); holds = h }
+  ready-one (AL a) e h = record { bounds = rw (e .is) (bounds bed s b steady (e .left) (e .fits)); holds = h }
   ready-one (DW ms) e h = tt
   ready-one (SP speed) e h = tt
   ready-one SO e h = tt
@@ -124,11 +131,13 @@ module _ (bed : Bed) (s : State) (b : Said) (steady : Steady bed s b) where
   ready Rest e h = tt
   ready (Single r) e h = ready-one r e h
   ready (Passes hole) e h = passing bed s b steady (e .cycle) (e .named)
+  ready Impossible e h = tt
 
   counts : (p : Plan) → From (b .code) w o v p → PlanCounts v p
   counts Rest e = tt
   counts (Single r) e = tt
   counts (Passes h) e = passing bed s b steady (e .cycle) (e .named) .k
+  counts Impossible e = tt
 
   can-put :
       (p : Plan) → From (b .code) w o v p → staysIn (bed .travel) (w .at) (planRecords p (w .modes .distance) o (w .at) v) ≡ true
@@ -136,6 +145,7 @@ module _ (bed : Bed) (s : State) (b : Said) (steady : Steady bed s b) where
   unfolding planRecords
   can-put Rest e h = tt
   can-put (Single r) e h = tt
+  can-put Impossible e h = tt
   can-put (Passes hole) e h = rw (e .is) (puts bed s b steady (e .cycle) (e .named) (rw (e .is) at h))
 
 -- the same of a plan that a function made

@@ -31,7 +31,7 @@ use Rattle.records.specs.Serving.{Wrote}
 use Rattle.records.proofs.Laid.{list-length}
 use Rattle.records.proofs.Written.{wrote-none}
 use Rattle.settings.specs.declared.State.{State}
-use Rattle.letters.specs.Letters.{firstThatMayNot, firstUnused, firstBadValue, valuesOf}
+use Rattle.letters.specs.Letters.{firstThatMayNot, hasCentre, firstUnused, firstBadValue, valuesOf}
 use Rattle.letters.specs.Judging.{unusedOr, badOr, judgedBy}
 use Rattle.letters.specs.declared.Judged.{Judged}
 use Rattle.letters.specs.declared.Judged.the-variants.{Fine, Unused, Bad}
@@ -232,14 +232,17 @@ module _ (machine : Machine) (calls : Calls) (room : ℕ) (s : State) (start : �
   abbrev b : Said
   b = saidBy machine (s .modes) ws
 
+  abbrev centred : Bool
+  centred = hasCentre (b .code) (b .modes .plane) ws
+
   abbrev unused : Option Word
-  unused = firstUnused (b .code) (b .modes .plane) ws
+  unused = firstUnused (b .code) (b .modes .plane) centred ws
 
   abbrev bad : Option Word
   bad = firstBadValue (machine .speeds) (b .modes) (b .code) ws
 
   abbrev judgement : Judged
-  judgement = judgedBy (machine .speeds) (b .modes) (b .code) ws
+  judgement = judgedBy (machine .speeds) (b .modes) (b .code) centred ws
 
   pub values-past :
       {values : Values} → Fine values ≡ judgement

@@ -18,6 +18,18 @@ array-read-block-code c = search needs
 block-code-requires : tie.Need-block-code-requires
 block-code-requires c κs = search needs
 
+array-read-has-centre : tie.Need-array-read-has-centre
+array-read-has-centre c = search needs
+
+array-read-has-centre-2 : tie.Need-array-read-has-centre-2
+array-read-has-centre-2 c = search needs
+
+array-read-has-centre-3 : tie.Need-array-read-has-centre-3
+array-read-has-centre-3 c = search needs
+
+has-centre-requires : tie.Need-has-centre-requires
+has-centre-requires c κs = search needs
+
 judge-requires : tie.Need-judge-requires
 judge-requires c κs = search needs
 
@@ -30,34 +42,35 @@ enum-known-byte-2 c = search needs
 enum-known-values : tie.Need-enum-known-values
 enum-known-values c = search needs
 
-array-read-t33 : tie.Need-array-read-t33
-array-read-t33 c = search needs
+array-read-t44 : tie.Need-array-read-t44
+array-read-t44 c = search needs
 
 obey-requires : tie.Need-obey-requires
 obey-requires c κs =
-    let s = c .before .before .before .before .before .before .before .before .before .before .before .before .before in
+    let s = c .before .before .before .before .before .before .before .before .before .before .before .before .before .before .before in
     let a = s .args in
     let h = s .pre .1 in
-    let code = c .before .before .before .before .before .before .before .before .block-code .ensures in
-    let is = judged-is (a .bed) (a .state) (a .read) (h .heard) (h .says) code (sym (c .before .before .values .given .1) ∙ c .before .before .before .before .judge .ensures) in (
+    let code = c .before .before .before .before .before .before .before .before .before .before .block-code .ensures in
+    let centred = c .before .before .before .before .before .has-centre .ensures in
+    let is = judged-is (a .bed) (a .state) (a .read) (h .heard) (h .says) code centred (sym (c .before .before .values .given .1) ∙ c .before .before .before .before .judge .ensures) in (
       s .pre .0,
       (steady (a .bed) (a .state) (a .read) (h .heard) (h .says) code is (h .fair) (h .state) (callsIn (subsOf (a .programs)) (a .left)) 0 (a .start), h .ready),
     )
 
 returns : tie.Need-returns
 returns c =
-    let s = c .before .before .before .before .before .before .before .before .before .before .before .before in
+    let s = c .before .before .before .before .before .before .before .before .before .before .before .before .before .before in
     let a = s .args in
     λ ws says.
-    let is = judged-is (a .bed) (a .state) (a .read) ws says (c .before .before .before .before .before .before .before .block-code .ensures) (sym (c .before .byte .given .1) ∙ c .before .before .before .judge .ensures) in
+    let is = judged-is (a .bed) (a .state) (a .read) ws says (c .before .before .before .before .before .before .before .before .before .block-code .ensures) (c .before .before .before .before .has-centre .ensures) (sym (c .before .byte .given .1) ∙ c .before .before .before .judge .ensures) in
     does-refused AddressUndefined (c .before .byte .given .0 .0) (unused-stops (machineOf (a .bed)) _ _ (a .state) (a .start) ws is)
 
 returns-2 : tie.Need-returns-2
 returns-2 c =
-    let s = c .before .before .before .before .before .before .before .before .before .before .before .before in
+    let s = c .before .before .before .before .before .before .before .before .before .before .before .before .before .before in
     let a = s .args in
     λ ws says.
-    let is = judged-is (a .bed) (a .state) (a .read) ws says (c .before .before .before .before .before .before .before .block-code .ensures) (sym (c .before .byte2 .given .1) ∙ c .before .before .before .judge .ensures) in
+    let is = judged-is (a .bed) (a .state) (a .read) ws says (c .before .before .before .before .before .before .before .before .before .block-code .ensures) (c .before .before .before .before .has-centre .ensures) (sym (c .before .byte2 .given .1) ∙ c .before .before .before .judge .ensures) in
     does-refused BadParameter (c .before .byte2 .given .0 .0) (bad-stops (machineOf (a .bed)) _ _ (a .state) (a .start) ws is)
 
 same-length : tie.Need-same-length
@@ -65,13 +78,14 @@ same-length c = search needs
 
 returns-3 : tie.Need-returns-3
 returns-3 c =
-    let s = c .before .before .before .before .before .before .before .before .before .before .before .before .before .before .before .before in
+    let s = c .before .before .before .before .before .before .before .before .before .before .before .before .before .before .before .before .before .before in
     let a = s .args in
     let m = machineOf (a .bed) in
     let calls = callsIn (subsOf (a .programs)) (a .left) in
-    let code = c .before .before .before .before .before .before .before .before .before .before .before .block-code .ensures in
+    let code = c .before .before .before .before .before .before .before .before .before .before .before .before .before .block-code .ensures in
+    let centred = c .before .before .before .before .before .before .before .before .has-centre .ensures in
     λ ws says.
-    let is = judged-is (a .bed) (a .state) (a .read) ws says code (sym (c .before .before .before .before .before .values .given .1) ∙ c .before .before .before .before .before .before .before .judge .ensures) in
+    let is = judged-is (a .bed) (a .state) (a .read) ws says code centred (sym (c .before .before .before .before .before .values .given .1) ∙ c .before .before .before .before .before .before .before .judge .ensures) in
     let same = said-is (a .bed) (a .state) (a .read) ws says code is calls 0 (a .start) in
     does-as (values-past m calls _ (a .state) (a .start) ws is .0) (rw same at (c .before .before .obey .ensures ws))
 
@@ -81,11 +95,15 @@ hear-spec =
     (tie.spec
     array-read-block-code
     block-code-requires
+    array-read-has-centre
+    array-read-has-centre-2
+    array-read-has-centre-3
+    has-centre-requires
     judge-requires
     enum-known-byte
     enum-known-byte-2
     enum-known-values
-    array-read-t33
+    array-read-t44
     obey-requires
     returns
     returns-2
