@@ -19,7 +19,7 @@ use Rattle.arcs.specs.Exact.{RootBetween, RootReaches}
 use Rattle.arcs.proofs.Root.{square-lt}
 
 -- a number whose square is at most another's is at most it
-square-le : (p k : ℕ) → p * p ≤ k * k → p ≤ k
+pub square-le : (p k : ℕ) → p * p ≤ k * k → p ≤ k
 square-le p k h = omega (arith, square-lt p (k + 1) (omega arith))
 
 -- where m * m is below q, a fraction above m is at most the root of q

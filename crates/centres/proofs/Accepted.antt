@@ -1,4 +1,4 @@
--- What it tells that a radius has been accepted. Assumes nothing.
+-- What is known of an arc whose radius has been accepted: the parts of `radiusHolds`, as facts of naturals. Assumes nothing.
 use Prim.Native.Nat.{_+_, _*_, _≤_, _<_}
 use mathlib.Core.Path.{_≡_}
 use mathlib.Core.Bool.{true, _&&_}
@@ -13,22 +13,23 @@ use Rattle.arcs.specs.Arcs.{distance²}
 use Rattle.centres.specs.Centres.{radiusHolds, spare}
 
 module _ (r : ℤ) (s e : Flat) (holds : radiusHolds r s e ≡ true) where
-  pub radius-some : 3_000 ≤ natAbs r
+  first-two : (leb 3_000 (natAbs r) && ltb 0 (distance² s e)) ≡ true
   unfolding radiusHolds
-  radius-some =
-      let a = leb 3_000 (natAbs r) in
-      let b = ltb 0 (distance² s e) in
-      leb-true 3_000 (natAbs r) (both-left a b (both-left (a && b) (leb (distance² s e) (4 * sq r)) holds))
+  first-two = both-left (leb 3_000 (natAbs r) && ltb 0 (distance² s e)) (leb (distance² s e) (4 * sq r)) holds
+
+  pub radius-some : 3_000 ≤ natAbs r
+  radius-some = leb-true 3_000 (natAbs r) (both-left (leb 3_000 (natAbs r)) (ltb 0 (distance² s e)) first-two)
 
   pub chord-some : 0 < distance² s e
-  unfolding radiusHolds
-  chord-some =
-      let a = leb 3_000 (natAbs r) in
-      let b = ltb 0 (distance² s e) in
-      ltb-true 0 (distance² s e) (both-right a b (both-left (a && b) (leb (distance² s e) (4 * sq r)) holds))
+  chord-some = ltb-true 0 (distance² s e) (both-right (leb 3_000 (natAbs r)) (ltb 0 (distance² s e)) first-two)
 
+  pub chord-most : distance² s e ≤ 4 * sq r
+  unfolding radiusHolds
+  chord-most =
+      leb-true (distance² s e) (4 * sq r)
+      (both-right (leb 3_000 (natAbs r) && ltb 0 (distance² s e)) (leb (distance² s e) (4 * sq r)) holds)
+
+  -- so N is what the chord's square lacks of 4 R²
   pub chord-spare : distance² s e + spare r s e ≡ 4 * sq r
-  unfolding radiusHolds spare
-  chord-spare =
-      let d = distance² s e in
-      omega (arith, leb-true d (4 * sq r) (both-right (leb 3_000 (natAbs r) && ltb 0 d) (leb d (4 * sq r)) holds))
+  unfolding spare
+  chord-spare = omega (arith, chord-most)

@@ -9,9 +9,10 @@ use Rattle.lengths.specs.View.{over, under}
 use Rattle.lengths.proofs.Laws.{view, sum-bal, diff-bal, abs-mul, abs-sum}
 use Rattle.lengths.proofs.Ring.{var, _⊞_, _⊠_}
 use Rattle.arcs.specs.Root.{Root, rootBelow}
+use Rattle.arcs.proofs.Extremes.{square-le}
 use Rattle.arcs.proofs.Root.{root-below}
-use Rattle.centres.specs.Centres.{signedSquare, RoundedDown}
-use Rattle.centres.proofs.Triangle.{square-le}
+use Rattle.centres.specs.Centres.{RoundedDown}
+use Rattle.centres.proofs.SignedSquares.{square-bal}
 
 below-power : (q : ℕ) → q < 4 ^ q
 below-power zero = omega arith
@@ -56,7 +57,7 @@ module _ {N m f n : ℕ} (some : 0 < m) (near : Fraction N m f n) where
 
   -- the same of signed numbers: n · t − q · f is at most |q|, and at least − |q|
   not-above :
-      (q t : ℤ) → over t * natAbs t * m + under q * natAbs q * N ≤ over q * natAbs q * N + under t * natAbs t * m
+      (q t : ℤ) → over t * over t * m + under q * under q * N ≤ over q * over q * N + under t * under t * m
       → n * over t + under q * f ≤ n * under t + over q * f + natAbs q
   not-above (pos b) (pos t) h = omega (arith, below b t (omega arith))
   not-above (pos b) (negsuc t) h = omega arith
@@ -64,7 +65,7 @@ module _ {N m f n : ℕ} (some : 0 < m) (near : Fraction N m f n) where
   not-above (negsuc b) (negsuc t) h = omega (arith, above (suc b) (suc t) (omega arith))
 
   not-below :
-      (q t : ℤ) → over q * natAbs q * N + under t * natAbs t * m ≤ over t * natAbs t * m + under q * natAbs q * N
+      (q t : ℤ) → over q * over q * N + under t * under t * m ≤ over t * over t * m + under q * under q * N
       → n * under t + over q * f ≤ n * over t + under q * f + natAbs q
   not-below (pos b) (pos t) h = omega (arith, above b t (omega arith))
   not-below (pos b) (negsuc t) h = omega (arith, below b (suc t) (omega arith), above b 0 (omega arith))
@@ -73,17 +74,13 @@ module _ {N m f n : ℕ} (some : 0 < m) (near : Fraction N m f n) where
 
   -- So twice a coordinate that was rounded down is less than 2 units, and what the fraction lacks, from where it exactly is.
   pub apart : (p q c : ℤ) → RoundedDown p q N m c → Apart q f n (c +ℤ c -ℤ p)
-  unfolding signedSquare
   apart p q c h =
       let t = c +ℤ c -ℤ p in
       let u = c +ℤ c +ℤ pos 2 -ℤ p in
       let e : over u + under t ≡ under u + over t + 2 =
       omega (arith, diff-bal (c +ℤ c) p, diff-bal (c +ℤ c +ℤ pos 2) p, sum-bal (c +ℤ c) (pos 2)) in
-      let a = (var t ⊠ var (pos (natAbs t)) ⊠ var (pos m)) .bal in
-      let b = (var q ⊠ var (pos (natAbs q)) ⊠ var (pos N)) .bal in
-      let d = (var u ⊠ var (pos (natAbs u)) ⊠ var (pos m)) .bal in
-      let k = not-above q t (omega (arith, view, a, b, h .notAbove)) in
-      let l = not-below q u (omega (arith, view, b, d, h .largest)) in
+      let k = not-above q t (omega (arith, view, square-bal t m, square-bal q N, h .notAbove)) in
+      let l = not-below q u (omega (arith, view, square-bal q N, square-bal u m, h .largest)) in
       omega (arith, k, l, ap (λ (x : ℕ). n * x) e)
 
 -- so x = n · (w + t) and v = n · w + q · f are as near to each other

@@ -5,15 +5,14 @@ use mathlib.Core.Bool.{Bool, true, false, _&&_, and-false}
 use native.Mathlib.Nat.{mul-le-mul, mul-le-mul-left, mul-le-mul-right, lt-of-mul-lt-mul-right, eq-of-mul-eq-mul-right, div-add-mod', div-le-of-le-mul}
 use native.Mathlib.Numerals.{add-one}
 use native.Mathlib.Omega.{arith}
-use lib.Dec.{leb, ltb, eqb}
+use lib.Dec.{eqb}
 use lib.IntN.{ℤ, pos, negsuc, negℤ, _-ℤ_, natAbs}
 use lib.Signed.{leZ}
-use borrow.Author.Tests.{leb-true, ltb-true, lt-leb, eq-eqb, ne-eqb, eqb-true, eqb-false}
+use borrow.Author.Tests.{lt-leb, eq-eqb, ne-eqb, eqb-true, eqb-false}
 use Rattle.terms.specs.Terms.{if_then_else_}
-use Rattle.terms.proofs.Laws.{both-left, both-right}
 use Rattle.lengths.specs.Units.{sq}
 use Rattle.lengths.specs.View.{Within}
-use Rattle.lengths.proofs.Laws.{neg-over, neg-under, sq-near, near-sq, sq-neg}
+use Rattle.lengths.proofs.Laws.{neg-over, neg-under, sq-near, near-sq}
 use Rattle.points.specs.declared.Flat.{Flat}
 use Rattle.arcs.specs.Root.{Root, root}
 use Rattle.arcs.specs.Turning.{direction}
@@ -23,6 +22,8 @@ use Rattle.arcs.proofs.Root.{root-is, square-lt}
 use Rattle.arcs.proofs.Reach.{near-distance}
 use Rattle.centres.specs.Centres.{radiusHolds, across, spare, scaledRoot}
 use Rattle.centres.specs.Bounds.{Spanned, Divisible, Coordinates}
+use Rattle.centres.proofs.Accepted.{chord-some, chord-most}
+use Rattle.centres.proofs.Sides.{across-first, across-second}
 
 -- ---- whether a circle of the radius goes through start and end
 
@@ -123,44 +124,25 @@ module _ (q : ℤ) (n d : ℕ) (h : Divisible q n d) where
 
 -- ---- an arc whose radius has been accepted
 
--- each coordinate of the way across is, but for its sign, one of the way from start to end
-part-of-chord :
-    (left : Bool) (s e : Flat)
-    → (let q = across left (direction s e) in (sq (q .first .v) ≤ distance² s e) × (sq (q .second .v) ≤ distance² s e))
-unfolding across direction distance²
-part-of-chord true s e = omega (arith, sq-neg (e .second .v -ℤ s .second .v))
-part-of-chord false s e = omega (arith, sq-neg (e .first .v -ℤ s .first .v))
-
 module _ (r : ℤ) (s e : Flat) (h : Spanned r s e) where
   pub radius-most : 4 * sq r ≤ 4_000_000_000_000_000_000
   radius-most = omega (arith, sq-near r (h .chord .radius))
 
-  pub chord-most : distance² s e ≤ 4 * sq r
-  unfolding radiusHolds
-  chord-most =
-      leb-true (distance² s e) (4 * sq r)
-      (both-right (leb 3_000 (natAbs r) && ltb 0 (distance² s e)) (leb (distance² s e) (4 * sq r)) (h .holds))
-
-  chord-some : 0 < distance² s e
-  unfolding radiusHolds
-  chord-some =
-      let t = both-left (leb 3_000 (natAbs r) && ltb 0 (distance² s e)) (leb (distance² s e) (4 * sq r)) (h .holds) in
-      ltb-true 0 (distance² s e) (both-right (leb 3_000 (natAbs r)) (ltb 0 (distance² s e)) t)
-
   pub chord-reach : Reach 3_000_000_000 s e
   chord-reach =
-      let k = near-distance {n = 2_000_000_000} s e (omega (arith, chord-most, radius-most)) in
+      let k = near-distance {n = 2_000_000_000} s e (omega (arith, chord-most r s e (h .holds), radius-most)) in
       omega (arith, k)
 
   divisible : (q : ℤ) → sq q ≤ distance² s e → Divisible q (spare r s e) (distance² s e)
   unfolding spare
   divisible q k =
+      let most : distance² s e ≤ 4_000_000_000_000_000_000 = omega (arith, chord-most r s e (h .holds), radius-most) in
       record {
-        some = chord-some;
+        some = chord-some r s e (h .holds);
         part = k;
-        most = omega (arith, chord-most, radius-most);
-        spare = omega (arith, chord-most, radius-most);
-        near = near-sq q (omega (arith, chord-most, radius-most));
+        most = most;
+        spare = omega (arith, radius-most);
+        near = near-sq q (omega arith);
       }
 
   module _ (left : Bool) (q : Flat) (n d : ℕ) (qs : q ≡ across left (direction s e)) (ns : n ≡ spare r s e) (ds : d ≡ distance² s e) where
@@ -170,7 +152,7 @@ module _ (r : ℤ) (s e : Flat) (h : Spanned r s e) where
         (record {
           start = h .chord .start .first;
           end = h .chord .end .first;
-          divisible = divisible (across left (direction s e) .first .v) (part-of-chord left s e .0);
+          divisible = divisible (across left (direction s e) .first .v) (omega (arith, across-first left s e));
         })
 
     pub second-coordinates : Coordinates (s .second) (e .second) (q .second) n d
@@ -179,5 +161,5 @@ module _ (r : ℤ) (s e : Flat) (h : Spanned r s e) where
         (record {
           start = h .chord .start .second;
           end = h .chord .end .second;
-          divisible = divisible (across left (direction s e) .second .v) (part-of-chord left s e .1);
+          divisible = divisible (across left (direction s e) .second .v) (omega (arith, across-second left s e));
         })

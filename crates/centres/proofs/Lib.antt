@@ -7,4 +7,5 @@ pub mod Opened
 pub mod Reaching
 pub mod Rounding
 pub mod Sides
+pub mod SignedSquares
 pub mod Triangle

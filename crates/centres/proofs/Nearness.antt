@@ -17,11 +17,12 @@ use Rattle.points.specs.declared.Flat.{Flat}
 use Rattle.arcs.specs.Root.{root}
 use Rattle.arcs.specs.Turning.{direction, dot}
 use Rattle.arcs.specs.Arcs.{distance², roundEnough}
+use Rattle.arcs.proofs.Extremes.{square-le}
 use Rattle.arcs.proofs.Root.{root-is, square-lt}
 use Rattle.centres.specs.Centres.{radiusHolds, across, spare, Centre}
 use Rattle.centres.specs.Nearness.{WithinTwo, Nearby}
 use Rattle.centres.proofs.Accepted.{radius-some, chord-some, chord-spare}
-use Rattle.centres.proofs.Triangle.{square-le, triangle, Quarter, across-square}
+use Rattle.centres.proofs.Triangle.{triangle, Quarter, right-angled}
 use Rattle.centres.proofs.Approximating.{Fraction, fraction, Apart, apart, spans}
 use Rattle.centres.proofs.Sides.{perpendicular, perpendicular-back, as-long}
 
@@ -123,7 +124,7 @@ module _ {m N f : ℕ} (some : 0 < m) (near : Fraction N m f (5 * m)) (w₁ w₂
       let p₂ = natAbs q₂ in
       let x = natAbs (w₁ +ℤ t₁) in
       let y = natAbs (w₂ +ℤ t₂) in
-      let e = across-square w₁ w₂ q₁ q₂ f (5 * m) h in
+      let e = right-angled w₁ w₂ q₁ q₂ f (5 * m) h in
       let k = spans w₁ q₁ t₁ a in
       let l = spans w₂ q₂ t₂ b in
       let least = more-than R m N f some whole near v₁ v₂ p₁ p₂ x y e (h .wide) (R - 2) (omega arith) (k .1) (l .1) in

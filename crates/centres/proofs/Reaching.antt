@@ -1,11 +1,10 @@
 -- The centre lies on each axis at most the radius from the start: the exact centre does, and rounding down does not pass a whole
 -- number. Assumes nothing.
-use Prim.Native.Nat.{ℕ, zero, suc, _+_, _-_, _*_, _≤_, _<_}
+use Prim.Native.Nat.{ℕ, zero, suc, _+_, _*_, _≤_, _<_}
 use mathlib.Core.Path.{_≡_, sym}
 use mathlib.Core.Bool.{Bool, true}
 use native.Mathlib.Nat.{mul-le-mul, mul-le-mul-left}
 use native.Mathlib.Omega.{arith}
-use native.Mathlib.Decide.{decLe}
 use lib.IntN.{ℤ, pos, negsuc, negℤ, _+ℤ_, _-ℤ_, _*ℤ_, natAbs}
 use lib.Signed.{leZ}
 use Rattle.lengths.specs.Units.{len, sq}
@@ -17,15 +16,11 @@ use Rattle.arcs.specs.Arcs.{distance²}
 use Rattle.arcs.specs.Bounds.{Close, Reach}
 use Rattle.centres.specs.Centres.{across, spare, signedSquare, RoundedDown, centreBy}
 use Rattle.centres.specs.Bounds.{Spanned}
-use Rattle.centres.proofs.Rounding.{square-bal, less-square, most-square, held, across-first, across-second, centre-is}
-
--- (a − b)² is not below 0
-twice-product : (a b : ℕ) → 2 * (a * b) ≤ a * a + b * b
-twice-product a b =
-    elim (decLe a b) [
-      | yes h ↦ let c = b - a in let e : b ≡ a + c = omega arith in rw e (omega arith)
-      | no h ↦ let c = a - b in let e : a ≡ b + c = omega arith in rw e (omega arith)
-    ]
+use Rattle.centres.proofs.Accepted.{chord-some, chord-spare}
+use Rattle.centres.proofs.SignedSquares.{square-bal, less-square, most-square}
+use Rattle.centres.proofs.Triangle.{twice-product}
+use Rattle.centres.proofs.Sides.{across-first, across-second}
+use Rattle.centres.proofs.Rounding.{centre-is}
 
 -- Let x be the chord's size on an axis, across² + x² its square, and n what that lacks of 4 m². Where t and x together are at least 2 m,
 -- n + across² is at most t² + 2 t x, and the rest is that (across² − t x)² is not below 0.
@@ -96,17 +91,16 @@ module _ (m : ℕ) (s e q : ℤ) (n d : ℕ) (some : 0 < d) (whole : sq q + sq (
     coordinate-reach h = omega (arith, coordinate-low, coordinate-high)
 
 pub centre-reach : (left : Bool) (r : ℤ) (s e : Flat) → Spanned r s e → Reach 1_000_000_000 (centreBy left r s e) s
-unfolding spare
 centre-reach left r s e h =
     let q = across left (direction s e) in
     let d = distance² s e in
     let m = natAbs r in
-    let n = 4 * sq r - d in
-    let g = held r s e (h .holds) in
-    let all : n + d ≡ 4 * (m * m) = omega arith in
+    let n = spare r s e in
+    let some = chord-some r s e (h .holds) in
+    let all : n + d ≡ 4 * (m * m) = omega (arith, chord-spare r s e (h .holds)) in
     let c = centre-is left r s e (h .chord .radius) (h .holds) in
     let k = near-abs r (h .chord .radius) in
     record {
-      first = coordinate-reach m (s .first .v) (e .first .v) (q .first .v) n d (g .some) (across-first left s e) all (c .first) k;
-      second = coordinate-reach m (s .second .v) (e .second .v) (q .second .v) n d (g .some) (across-second left s e) all (c .second) k;
+      first = coordinate-reach m (s .first .v) (e .first .v) (q .first .v) n d some (across-first left s e) all (c .first) k;
+      second = coordinate-reach m (s .second .v) (e .second .v) (q .second .v) n d some (across-second left s e) all (c .second) k;
     }

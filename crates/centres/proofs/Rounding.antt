@@ -1,81 +1,36 @@
 -- What the rules compute is the exact centre, each coordinate rounded down, and there is only one such centre. Assumes nothing.
 use Prim.Native.Nat.{ℕ, zero, suc, _+_, _-_, _*_, _/_, _^_, _≤_, _<_}
-use mathlib.Core.Path.{_≡_, refl, ap}
-use mathlib.Core.Bool.{Bool, true, false, _&&_}
-use native.Mathlib.Nat.{mul-le-mul, mul-le-mul-right, div-mul-le-self, lt-div-mul-add, div-le-of-le-mul}
+use mathlib.Core.Path.{_≡_, refl}
+use mathlib.Core.Bool.{Bool, true, false}
+use native.Mathlib.Nat.{mul-le-mul-right, div-mul-le-self, lt-div-mul-add, div-le-of-le-mul}
 use native.Mathlib.Omega.{arith}
-use lib.Dec.{leb, ltb, eqb}
-use lib.IntN.{ℤ, pos, negsuc, negℤ, _+ℤ_, _-ℤ_, _*ℤ_, natAbs}
+use lib.Dec.{eqb}
+use lib.IntN.{ℤ, pos, negsuc, negℤ, _+ℤ_, _-ℤ_, _*ℤ_}
 use lib.Signed.{leZ, ltZ}
-use borrow.Author.Tests.{leb-true, ltb-true, eqb-true, eqb-false}
+use borrow.Author.Tests.{eqb-true, eqb-false}
 use Rattle.terms.specs.Terms.{if_then_else_}
-use Rattle.terms.proofs.Laws.{both-left, both-right}
 use Rattle.lengths.specs.Units.{sq, halved}
 use Rattle.lengths.specs.View.{over, under, Within}
-use Rattle.lengths.proofs.Laws.{view, sum-bal, diff-bal, mul-bal, neg-over, neg-under, halved-over, halved-under, sq-neg, sq-near}
+use Rattle.lengths.proofs.Laws.{view, sum-bal, diff-bal, neg-over, neg-under, halved-over, halved-under, sq-near}
 use Rattle.points.specs.declared.Flat.{Flat}
 use Rattle.arcs.specs.Root.{Root, root}
 use Rattle.arcs.specs.Turning.{direction}
 use Rattle.arcs.specs.Arcs.{distance²}
 use Rattle.arcs.proofs.Root.{root-is}
 use Rattle.centres.specs.Centres.{radiusHolds, across, spare, signedSquare, RoundedDown, Centre, scaledRoot, coordinate, centreBy}
+use Rattle.centres.proofs.Accepted.{chord-some}
+use Rattle.centres.proofs.SignedSquares.{square-bal, square-most, square-less, less-square}
+use Rattle.centres.proofs.Sides.{across-first, across-second}
 
--- ---- signed squares, multiplied by a natural
+-- ---- the root that is computed
 
--- the signed square is over² − under², one of the two being 0
-pub square-bal :
-    (z : ℤ) (d : ℕ) → over (signedSquare z *ℤ pos d) + under z * under z * d ≡ under (signedSquare z *ℤ pos d) + over z * over z * d
-unfolding signedSquare
-square-bal (pos n) d = omega arith
-square-bal (negsuc n) d =
-    let s = negsuc n *ℤ pos (suc n) in
-    let e = mul-bal (negsuc n) (pos (suc n)) in
-    omega (arith, mul-bal s (pos d), ap (λ (x : ℕ). x * d) e)
-
+-- below 0 it is − m or one less
 negated-bal : (m d : ℕ) → over (signedSquare (negℤ (pos m)) *ℤ pos d) + m * m * d ≡ under (signedSquare (negℤ (pos m)) *ℤ pos d)
 negated-bal zero d = omega (arith, square-bal (pos zero) d)
 negated-bal (suc m) d = omega (arith, square-bal (negsuc m) d)
 
 one-above : (m : ℕ) → negsuc m +ℤ pos 1 ≡ negℤ (pos m)
 one-above m = omega (arith, view, sum-bal (negsuc m) (pos 1), neg-over (pos m), neg-under (pos m))
-
--- the larger of two numbers has the larger signed square
-pub square-most : (a b : ℤ) (d : ℕ) → leZ a b ≡ true → leZ (signedSquare a *ℤ pos d) (signedSquare b *ℤ pos d) ≡ true
-square-most (pos a) (pos b) d h =
-    let g : a ≤ b = omega (arith, view) in
-    omega (arith, view, square-bal (pos a) d, square-bal (pos b) d, mul-le-mul-right d (mul-le-mul g g))
-square-most (pos a) (negsuc b) d h = omega (arith, view, h)
-square-most (negsuc a) (pos b) d h = omega (arith, view, square-bal (negsuc a) d, square-bal (pos b) d)
-square-most (negsuc a) (negsuc b) d h =
-    let g : suc b ≤ suc a = omega (arith, view) in
-    omega (arith, view, square-bal (negsuc a) d, square-bal (negsuc b) d, mul-le-mul-right d (mul-le-mul g g))
-
-pub square-less : (a b : ℤ) (d : ℕ) → 0 < d → ltZ a b ≡ true → ltZ (signedSquare a *ℤ pos d) (signedSquare b *ℤ pos d) ≡ true
-square-less (pos a) (pos b) d k h =
-    let g : suc a ≤ b = omega (arith, view) in
-    omega (arith, view, square-bal (pos a) d, square-bal (pos b) d, mul-le-mul-right d (mul-le-mul g g))
-square-less (pos a) (negsuc b) d k h = omega (arith, view, h)
-square-less (negsuc a) (pos b) d k h = omega (arith, view, square-bal (negsuc a) d, square-bal (pos b) d)
-square-less (negsuc a) (negsuc b) d k h =
-    let g : suc (suc b) ≤ suc a = omega (arith, view) in
-    omega (arith, view, square-bal (negsuc a) d, square-bal (negsuc b) d, mul-le-mul-right d (mul-le-mul g g))
-
--- and the other way round
-pub less-square : (a b : ℤ) (d : ℕ) → ltZ (signedSquare a *ℤ pos d) (signedSquare b *ℤ pos d) ≡ true → ltZ a b ≡ true
-less-square a b d h = go (ltZ a b) refl
-  where
-    go : (t : Bool) → ltZ a b ≡ t → t ≡ true
-    go true e = refl
-    go false e = let g : leZ b a ≡ true = omega (arith, view) in absurd (omega (arith, view, h, square-most b a d g))
-
-pub most-square : (a b : ℤ) (d : ℕ) → 0 < d → leZ (signedSquare a *ℤ pos d) (signedSquare b *ℤ pos d) ≡ true → leZ a b ≡ true
-most-square a b d k h = go (leZ a b) refl
-  where
-    go : (t : Bool) → leZ a b ≡ t → t ≡ true
-    go true e = refl
-    go false e = let g : ltZ b a ≡ true = omega (arith, view) in absurd (omega (arith, view, h, square-less b a d k g))
-
--- ---- the root that is computed
 
 -- z is q · √(n / d) rounded down
 record Floor (q : ℤ) (n d : ℕ) (z : ℤ) : Type 0 where
@@ -180,45 +135,19 @@ rounded-one {p} {q} {n} {d} {a} {b} f g = omega (arith, view, not-below f g, not
 
 -- ---- the centre
 
--- what it means that the radius is accepted
-pub record Held (r : ℤ) (s e : Flat) : Type 0 where
-  pub some : 0 < distance² s e
-  pub most : distance² s e ≤ 4 * sq r
-
-pub held : (r : ℤ) (s e : Flat) → radiusHolds r s e ≡ true → Held r s e
-unfolding radiusHolds
-held r s e h =
-    let d = distance² s e in
-    let f = both-left (leb 3_000 (natAbs r) && ltb 0 d) (leb d (4 * sq r)) h in
-    record {
-      some = ltb-true 0 d (both-right (leb 3_000 (natAbs r)) (ltb 0 d) f);
-      most = leb-true d (4 * sq r) (both-right (leb 3_000 (natAbs r) && ltb 0 d) (leb d (4 * sq r)) h);
-    }
-
--- the way across has on one axis what the way has on the other, so its square is what that axis lacks of the chord's
-pub across-first : (left : Bool) (s e : Flat) → sq (across left (direction s e) .first .v) + sq (e .first .v -ℤ s .first .v) ≡ distance² s e
-unfolding across direction distance²
-across-first true s e = omega (arith, sq-neg (e .second .v -ℤ s .second .v))
-across-first false s e = omega arith
-
-pub across-second : (left : Bool) (s e : Flat) → sq (across left (direction s e) .second .v) + sq (e .second .v -ℤ s .second .v) ≡ distance² s e
-unfolding across direction distance²
-across-second true s e = omega arith
-across-second false s e = omega (arith, sq-neg (e .first .v -ℤ s .first .v))
-
 pub centre-is : (left : Bool) (r : ℤ) (s e : Flat) → Within 1_000_000_000 r → radiusHolds r s e ≡ true → Centre left r s e (centreBy left r s e)
 unfolding centreBy spare
 centre-is left r s e w h =
     let q = across left (direction s e) in
     let d = distance² s e in
-    let g = held r s e h in
+    let some = chord-some r s e h in
     let small : 4 * sq r - d < 2 ^ 64 = omega (arith, sq-near r w) in
     record {
       first =
-          coordinate-is (s .first .v +ℤ e .first .v) (q .first .v) (4 * sq r - d) d (g .some)
+          coordinate-is (s .first .v +ℤ e .first .v) (q .first .v) (4 * sq r - d) d some
           (omega (arith, across-first left s e)) small;
       second =
-          coordinate-is (s .second .v +ℤ e .second .v) (q .second .v) (4 * sq r - d) d (g .some)
+          coordinate-is (s .second .v +ℤ e .second .v) (q .second .v) (4 * sq r - d) d some
           (omega (arith, across-second left s e)) small;
     }
 

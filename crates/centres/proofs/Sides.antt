@@ -1,22 +1,25 @@
--- On which side of the chord the exact centre lies, and what that has to do with half a turn. Assumes nothing.
-use Prim.Native.Nat.{ℕ, zero, suc, _+_, _*_, _≤_, _<_}
+-- The way across from the chord (`across`): at right angles to it and as long. Then on which side of the chord the exact centre lies
+-- and what that has to do with half a turn, and the chord of twice the radius, whose middle is the centre. Assumes nothing.
+use Prim.Native.Nat.{ℕ, _+_, _*_, _<_}
 use mathlib.Core.Path.{_≡_, ap, _∙_}
 use mathlib.Core.Bool.{Bool, true, false}
 use native.Mathlib.Nat.{mul-le-mul}
 use native.Mathlib.Omega.{arith}
-use lib.IntN.{ℤ, pos, negsuc, negℤ, _+ℤ_, _-ℤ_, _*ℤ_, natAbs}
+use lib.IntN.{ℤ, pos, negℤ, _+ℤ_, _-ℤ_, _*ℤ_}
 use lib.Signed.{ltZ}
 use borrow.Author.Tests.{lt-ltb}
 use Rattle.lengths.specs.Units.{sq, halved}
-use Rattle.lengths.specs.View.{over, under}
 use Rattle.lengths.proofs.Laws.{view, sq-neg, sq-mul, halved-over, halved-under}
 use Rattle.lengths.proofs.Ring.{var, _⊞_, _⊟_, _⊠_, neg, same}
 use Rattle.points.specs.declared.Flat.{Flat}
 use Rattle.arcs.specs.Arcs.{distance²}
 use Rattle.arcs.specs.Turning.{direction, cross, dot, left}
-use Rattle.centres.specs.Centres.{radiusHolds, across, spare, signedSquare, RoundedDown, Centre}
+use Rattle.centres.specs.Centres.{radiusHolds, across, spare, RoundedDown, Centre}
 use Rattle.centres.specs.Sides.{times, acrossAt}
 use Rattle.centres.proofs.Accepted.{chord-some, chord-spare}
+use Rattle.centres.proofs.SignedSquares.{square-bal, less-square, most-square}
+
+-- ---- at right angles and as long
 
 -- the way across is at right angles to the way from start to end, and to the way back
 pub perpendicular : (side : Bool) (d : Flat) → dot d (across side d) ≡ pos 0
@@ -45,13 +48,23 @@ perpendicular-back false s e =
     let d = var (e .second .v) in
     same ((a ⊟ c) ⊠ (d ⊟ b) ⊞ (b ⊟ d) ⊠ neg (c ⊟ a)) (var (pos 0)) (omega arith)
 
--- and as long as the chord
+-- it has on one axis what the way has on the other, so its square there is what that axis lacks of the chord's
+pub across-first : (side : Bool) (s e : Flat) → sq (across side (direction s e) .first .v) + sq (e .first .v -ℤ s .first .v) ≡ distance² s e
+unfolding across direction distance²
+across-first true s e = omega (arith, sq-neg (e .second .v -ℤ s .second .v))
+across-first false s e = omega arith
+
+pub across-second : (side : Bool) (s e : Flat) → sq (across side (direction s e) .second .v) + sq (e .second .v -ℤ s .second .v) ≡ distance² s e
+unfolding across direction distance²
+across-second true s e = omega arith
+across-second false s e = omega (arith, sq-neg (e .first .v -ℤ s .first .v))
+
+-- so it is as long as the chord
 pub as-long :
     (side : Bool) (s e : Flat)
     → sq (across side (direction s e) .first .v) + sq (across side (direction s e) .second .v) ≡ distance² s e
-unfolding across direction distance²
-as-long true s e = omega (arith, sq-neg (e .second .v -ℤ s .second .v))
-as-long false s e = omega (arith, sq-neg (e .first .v -ℤ s .first .v))
+unfolding distance²
+as-long side s e = omega (arith, across-first side s e, across-second side s e)
 
 -- ---- to the left, or to the right
 
@@ -207,28 +220,12 @@ pub chord-longest :
     → (spare r s e ≡ 0 → distance² s e ≡ 4 * sq r) × (distance² s e ≡ 4 * sq r → spare r s e ≡ 0)
 chord-longest r s e holds = omega (arith, chord-spare r s e holds)
 
--- a number is not above 0, or is above it, where its signed square is so
-not-over : (t : ℤ) (d : ℕ) → 0 < d → over t * natAbs t * d ≤ under t * natAbs t * d → over t ≤ under t
-not-over (pos zero) d some h = omega arith
-not-over (pos (suc t)) d some h = omega arith
-not-over (negsuc t) d some h = omega arith
-
-not-under : (t : ℤ) (d : ℕ) → 0 < d → under t * natAbs t * d < over t * natAbs t * d → under t < over t
-not-under (pos zero) d some h = omega arith
-not-under (pos (suc t)) d some h = omega arith
-not-under (negsuc t) d some h = omega arith
-
--- one coordinate
+-- one coordinate: its signed squares are compared with 0
 middle : (p q c : ℤ) (d : ℕ) → 0 < d → RoundedDown p q 0 d c → c ≡ halved p
-unfolding signedSquare
 middle p q c d some h =
-    let t = c +ℤ c -ℤ p in
-    let u = c +ℤ c +ℤ pos 2 -ℤ p in
-    let z = (var q ⊠ var (pos (natAbs q)) ⊠ var (pos 0)) .bal in
-    let a = (var t ⊠ var (pos (natAbs t)) ⊠ var (pos d)) .bal in
-    let b = (var u ⊠ var (pos (natAbs u)) ⊠ var (pos d)) .bal in
-    let k = not-over t d some (omega (arith, view, z, a, h .notAbove)) in
-    let l = not-under u d some (omega (arith, view, z, b, h .largest)) in
+    let none = square-bal (pos 0) d in
+    let k = most-square (c +ℤ c -ℤ p) (pos 0) d some (omega (arith, view, none, square-bal q 0, h .notAbove)) in
+    let l = less-square (pos 0) (c +ℤ c +ℤ pos 2 -ℤ p) d (omega (arith, view, none, square-bal q 0, h .largest)) in
     let i = (var c ⊞ var c ⊟ var p) .bal in
     let j = (var c ⊞ var c ⊞ var (pos 2) ⊟ var p) .bal in
     omega (arith, view, k, l, i, j, halved-over p, halved-under p)

@@ -10,13 +10,13 @@ use Rattle.lengths.specs.Units.{sq}
 use Rattle.lengths.specs.View.{over, under}
 use Rattle.lengths.proofs.Laws.{view}
 use Rattle.lengths.proofs.Ring.{var, _⊞_, _⊠_}
-use Rattle.arcs.proofs.Root.{square-lt}
+use Rattle.arcs.proofs.Extremes.{square-le}
 
 -- ---- one side is not longer than the others together
 
--- the mean of two squares is not below the product
-means : (x y : ℕ) → 2 * (x * y) ≤ x * x + y * y
-means x y = by (decLe x y)
+-- (x − y)² is not below 0
+pub twice-product : (x y : ℕ) → 2 * (x * y) ≤ x * x + y * y
+twice-product x y = by (decLe x y)
   where
     by : Dec (x ≤ y) → 2 * (x * y) ≤ x * x + y * y
     by (yes h) =
@@ -26,14 +26,10 @@ means x y = by (decLe x y)
         let e : x ≡ y + (x - y) = omega (arith, h) in
         omega (arith, ap (λ (z : ℕ). z * y) e, ap (λ (z : ℕ). z * z) e)
 
--- a number whose square is at most another's is at most it
-pub square-le : (p k : ℕ) → p * p ≤ k * k → p ≤ k
-square-le p k h = omega (arith, square-lt p (k + 1) (omega arith))
-
 -- a and b are the lengths along the axes of a side that is at most A, c and d of one that is at most B
 module _ (a b c d A B : ℕ) (h : a * a + b * b ≤ A * A) (k : c * c + d * d ≤ B * B) where
   products : a * c + b * d ≤ A * B
-  products = square-le (a * c + b * d) (A * B) (omega (arith, means (a * d) (b * c), mul-le-mul h k))
+  products = square-le (a * c + b * d) (A * B) (omega (arith, twice-product (a * d) (b * c), mul-le-mul h k))
 
   pub triangle : (x y : ℕ) → x ≤ a + c → y ≤ b + d → x * x + y * y ≤ (A + B) * (A + B)
   triangle x y l m = omega (arith, products, mul-le-mul l l, mul-le-mul m m)
@@ -88,10 +84,10 @@ pub record Quarter (m : ℕ) (w₁ w₂ q₁ q₂ : ℤ) : Type 0 where
   pub long : sq w₁ + sq w₂ ≡ m
   pub wide : sq q₁ + sq q₂ ≡ m
 
-pub across-square :
+pub right-angled :
     {m : ℕ} (w₁ w₂ q₁ q₂ : ℤ) (f n : ℕ) → Quarter m w₁ w₂ q₁ q₂
     → sq (pos n *ℤ w₁ +ℤ q₁ *ℤ pos f) + sq (pos n *ℤ w₂ +ℤ q₂ *ℤ pos f) ≡ n * n * m + f * f * m
-across-square {m} w₁ w₂ q₁ q₂ f n h =
+right-angled {m} w₁ w₂ q₁ q₂ f n h =
     let a = over w₁ * over q₁ + under w₁ * under q₁ in
     let b = over w₁ * under q₁ + under w₁ * over q₁ in
     let c = over w₂ * over q₂ + under w₂ * under q₂ in

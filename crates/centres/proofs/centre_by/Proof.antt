@@ -5,7 +5,8 @@ use native.Mathlib.Omega.{arith}
 use borrow.Author.Needs.{needs}
 use Rattle.arcs.specs.Turning.{direction}
 use Rattle.centres.specs.Centres.{across, spare, centreBy}
-use Rattle.centres.proofs.Computing.{radius-most, chord-most, chord-reach, first-coordinates, second-coordinates}
+use Rattle.centres.proofs.Accepted.{chord-most}
+use Rattle.centres.proofs.Computing.{radius-most, chord-reach, first-coordinates, second-coordinates}
 use Rattle.centres.proofs.centre_by.Statement.{statement}
 use Rattle.centres.proofs.centre_by.Tie as tie
 
@@ -35,7 +36,7 @@ mul-n c =
 sub-n : tie.Need-sub-n
 sub-n c =
     let s = c .before .before .before .before .before in
-    rw (c .square .ensures, c .before .squared-distance .ensures) (chord-most (s .args .r .v) (s .args .from) (s .args .to) (s .pre))
+    rw (c .square .ensures, c .before .squared-distance .ensures) (chord-most (s .args .r .v) (s .args .from) (s .args .to) (s .pre .holds))
 
 coordinate-requires : tie.Need-coordinate-requires
 coordinate-requires c κs =
