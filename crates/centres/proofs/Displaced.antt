@@ -1,13 +1,18 @@
--- Start and end displaced by whole numbers displace the centre by the same, since rounding down does. Assumes nothing.
+-- Start and end displaced by whole numbers displace the centre by the same, since whole numbers pass through the rounding, and the
+-- same radii are accepted: of two points of a plane, and of two points of space in each of the three planes. Assumes nothing.
 use Prim.Native.Nat.{ℕ}
-use mathlib.Core.Path.{_≡_}
+use mathlib.Core.Path.{_≡_, refl}
 use mathlib.Core.Bool.{Bool}
 use native.Mathlib.Omega.{arith}
 use lib.IntN.{ℤ, _+ℤ_}
 use Rattle.lengths.specs.Units.{halved, _⊕_}
 use Rattle.lengths.proofs.Laws.{view, sum-bal, halved-over, halved-under}
 use Rattle.lengths.proofs.Ring.{var, _⊞_, same, shift}
+use Rattle.codes.specs.declared.Plane.{Plane}
+use Rattle.codes.specs.declared.Plane.the-variants.{G17, G18, G19}
 use Rattle.points.specs.declared.Flat.{Flat}
+use Rattle.points.specs.declared.Point.{Point}
+use Rattle.points.specs.Points.{moved, flat}
 use Rattle.arcs.specs.Turning.{direction}
 use Rattle.arcs.specs.Arcs.{distance²}
 use Rattle.centres.specs.Centres.{radiusHolds, across, spare, scaledRoot, coordinate, centreBy}
@@ -40,12 +45,12 @@ coordinate-displaced by s e q n d =
     let z = scaledRoot q n d in
     rw (together s e by z) (halved-displaced (s +ℤ e +ℤ z) by)
 
-direction-displaced : (by s e : Flat) → direction (flatMoved by s) (flatMoved by e) ≡ direction s e
+pub direction-displaced : (by s e : Flat) → direction (flatMoved by s) (flatMoved by e) ≡ direction s e
 unfolding direction
 direction-displaced by s e =
     rw (shift (e .first .v) (s .first .v) (by .first .v), shift (e .second .v) (s .second .v) (by .second .v))
 
-distance-displaced : (by s e : Flat) → distance² (flatMoved by s) (flatMoved by e) ≡ distance² s e
+pub distance-displaced : (by s e : Flat) → distance² (flatMoved by s) (flatMoved by e) ≡ distance² s e
 unfolding distance²
 distance-displaced by s e =
     rw (shift (e .first .v) (s .first .v) (by .first .v), shift (e .second .v) (s .second .v) (by .second .v))
@@ -65,3 +70,22 @@ centre-displaced left r by s e =
     let f = coordinate-displaced (by .first .v) (s .first .v) (e .first .v) (q .first .v) n d in
     let g = coordinate-displaced (by .second .v) (s .second .v) (e .second .v) (q .second .v) n d in
     rw (direction-displaced by s e, distance-displaced by s e, f, g)
+
+-- ---- points of space, seen in a plane
+
+pub flat-moved : (plane : Plane) (by p : Point) → flat plane (moved by p) ≡ flatMoved (flat plane by) (flat plane p)
+unfolding flat moved
+flat-moved G17 by p = refl
+flat-moved G18 by p = refl
+flat-moved G19 by p = refl
+
+module _ (plane : Plane) (r : ℤ) (by a b : Point) where
+  pub plane-radius-displaced : radiusHolds r (flat plane (moved by a)) (flat plane (moved by b)) ≡ radiusHolds r (flat plane a) (flat plane b)
+  plane-radius-displaced =
+      rw (flat-moved plane by a, flat-moved plane by b) (radius-displaced r (flat plane by) (flat plane a) (flat plane b))
+
+  pub plane-centre-displaced :
+      (left : Bool) → centreBy left r (flat plane (moved by a)) (flat plane (moved by b))
+      ≡ flatMoved (flat plane by) (centreBy left r (flat plane a) (flat plane b))
+  plane-centre-displaced left =
+      rw (flat-moved plane by a, flat-moved plane by b) (centre-displaced left r (flat plane by) (flat plane a) (flat plane b))
