@@ -2,6 +2,7 @@ pub mod Accepted
 pub mod Approximating
 pub mod Computing
 pub mod Displaced
+pub mod Examples
 pub mod Nearness
 pub mod Opened
 pub mod Reaching

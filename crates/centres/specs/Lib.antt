@@ -2,3 +2,4 @@ pub mod Centres
 pub mod Bounds
 pub mod Nearness
 pub mod Sides
+pub mod Examples

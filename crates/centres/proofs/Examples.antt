@@ -1,0 +1,9 @@
+-- The rules give the examples' centres, and none where the radius is refused, by computation.
+use mathlib.Core.Path.{_≡_, refl}
+use mathlib.Core.List.{map}
+use Rattle.centres.specs.Examples.{rows, centreOfRow}
+use Rattle.centres.proofs.Opened.{opened}
+
+pub examples-hold : map centreOfRow rows ≡ map (λ row. row .centre) rows
+unfolding opened centreOfRow
+examples-hold = refl
