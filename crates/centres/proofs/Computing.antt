@@ -6,10 +6,9 @@ use native.Mathlib.Nat.{mul-le-mul, mul-le-mul-left, mul-le-mul-right, lt-of-mul
 use native.Mathlib.Numerals.{add-one}
 use native.Mathlib.Omega.{arith}
 use lib.Dec.{eqb}
-use lib.IntN.{ℤ, pos, negsuc, negℤ, _-ℤ_, natAbs}
+use lib.IntN.{ℤ, pos, negℤ, _-ℤ_, natAbs}
 use lib.Signed.{leZ}
 use borrow.Author.Tests.{lt-leb, eq-eqb, ne-eqb, eqb-true, eqb-false}
-use Rattle.terms.specs.Terms.{if_then_else_}
 use Rattle.lengths.specs.Units.{sq}
 use Rattle.lengths.specs.View.{Within}
 use Rattle.lengths.proofs.Laws.{neg-over, neg-under, sq-near, near-sq}
@@ -113,14 +112,15 @@ module _ (q : ℤ) (n d : ℕ) (h : Divisible q n d) where
 
   pub scaled-near : Within 2_000_000_001 (scaledRoot q n d)
   unfolding scaledRoot
-  scaled-near =
-      let m = root (sq q * n / d) in
-      go (leZ (pos 0) q) (eqb (m * m * d) (sq q * n)) m root-most
+  scaled-near = go (leZ (pos 0) q) (eqb (m * m * d) (sq q * n)) refl refl
     where
-      go : (up whole : Bool) (m : ℕ) → m ≤ 2_000_000_000 → Within 2_000_000_001 (if up then pos m else if whole then negℤ (pos m) else negsuc m)
-      go true t m k = omega arith
-      go false true m k = omega (arith, neg-over (pos m), neg-under (pos m))
-      go false false m k = omega arith
+      m : ℕ
+      m = root (sq q * n / d)
+
+      go : (up whole : Bool) → leZ (pos 0) q ≡ up → eqb (m * m * d) (sq q * n) ≡ whole → Within 2_000_000_001 (scaledRoot q n d)
+      go true t e f = rw e (omega (arith, root-most))
+      go false true e f = rw (e, f) (omega (arith, root-most, neg-over (pos m), neg-under (pos m)))
+      go false false e f = rw (e, f) (omega (arith, root-most, neg-over (pos m), neg-under (pos m)))
 
 -- ---- an arc whose radius has been accepted
 

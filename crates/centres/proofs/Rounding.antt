@@ -8,7 +8,6 @@ use lib.Dec.{eqb}
 use lib.IntN.{ℤ, pos, negsuc, negℤ, _+ℤ_, _-ℤ_, _*ℤ_}
 use lib.Signed.{leZ, ltZ}
 use borrow.Author.Tests.{eqb-true, eqb-false}
-use Rattle.terms.specs.Terms.{if_then_else_}
 use Rattle.lengths.specs.Units.{sq, halved}
 use Rattle.lengths.specs.View.{over, under, Within}
 use Rattle.lengths.proofs.Laws.{view, sum-bal, diff-bal, neg-over, neg-under, halved-over, halved-under, sq-near}
@@ -93,11 +92,11 @@ module _ (n d : ℕ) (k : 0 < d) (small : n < 2 ^ 64) where
       m : ℕ
       m = root (whole / d)
 
-      go : (t : Bool) → eqb (m * m * d) whole ≡ t → Floor (negsuc a) n d (if t then negℤ (pos m) else negsuc m)
-      go true e = floor-exact n d m k a (eqb-true (m * m * d) whole e)
+      go : (t : Bool) → eqb (m * m * d) whole ≡ t → Floor (negsuc a) n d (scaledRoot (negsuc a) n d)
+      go true e = rw e (floor-exact n d m k a (eqb-true (m * m * d) whole e))
       go false e =
           let f : whole / d ≤ n = div-le-of-le-mul d (mul-le-mul-right n h) in
-          floor-down n d m k a (quotient-root whole d k (omega arith)) (eqb-false (m * m * d) whole e)
+          rw e (floor-down n d m k a (quotient-root whole d k (omega arith)) (eqb-false (m * m * d) whole e))
 
 -- ---- a coordinate
 

@@ -21,42 +21,42 @@ use Rattle.centres.proofs.SignedSquares.{square-bal, less-square, most-
 
 -- ---- at right angles and as long
 
+-- turned to the one side or to the other, the products of the two axes cancel
+cancels : (a b : ℤ) → (a *ℤ negℤ b +ℤ b *ℤ a ≡ pos 0) × (a *ℤ b +ℤ b *ℤ negℤ a ≡ pos 0)
+cancels a b = (
+  same (var a ⊠ neg (var b) ⊞ var b ⊠ var a) (var (pos 0)) (omega arith),
+  same (var a ⊠ var b ⊞ var b ⊠ neg (var a)) (var (pos 0)) (omega arith),
+)
+
 -- the way across is at right angles to the way from start to end, and to the way back
 pub perpendicular : (side : Bool) (d : Flat) → dot d (across side d) ≡ pos 0
 unfolding across dot
-perpendicular true d =
-    let a = var (d .first .v) in
-    let b = var (d .second .v) in
-    same (a ⊠ neg b ⊞ b ⊠ a) (var (pos 0)) (omega arith)
-perpendicular false d =
-    let a = var (d .first .v) in
-    let b = var (d .second .v) in
-    same (a ⊠ b ⊞ b ⊠ neg a) (var (pos 0)) (omega arith)
+perpendicular true d = omega (arith, view, cancels (d .first .v) (d .second .v))
+perpendicular false d = omega (arith, view, cancels (d .first .v) (d .second .v))
+
+dot-back : (s e q : Flat) → dot (direction e s) q ≡ negℤ (dot (direction s e) q)
+unfolding dot direction
+dot-back s e q =
+    let a = var (s .first .v) in
+    let b = var (s .second .v) in
+    let c = var (e .first .v) in
+    let d = var (e .second .v) in
+    let x = var (q .first .v) in
+    let y = var (q .second .v) in
+    same ((a ⊟ c) ⊠ x ⊞ (b ⊟ d) ⊠ y) (neg ((c ⊟ a) ⊠ x ⊞ (d ⊟ b) ⊠ y)) (omega arith)
 
 pub perpendicular-back : (side : Bool) (s e : Flat) → dot (direction e s) (across side (direction s e)) ≡ pos 0
-unfolding across dot direction
-perpendicular-back true s e =
-    let a = var (s .first .v) in
-    let b = var (s .second .v) in
-    let c = var (e .first .v) in
-    let d = var (e .second .v) in
-    same ((a ⊟ c) ⊠ neg (d ⊟ b) ⊞ (b ⊟ d) ⊠ (c ⊟ a)) (var (pos 0)) (omega arith)
-perpendicular-back false s e =
-    let a = var (s .first .v) in
-    let b = var (s .second .v) in
-    let c = var (e .first .v) in
-    let d = var (e .second .v) in
-    same ((a ⊟ c) ⊠ (d ⊟ b) ⊞ (b ⊟ d) ⊠ neg (c ⊟ a)) (var (pos 0)) (omega arith)
+perpendicular-back side s e = dot-back s e (across side (direction s e)) ∙ ap negℤ (perpendicular side (direction s e))
 
 -- it has on one axis what the way has on the other, so its square there is what that axis lacks of the chord's
 pub across-first : (side : Bool) (s e : Flat) → sq (across side (direction s e) .first .v) + sq (e .first .v -ℤ s .first .v) ≡ distance² s e
 unfolding across direction distance²
 across-first true s e = omega (arith, sq-neg (e .second .v -ℤ s .second .v))
-across-first false s e = omega arith
+across-first false s e = omega (arith, sq-neg (e .second .v -ℤ s .second .v))
 
 pub across-second : (side : Bool) (s e : Flat) → sq (across side (direction s e) .second .v) + sq (e .second .v -ℤ s .second .v) ≡ distance² s e
 unfolding across direction distance²
-across-second true s e = omega arith
+across-second true s e = omega (arith, sq-neg (e .first .v -ℤ s .first .v))
 across-second false s e = omega (arith, sq-neg (e .first .v -ℤ s .first .v))
 
 -- so it is as long as the chord
