@@ -70,23 +70,23 @@ module _ (bed : Bed) (s : State) (read : Reading) (ws : List Word) (says : Says 
         {values : Values}
         (e : Fine values ≡ judgedBy (machineOf bed .speeds) (said .modes) (said .code) (hasCentre (said .code) (said .modes .plane) ws) ws)
       where
-      abbrev heard : Said
-      heard =
-          record {
-            modes = read .seen .modes;
-            code = code;
-            misc = read .seen .misc;
-            named = getD (read .seen .groups) 1 false;
-            values = values;
-          }
+        abbrev heard : Said
+        heard =
+            record {
+              modes = read .seen .modes;
+              code = code;
+              misc = read .seen .misc;
+              named = getD (read .seen .groups) 1 false;
+              values = values;
+            }
 
-      pub said-is : (calls : Calls) (room start : ℕ) → heard ≡ said
-      unfolding saidBy machineOf
-      said-is calls room start =
-          rw (code-is, named-is, says .seen .misc, says .seen .modes, values-past (machineOf bed) calls room s start ws e .1 .are)
+        pub said-is : (calls : Calls) (room start : ℕ) → heard ≡ said
+        unfolding saidBy machineOf
+        said-is calls room start =
+            rw (code-is, named-is, says .seen .misc, says .seen .modes, values-past (machineOf bed) calls room s start ws e .1 .are)
 
-      pub steady : Fair bed → Reachable bed s → (calls : Calls) (room start : ℕ) → Steady bed s heard
-      unfolding saidBy machineOf
-      steady fair state calls room start =
-          rw (said-is calls room start)
-          (record { fair = fair; state = state; said = meant bed s ws fair state (values-past (machineOf bed) calls room s start ws e .1 .good) })
+        pub steady : Fair bed → Reachable bed s → (calls : Calls) (room start : ℕ) → Steady bed s heard
+        unfolding saidBy machineOf
+        steady fair state calls room start =
+            rw (said-is calls room start)
+            (record { fair = fair; state = state; said = meant bed s ws fair state (values-past (machineOf bed) calls room s start ws e .1 .good) })
