@@ -1,6 +1,6 @@
 -- Whether a block is an arc with a centre word. Assumes nothing.
 use Prim.Native.Nat.{ℕ}
-use mathlib.Core.Path.{_≡_, refl}
+use mathlib.Core.Path.{_≡_, refl, sym}
 use mathlib.Core.Bool.{Bool, true, false, _||_}
 use mathlib.Core.List.{List, [], _∷_}
 use lib.Dec.{eqb}
@@ -17,7 +17,7 @@ use Rattle.letters.specs.Letters.{turns, isArc}
 use Rattle.letters.proofs.BlockCode.{the-type as code-type}
 
 -- one of two letters stands among a block's words where the one or the other does
-pub one-of-two :
+one-of-two :
     (a b : ℕ) (ws : List Word)
     → any (λ (w : Word). any (eqb (w .letter)) (a ∷ b ∷ [])) ws
     ≡ (any (λ (w : Word). eqb (w .letter) a) ws || any (λ (w : Word). eqb (w .letter) b) ws)
@@ -32,6 +32,13 @@ one-of-two a b (w ∷ ws) =
     go false true true v rest e = refl
     go false true false v rest e = refl
     go false false s v rest e = e
+
+-- by what is told of each of the two
+pub two-seen :
+    (a b : ℕ) (ws : List Word) {p q : Bool}
+    → p ≡ any (λ (w : Word). eqb (w .letter) a) ws → q ≡ any (λ (w : Word). eqb (w .letter) b) ws
+    → (p || q) ≡ any (λ (w : Word). any (eqb (w .letter)) (a ∷ b ∷ [])) ws
+two-seen a b ws e f = rw (e, f) (sym (one-of-two a b ws))
 
 -- ---- motions and codes that have no arm of their own
 
