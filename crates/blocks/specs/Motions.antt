@@ -96,8 +96,8 @@ motionOf Off named s origin v = noMoves
 motionOf G00 named s origin v = if endStands v then one (RP (target (s .modes .distance) origin (s .at) v)) else noMoves
 motionOf G01 named s origin v =
     if endStands v then one (LN (target (s .modes .distance) origin (s .at) v) (s .feed)) else noMoves
--- `AR` is clockwise, as G02 is. On the way to the right the arc of at most half a turn has its centre to the right, on the way to
--- the left it has it to the left (proofs/Sides.antt of `centres`).
+-- `AR` is clockwise, as G02 is. Of two arcs that turn right the one of at most half a turn has its centre to the right of the way
+-- from start to end, of two that turn left to the left (proofs/Sides.antt of `centres`).
 motionOf G02 named s origin v =
     if arcStands v then arcMoves AR (isLarger v) s v (target (s .modes .distance) origin (s .at) v) else noMoves
 motionOf G03 named s origin v =

@@ -1,5 +1,5 @@
 -- The bounds under which every number of the centre's computation fits, as linear facts of naturals (specs/View.antt of `lengths`).
-use Prim.Native.Nat.{ℕ, _*_, _≤_, _<_}
+use Prim.Native.Nat.{ℕ, _≤_, _<_}
 use mathlib.Core.Path.{_≡_}
 use mathlib.Core.Bool.{true}
 use lib.IntN.{ℤ}

@@ -1,6 +1,6 @@
 -- Document 02, #101: "R positive is the arc of at most half a turn, R negative the larger one. The centre is the exact one, each
 -- coordinate rounded down to a whole unit".
-use Prim.Native.Nat.{ℕ, _+_, _-_, _*_, _/_}
+use Prim.Native.Nat.{ℕ, _-_, _*_, _/_}
 use mathlib.Core.Path.{_≡_}
 use mathlib.Core.Bool.{Bool, true, false, _&&_}
 use lib.Dec.{leb, ltb, eqb}
