@@ -4,4 +4,5 @@ pub mod Nearness
 pub mod Shortness
 pub mod Making
 pub mod Accepting
+pub mod Radius
 pub mod Table

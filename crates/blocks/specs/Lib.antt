@@ -1,5 +1,6 @@
 pub mod Machine
 pub mod Motions
+pub mod Sides
 pub mod Exec
 pub mod Reach
 pub mod Keeping
