@@ -1,9 +1,9 @@
--- What the rules give for the sample of document 01 and for small runs, by computation.
+-- What the rules give for the sample of document 01, for small runs and for arcs by their radius, by computation.
 use mathlib.Core.Path.{_≡_, refl}
 use mathlib.Core.List.{map}
 use Rattle.refusals.specs.Answers.{refusedWith, reportOf}
 use Rattle.setup.specs.Examples.{setupT}
-use Rattle.runs.specs.Examples.{roomT, sample, sampleRecords, tooFar, tooFarSettings, rows, answerOfRow}
+use Rattle.runs.specs.Examples.{roomT, sample, sampleRecords, tooFar, tooFarSettings, rows, answerOfRow, radiusArcs, recordsOfRow}
 use Rattle.runs.specs.Walk.{nowhere}
 use Rattle.runs.specs.Run.{answerOf, recordsOf, standingOf}
 use Rattle.refusals.specs.declared.Answer.the-variants.{Done}
@@ -22,6 +22,15 @@ sample-answer = refl
 pub examples-hold : map answerOfRow rows ≡ map (λ r. r .answer) rows
 unfolding opened answerOfRow
 examples-hold = refl
+
+-- arcs by their radius
+pub radius-records : map (λ l. recordsOfRow (l .run)) radiusArcs ≡ map (λ l. l .records) radiusArcs
+unfolding opened recordsOfRow
+radius-records = refl
+
+pub radius-answers : map (λ l. answerOfRow (l .run)) radiusArcs ≡ map (λ l. l .run .answer) radiusArcs
+unfolding opened answerOfRow
+radius-answers = refl
 
 -- ---- where a run stands
 

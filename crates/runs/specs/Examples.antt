@@ -1,5 +1,5 @@
 -- Document 01, "Numbers to try": the sample of seven blocks with its list, and small runs of which the answer is known,
--- under setup T.
+-- under setup T. Document 02, #101: arcs by their radius, with their lists.
 use Prim.Native.Nat.{ℕ}
 use Prim.Native.String.{String}
 use mathlib.Core.Bool.{false}
@@ -9,16 +9,18 @@ use Rattle.terms.specs.Terms.{bytes}
 use Rattle.lengths.specs.Units.{len}
 use Rattle.refusals.specs.Answers.{NumberedAnswer, done, notFinished, refusedWith, reportOf}
 use Rattle.codes.specs.declared.Motion.the-variants.{G01}
-use Rattle.codes.specs.declared.Plane.the-variants.{G17}
+use Rattle.codes.specs.declared.Plane.{Plane}
+use Rattle.codes.specs.declared.Plane.the-variants.{G17, G18}
 use Rattle.codes.specs.declared.Unit.the-variants.{Millimetre}
 use Rattle.codes.specs.declared.Distance.the-variants.{Incremental}
 use Rattle.codes.specs.declared.Return.the-variants.{ToInitial}
 use Rattle.points.specs.declared.Point.{Point}
 use Rattle.setup.specs.Examples.{setupT}
+use Rattle.records.specs.declared.Arc.{Arc}
 use Rattle.records.specs.declared.Record.{Record}
-use Rattle.records.specs.declared.Record.the-variants.{RP, LN, SP, SO, EN}
+use Rattle.records.specs.declared.Record.the-variants.{RP, LN, AR, AL, SP, SO, EN}
 use Rattle.settings.specs.declared.State.{State}
-use Rattle.runs.specs.Run.{answerOf}
+use Rattle.runs.specs.Run.{answerOf, recordsOf}
 use Rattle.runs.specs.declared.Budget.{Budget}
 use Rattle.runs.specs.declared.Budget.the-variants.{Whole, First}
 
@@ -29,9 +31,12 @@ roomT = 4_096
 abbrev pub sample : List ℕ
 sample = bytes "%\nO1\nG90 G00 X5.0 Y5.0\nM03 S6000\nG81 Z-2.0 R1.0\nG80 M05\nM30\n"
 
+abbrev at : ℤ → ℤ → ℤ → Point
+at x y z = record { x = len x; y = len y; z = len z }
+
 -- the sample's points are all at X 1500000 Y 1500000
 abbrev hole : ℤ → Point
-hole z = record { x = len (pos 1_500_000); y = len (pos 1_500_000); z = len z }
+hole z = at (pos 1_500_000) (pos 1_500_000) z
 
 abbrev pub sampleRecords : List Record
 sampleRecords =
@@ -46,7 +51,7 @@ tooFar = bytes "%\nG91 G01 X1.0 F70.0\nG00 X900.0\nM30\n"
 abbrev pub tooFarSettings : State
 tooFarSettings =
     record {
-      at = record { x = len (pos 100_000); y = len (pos 0); z = len (pos 0) };
+      at = at (pos 100_000) (pos 0) (pos 0);
       modes =
           record { motion = G01; plane = G17; unit = Millimetre; distance = Incremental; origin = 0; back = ToInitial };
       feed = len (pos 7_000_000);
@@ -89,4 +94,66 @@ rows =
     -- a missing end counts as a block
     ∷ row "%\nM00\n" (First 1) (notFinished 1)
     ∷ row "%\nM00\n" (First 2) (refused 14 3 6 1)
-    ∷ row "" Whole (refused 11 1 0 0) ∷ []
+    ∷ row "" Whole (refused 11 1 0 0)
+    -- document 02, #101: R beside a centre letter of the plane is 2, at the R wherever it stands; a letter that is not of the plane
+    -- is 2 at itself
+    ∷ row "%\nG02 X1.0 R5.0 I5.0\nM30\n" Whole (refused 2 2 11 0)
+    ∷ row "%\nG02 X1.0 I5.0 R5.0\nM30\n" Whole (refused 2 2 16 0)
+    ∷ row "%\nG02 X1.0 R5.0 K5.0\nM30\n" Whole (refused 2 2 16 0)
+    -- the end is the start, without an end word and with one
+    ∷ row "%\nG02 R5.0\nM30\n" Whole (refused 1 2 2 0)
+    ∷ row "%\nG91 G03 X0 Y0 R5.0\nM30\n" Whole (refused 1 2 2 0)
+    -- a radius under 3,000 is 1 by geometry, one past 1,000,000,000 by its value
+    ∷ row "%\nG02 X.02 R0\nM30\n" Whole (refused 1 2 2 0)
+    ∷ row "%\nG02 X.02 R10000.001\nM30\n" Whole (refused 1 2 11 0)
+    -- a chord longer than twice the radius, to an end outside the travel: 1 goes before 9
+    ∷ row "%\nG55 G02 X900.0 R5.0\nM30\n" Whole (refused 1 2 2 0) ∷ []
+
+-- ---- document 02, #101: arcs by their radius. G55's origin is the machine's.
+
+-- a run, and the list that it leaves
+pub record Listed : Type 0 where
+  pub run : Row
+  pub records : List Record
+
+abbrev listed : String → List Record → NumberedAnswer → Listed
+listed text records answer = record { run = row text Whole answer; records = records }
+
+unfoldable pub recordsOfRow : Row → List Record
+recordsOfRow r = recordsOf setupT (bytes (r .text)) roomT (r .budget)
+
+-- by setup T's feed
+abbrev arc : Plane → Point → ℤ → ℤ → Arc
+arc plane end first second =
+    record { plane = plane; end = end; first = len first; second = len second; feed = len (pos 30_000_000) }
+
+-- an arc of 6 mm of chord along X, by the height of its centre
+abbrev sixMillimetres : String → (Arc → Record) → ℕ → Listed
+sixMillimetres text make height =
+    listed text
+    (RP (at (pos 1_000_000) (pos 1_000_000) (pos 0))
+    ∷ make (arc G17 (at (pos 1_600_000) (pos 1_000_000) (pos 0)) (pos 1_300_000) (pos height)) ∷ EN ∷ [])
+    (done 3)
+
+abbrev pub radiusArcs : List Listed
+radiusArcs =
+    -- a chord of twice the radius: R and −R have one centre, the middle. R holds in its own block, so the next arc lacks a centre.
+    listed "%\nG55 G00 X10.0 Y10.0\nG03 X20.0 R5.0\nX10.0\nM30\n"
+    (RP (at (pos 1_000_000) (pos 1_000_000) (pos 0))
+    ∷ AL (arc G17 (at (pos 2_000_000) (pos 1_000_000) (pos 0)) (pos 1_500_000) (pos 1_000_000)) ∷ [])
+    (refused 3 4 37 2)
+    ∷ listed "%\nG55 G00 X10.0 Y10.0\nG03 X20.0 R-5.0\nM30\n"
+    (RP (at (pos 1_000_000) (pos 1_000_000) (pos 0))
+    ∷ AL (arc G17 (at (pos 2_000_000) (pos 1_000_000) (pos 0)) (pos 1_500_000) (pos 1_000_000)) ∷ EN ∷ [])
+    (done 3)
+    -- the four arcs to one end: to the right the centre lies lower, to the left higher
+    ∷ sixMillimetres "%\nG55 G00 X10.0 Y10.0\nG02 X16.0 R5.0\nM30\n" AR 600_000
+    ∷ sixMillimetres "%\nG55 G00 X10.0 Y10.0\nG02 X16.0 R-5.0\nM30\n" AR 1_400_000
+    ∷ sixMillimetres "%\nG55 G00 X10.0 Y10.0\nG03 X16.0 R5.0\nM30\n" AL 1_400_000
+    ∷ sixMillimetres "%\nG55 G00 X10.0 Y10.0\nG03 X16.0 R-5.0\nM30\n" AL 600_000
+    -- G03 in G18, of which Z is the first axis: the centre lies to the left
+    ∷ listed "%\nG55 G00 X10.0 Z-20.0\nG18 G03 X15.0 Z-15.0 R5.0\nM30\n"
+    (RP (at (pos 1_000_000) (pos 0) (negsuc 1_999_999))
+    ∷ AL (arc G18 (at (pos 1_500_000) (pos 0) (negsuc 1_499_999)) (negsuc 1_999_999) (pos 1_500_000)) ∷ EN ∷ [])
+    (done 3)
+    ∷ []
