@@ -1,5 +1,5 @@
 -- Displacing a path and the travel alike changes no comparison: the path stays in the travel as before.
-use Prim.Native.Nat.{ℕ, _+_}
+use Prim.Native.Nat.{ℕ}
 use mathlib.Core.Path.{_≡_, refl, sym, _∙_, ap, ap₂}
 use mathlib.Core.Bool.{Bool, true, false, _&&_, _||_}
 use mathlib.Core.List.{List, [], _∷_, map}
@@ -12,8 +12,6 @@ use Rattle.lengths.specs.declared.Len.{Len}
 use Rattle.lengths.specs.Units.{len, _⊕_, sq}
 use Rattle.lengths.proofs.Laws.{view, sum-bal, le-shift}
 use Rattle.lengths.proofs.Ring.{shift, same, var, _⊞_, _⊟_}
-use Rattle.codes.specs.declared.Plane.{Plane}
-use Rattle.codes.specs.declared.Plane.the-variants.{G17, G18, G19}
 use Rattle.points.specs.declared.Point.{Point}
 use Rattle.points.specs.declared.Flat.{Flat}
 use Rattle.points.specs.declared.Travel.{Travel}
@@ -40,6 +38,7 @@ use Rattle.arcs.specs.Arcs.{
   arcStays,
   pathStays,
 }
+use Rattle.centres.proofs.Displaced.{flatMoved, flat-moved, direction-displaced, distance-displaced}
 
 -- ---- numbers
 
@@ -89,26 +88,6 @@ moved-twice a b p =
 
 -- ---- the points of a plane
 
-abbrev flatMoved : Flat → Flat → Flat
-flatMoved by p = record { first = p .first ⊕ by .first; second = p .second ⊕ by .second }
-
-flat-moved : (plane : Plane) (by p : Point) → flat plane (moved by p) ≡ flatMoved (flat plane by) (flat plane p)
-unfolding flat moved
-flat-moved G17 by p = refl
-flat-moved G18 by p = refl
-flat-moved G19 by p = refl
-
-distance-same : (by a b : Flat) → distance² (flatMoved by a) (flatMoved by b) ≡ distance² a b
-unfolding distance²
-distance-same by a b =
-    ap₂ (λ (x y : ℤ). sq x + sq y) (shift (b .first .v) (a .first .v) (by .first .v))
-    (shift (b .second .v) (a .second .v) (by .second .v))
-
-direction-same : (by a b : Flat) → direction (flatMoved by a) (flatMoved by b) ≡ direction a b
-unfolding direction
-direction-same by a b =
-    ap₂ towards (shift (b .first .v) (a .first .v) (by .first .v)) (shift (b .second .v) (a .second .v) (by .second .v))
-
 above-same : (a : Len) (q : ℕ) (b by : Len) → notAbove (a ⊕ by) q (b ⊕ by) ≡ notAbove a q b
 unfolding notAbove
 above-same a q b by = ap₂ _&&_ (le-same (a .v) (b .v) (by .v)) (ap (λ (z : ℤ). leb q (sq z)) (shift (b .v) (a .v) (by .v)))
@@ -157,7 +136,7 @@ radius-same : (by from : Point) (a : Arc) → radius² (moved by from) (arcMoved
 unfolding radius² arcMoved
 radius-same by from a =
     ap (distance² (flatMoved (flat (a .plane) by) (centreOf a))) (flat-moved (a .plane) by from)
-    ∙ distance-same (flat (a .plane) by) (centreOf a) (flat (a .plane) from)
+    ∙ distance-displaced (flat (a .plane) by) (centreOf a) (flat (a .plane) from)
 
 towards-same :
     (by p : Point) (a : Arc)
@@ -165,7 +144,7 @@ towards-same :
 unfolding arcMoved
 towards-same by p a =
     ap (direction (flatMoved (flat (a .plane) by) (centreOf a))) (flat-moved (a .plane) by p)
-    ∙ direction-same (flat (a .plane) by) (centreOf a) (flat (a .plane) p)
+    ∙ direction-displaced (flat (a .plane) by) (centreOf a) (flat (a .plane) p)
 
 left-same : (by from : Point) (a : Arc) → leftWay (moved by from) (arcMoved by a) ≡ leftWay from a
 unfolding leftWay arcMoved
