@@ -11,7 +11,7 @@ pub fn show_meaning(refusal: Refusal) -> bool {
             b"address undefined: the block's code does not use this word",
         ),
         Refusal::ParameterUndefined => say(
-            b"parameter undefined: a P or an arc's centre is missing",
+            b"parameter undefined: a P, or an arc's centre or radius, is missing",
         ),
         Refusal::CannotExecute => say(b"code cannot execute: it is unknown or may not stand here"),
         Refusal::NumberNotFound => say(b"program number not found"),
