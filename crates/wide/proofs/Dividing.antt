@@ -1,51 +1,100 @@
 -- Long division by hand, one binary digit at a time.
-use Prim.Native.Nat.{ℕ, suc, _+_, _-_, _*_, _/_, _%_, _^_, _<_}
+use Prim.Native.Nat.{ℕ, suc, _+_, _-_, _*_, _/_, _%_, _^_, _≤_, _<_}
 use mathlib.Core.Path.{_≡_, sym, ap, _∙_}
-use native.Mathlib.Nat.{pow-succ', div-div-eq-div-mul, mul-assoc, mul-add-div-right, div-le-self, lt-of-mul-lt-mul-right}
+use native.Mathlib.Nat.{pow-succ', div-add-mod', mod-lt, mul-le-mul-right}
 use native.Mathlib.Omega.{arith}
-use lib.Pow.{pow-add, pow-pos}
+use lib.Pow.{pow-pos}
 use lib.Arith.{digits-div, digits-mod}
 
--- what is reached when the digits of h have been brought down
-pub record Brought (h by quotient rest : ℕ) : Type 0 where
-  pub whole : quotient * by + rest ≡ h
+-- what the word holds when k digits of n are not brought down yet: they are its upper digits, and the quotient's are the
+-- others, below `place`
+pub record Digits (n by rest word k : ℕ) : Type 0 where
+  pub quotient : ℕ
+  pub upper : ℕ
+  pub place : ℕ
+  pub full : 2 ^ k * place ≡ 2 ^ 64
+  pub both : upper * place + quotient ≡ word
+  pub short : quotient < place
+  pub few : upper < 2 ^ k
+  pub whole : (quotient * by + rest) * 2 ^ k + upper ≡ n
+
+-- under a name that `omega` does not look into: with these products in reach its numbers get too large where only the rest
+-- counts
+unfoldable pub Held : (n by rest word k : ℕ) → Type 0
+Held n by rest word k = Digits n by rest word k
+
+-- what is reached then
+pub record Brought (n by rest word k : ℕ) : Type 0 where
   pub below : rest < by
+  pub fits : word < 2 ^ 64
+  pub held : Held n by rest word k
 
--- without the last of n's digits there is half of n
-pub half : (n k : ℕ) → 0 < k → n / 2 ^ k ≡ n / 2 ^ (k - 1) / 2
-half n k h =
-    let e : k ≡ suc (k - 1) = omega arith in
-    let m = 2 ^ (k - 1) in
-    let f : 2 * m ≡ m * 2 = omega arith in
-    ap (λ (j : ℕ). n / 2 ^ j) e ∙ ap (λ (j : ℕ). n / j) (pow-succ' 2 (k - 1) ∙ f) ∙ sym (div-div-eq-div-mul n m 2)
+-- with as many digits as a word has, none is brought down
+pub none-brought : (high low by : ℕ) {k : ℕ} → 2 ^ k ≡ 2 ^ 64 → low < 2 ^ 64 → high < by → Brought (high * 2 ^ 64 + low) by high low k
+unfolding Held
+none-brought high low by e h g =
+    record {
+      below = g;
+      fits = h;
+      held =
+          record {
+            quotient = 0;
+            upper = low;
+            place = 1;
+            full = omega (arith, e);
+            both = omega arith;
+            short = omega arith;
+            few = omega (arith, e, h);
+            whole = omega (arith, ap (high *_) e);
+          };
+    }
 
--- the last 64 digits of two words are those of the low one
-pub digit-of-low : (high low k : ℕ) → k < 64 → (high * 2 ^ 64 + low) / 2 ^ k % 2 ≡ low / 2 ^ k % 2
-digit-of-low high low k h =
-    let m = 2 ^ (63 - k) in
-    let e : 64 ≡ suc (63 - k) + k = omega arith in
-    let f : 2 ^ 64 ≡ 2 * m * 2 ^ k = ap (2 ^_) e ∙ pow-add 2 (suc (63 - k)) k ∙ ap (_* 2 ^ k) (pow-succ' 2 (63 - k)) in
-    let g : high * 2 ^ 64 + low ≡ high * (2 * m) * 2 ^ k + low = ap (λ (n : ℕ). high * n + low) f ∙ ap (_+ low) (sym (mul-assoc high (2 * m) (2 ^ k))) in
-    let d : (high * (2 * m) + low / 2 ^ k) % 2 ≡ low / 2 ^ k % 2 = omega arith in
-    ap (λ (n : ℕ). n / 2 ^ k % 2) g ∙ ap (_% 2) (mul-add-div-right (pow-pos k) (high * (2 * m)) low) ∙ d
+module _ {n by rest word k : ℕ} (reached : Brought n by rest word k) (some : 0 < k) where
+  -- the word's top digit brought down, where the quotient gets the digit d
+  pub next-digit : (d : ℕ) {more less : ℕ} → d ≤ 1 → more ≡ word * 2 % 2 ^ 64 + d → less + d * by ≡ 2 * rest + word / 2 ^ 63 → less < by → Brought n by less more (k - 1)
+  unfolding Held
+  next-digit d {more} {less} one e f g =
+      let was = reached .held in
+      let m = 2 ^ (k - 1) in
+      let q = was .quotient in
+      let p = was .place in
+      let top = was .upper / m in
+      let others = was .upper % m in
+      let j : k ≡ suc (k - 1) = omega arith in
+      let twice : 2 ^ k ≡ 2 * m = ap (2 ^_) j ∙ pow-succ' 2 (k - 1) in
+      let split : top * m + others ≡ was .upper = div-add-mod' (was .upper) m in
+      let fewer : others < m = mod-lt (was .upper) (pow-pos (k - 1)) in
+      let half : m * p ≡ 2 ^ 63 = omega (arith, was .full, ap (_* p) twice) in
+      let parts : word ≡ top * 2 ^ 63 + (others * p + q) = omega (arith, was .both, ap (_* p) split, ap (top *_) half) in
+      let under : others * p + q < 2 ^ 63 = omega (arith, was .short, half, mul-le-mul-right p fewer) in
+      let digit : word / 2 ^ 63 ≡ top = omega (arith, parts, under) in
+      record {
+        below = g;
+        fits = omega (arith, e, one);
+        held =
+            record {
+              quotient = 2 * q + d;
+              upper = others;
+              place = 2 * p;
+              full = omega (arith, half);
+              both = omega (arith, e, parts, under);
+              short = omega (arith, was .short);
+              few = fewer;
+              whole = omega (arith, was .whole, split, ap (_* m) f, ap (_* m) digit, ap ((q * by + rest) *_) twice);
+            };
+      }
 
--- the digits of two words, as far as they are brought down, where the high word is below the divisor
-pub in-reach : (high low by k : ℕ) → high < by → low < 2 ^ 64 → (high * 2 ^ 64 + low) / 2 ^ k < by * 2 ^ 64
-in-reach high low by k g h = omega (arith, div-le-self (high * 2 ^ 64 + low) (2 ^ k))
+module _ {n by rest word : ℕ} (reached : Brought n by rest word 0) where
+  sums : word * by + rest ≡ n
+  unfolding Held
+  sums =
+      let all = reached .held in
+      let none : all .upper ≡ 0 = omega (arith, all .few) in
+      let e : all .quotient ≡ word = omega (arith, all .both, ap (_* all .place) none) in
+      omega (arith, all .whole, none, ap (_* by) e)
 
-module _ (h : ℕ) {by quotient rest : ℕ} (was : Brought (h / 2) by quotient rest) where
-  -- the last digit of h brought down, where the quotient gets the digit d
-  pub next-digit : (d : ℕ) {more less : ℕ} → more ≡ 2 * quotient + d → less + d * by ≡ 2 * rest + h % 2 → less < by → Brought h by more less
-  next-digit d e f g = record { whole = rw e (omega (arith, was .whole)); below = g }
+  pub quotient-is : word ≡ n / by
+  quotient-is = rw (sym sums) (sym (digits-div word (reached .below)))
 
-  pub quotient-fits : h < by * 2 ^ 64 → 2 * quotient + 1 < 2 ^ 64
-  quotient-fits t =
-      let f : 2 * quotient < 2 ^ 64 = lt-of-mul-lt-mul-right by (omega (arith, was .whole)) in
-      omega arith
-
-module _ {h by quotient rest : ℕ} (all : Brought h by quotient rest) where
-  pub quotient-is : quotient ≡ h / by
-  quotient-is = rw (sym (all .whole)) (sym (digits-div quotient (all .below)))
-
-  pub rest-is : rest ≡ h % by
-  rest-is = rw (sym (all .whole)) (sym (digits-mod quotient (all .below)))
+  pub rest-is : rest ≡ n % by
+  rest-is = rw (sym sums) (sym (digits-mod word (reached .below)))

@@ -34,25 +34,28 @@ pub fn product(a: u64, b: u64) -> Wide
     Wide { high, low }
 }
 
-// Long division by hand, in binary: one digit of the low word at a time is brought down to the rest, and the quotient gets
-// one digit more. The rest is below the divisor, so that twice the rest and a digit fit; the high word is too, so that the
-// quotient fits. In a run the divisor and the quotient are at most 4 · 10 ^ 18, below 2 ^ 62.
+// Long division by hand, in binary: one digit at a time is brought down from the top of the low word to the rest, and the
+// quotient's next digit is written into the place that this leaves free at the word's other end. The rest is below the
+// divisor, so that twice the rest and a digit fit; the high word is too, so that the quotient has no more digits than the
+// low word. In a run the divisor and the quotient are at most 4 · 10 ^ 18, below 2 ^ 62.
 pub fn divided(w: Wide, by: u64) -> Division
     requires { ⌜ (w .high < by) × (by ≤ 2 ^ 63) ⌝ }
     ensures { λ r. ⌜ Divides w by r ⌝ }
 {
-    let low = w.low;
     let mut rest = w.high;
-    let mut quotient: u64 = 0;
+    let mut low = w.low;
     let mut digits: u32 = 64;
     while 0 < digits {
         digits -= 1;
-        rest = 2 * rest + (low >> digits) % 2;
-        quotient = 2 * quotient;
+        rest = 2 * rest + (low >> 63);
+        low = low << 1;
         if by <= rest {
             rest -= by;
-            quotient += 1;
+            low += 1;
         }
     }
-    Division { quotient, rest }
+    Division {
+        quotient: low,
+        rest,
+    }
 }
