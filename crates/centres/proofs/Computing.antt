@@ -1,8 +1,9 @@
 -- What the code of the centre asks of its numbers and what it makes of them. Assumes nothing.
-use Prim.Native.Nat.{ℕ, _+_, _*_, _/_, _%_, _^_, _≤_, _<_}
+use Prim.Native.Nat.{ℕ, _+_, _-_, _*_, _/_, _^_, _≤_, _<_}
 use mathlib.Core.Path.{_≡_, refl, sym, ap, _∙_}
+use mathlib.Core.Logic.{_≢_}
 use mathlib.Core.Bool.{Bool, true, false, _&&_, and-false}
-use native.Mathlib.Nat.{mul-le-mul, mul-le-mul-left, mul-le-mul-right, lt-of-mul-lt-mul-right, eq-of-mul-eq-mul-right, div-add-mod', div-le-of-le-mul}
+use native.Mathlib.Nat.{mul-le-mul, mul-le-mul-left, mul-le-mul-right, lt-of-mul-lt-mul-right, eq-of-mul-eq-mul-right, div-add-mod', div-le-of-le-mul, mod-lt}
 use native.Mathlib.Numerals.{add-one}
 use native.Mathlib.Omega.{arith}
 use lib.Dec.{eqb}
@@ -10,8 +11,7 @@ use lib.IntN.{ℤ, pos, negℤ, _-ℤ_, natAbs}
 use lib.Signed.{leZ}
 use borrow.Author.Tests.{lt-leb, eq-eqb, ne-eqb, eqb-true, eqb-false}
 use Rattle.lengths.specs.Units.{sq}
-use Rattle.lengths.specs.View.{Within}
-use Rattle.lengths.proofs.Laws.{neg-over, neg-under, sq-near, near-sq}
+use Rattle.lengths.proofs.Laws.{sq-near, near-sq}
 use Rattle.points.specs.declared.Flat.{Flat}
 use Rattle.arcs.specs.Root.{Root, root}
 use Rattle.arcs.specs.Turning.{direction}
@@ -19,10 +19,12 @@ use Rattle.arcs.specs.Arcs.{distance²}
 use Rattle.arcs.specs.Bounds.{Reach}
 use Rattle.arcs.proofs.Root.{root-is, square-lt}
 use Rattle.arcs.proofs.Reach.{near-distance}
+use Rattle.wide.specs.declared.Division.{Division}
+use Rattle.wide.proofs.Dividing.{Brought, quotient-is, rest-is}
 use Rattle.centres.specs.Centres.{radiusHolds, across, spare, scaledRoot}
-use Rattle.centres.specs.Bounds.{Spanned, Divisible, Coordinates}
+use Rattle.centres.specs.Bounds.{Spanned, Divisible, Shares, Part, Parted}
 use Rattle.centres.proofs.Accepted.{chord-some, chord-most}
-use Rattle.centres.proofs.Sides.{across-first, across-second}
+use Rattle.centres.proofs.Sides.{across-first, across-second, as-long}
 
 -- ---- whether a circle of the radius goes through start and end
 
@@ -44,13 +46,11 @@ module _ (r : ℤ) (s e : Flat) where
   unfolding distance²
   second-refused h = long-refused (omega (arith, mul-le-mul h h))
 
--- ---- q times the root of n / d
+-- ---- the shares of n
 
--- a product divided by d, and the root m of the quotient
-pub record Rooted (product d m quotient rest : ℕ) : Type 0 where
-  pub whole : quotient ≡ product / d
-  pub left : rest ≡ product % d
-  pub is : m ≡ root quotient
+module _ (q : ℤ) (n d : ℕ) (share : Division) (k : Shares q n d share) where
+  shares-whole : share .quotient * d + share .rest ≡ sq q * n
+  shares-whole = rw (k .whole, k .left) (div-add-mod' (sq q * n) d)
 
 module _ (q : ℤ) (n d : ℕ) (h : Divisible q n d) where
   -- what the division asks: the product is at most d times n, so that its high word is below d
@@ -59,70 +59,99 @@ module _ (q : ℤ) (n d : ℕ) (h : Divisible q n d) where
       let g : high * 2 ^ 64 < d * 2 ^ 64 = omega (arith, h .some, mul-le-mul-right n (h .part), mul-le-mul-left d (h .spare)) in
       (lt-of-mul-lt-mul-right (2 ^ 64) g, omega (arith, h .most))
 
-  quotient-most : sq q * n / d ≤ 4_000_000_000_000_000_000
-  quotient-most = omega (arith, h .spare, div-le-of-le-mul d (mul-le-mul-right n (h .part)))
+  module _ (share : Division) (k : Shares q n d share) where
+    pub share-most : share .quotient ≤ 4_000_000_000_000_000_000
+    share-most = rw (k .whole) (omega (arith, h .spare, div-le-of-le-mul d (mul-le-mul-right n (h .part))))
 
-  isRoot : Root (sq q * n / d) (root (sq q * n / d))
-  isRoot = root-is (sq q * n / d) (omega (arith, quotient-most))
+    pub share-part : Part n d share
+    share-part =
+        record {
+          part = rw (shares-whole q n d share k) (omega (arith, mul-le-mul-right n (h .part)));
+          below = rw (k .left) (mod-lt (sq q * n) (h .some));
+        }
 
-  root-most : root (sq q * n / d) ≤ 2_000_000_000
-  root-most = omega (arith, square-lt (root (sq q * n / d)) 2_000_000_001 (omega (arith, isRoot .notAbove, quotient-most)))
+module _ (n d : ℕ) (share : Division) (h : Part n d share) where
+  pub part-most : share .quotient ≤ n
+  part-most =
+      let g : share .quotient < n + 1 = lt-of-mul-lt-mul-right d (omega (arith, h .part, h .below)) in
+      omega (arith, g)
 
-  -- the root is exact where the division leaves nothing and its quotient is the root's square
-  exact :
-      (m quotient rest : ℕ) → quotient * d + rest ≡ sq q * n → m * m ≤ quotient
-      → (eqb rest 0 && eqb (m * m) quotient) ≡ eqb (m * m * d) (sq q * n)
-  exact m quotient rest e l = go (eqb rest 0) (eqb (m * m) quotient) refl refl
-    where
-      go : (t u : Bool) → eqb rest 0 ≡ t → eqb (m * m) quotient ≡ u → (t && u) ≡ eqb (m * m * d) (sq q * n)
-      go true true z f =
-          let g : m * m * d ≡ quotient * d = ap (_* d) (eqb-true (m * m) quotient f) in
-          sym (eq-eqb (m * m * d) (sq q * n) (omega (arith, eqb-true rest 0 z)))
-      go true false z f =
-          let same : m * m * d ≡ sq q * n → m * m ≡ quotient =
-          λ g. eq-of-mul-eq-mul-right d (h .some) (m * m) quotient (omega (arith, g, eqb-true rest 0 z)) in
-          sym (ne-eqb (m * m * d) (sq q * n) (λ g. eqb-false (m * m) quotient f (same g)))
-      go false u z f =
-          let none : m * m * d ≡ sq q * n → rest ≡ 0 = λ g. omega (arith, g, e, mul-le-mul-right d l) in
-          sym (ne-eqb (m * m * d) (sq q * n) (λ g. eqb-false rest 0 z (none g)))
+  pub part-less : share .rest ≢ 0 → share .quotient < n
+  part-less f = lt-of-mul-lt-mul-right d (omega (arith, h .part, f))
 
-  module _ (m quotient rest : ℕ) (k : Rooted (sq q * n) d m quotient rest) where
+  pub parted-exact : share .rest ≡ 0 → Parted n d share (record { quotient = n - share .quotient; rest = 0 })
+  parted-exact e =
+      let g : share .quotient + (n - share .quotient) ≡ n = omega (arith, part-most) in
+      record { all = rw (g, e) (omega arith); below = omega (arith, h .below) }
+
+  pub parted-rest : share .rest ≢ 0 → Parted n d share (record { quotient = n - share .quotient - 1; rest = d - share .rest })
+  parted-rest f =
+      let left = n - share .quotient - 1 in
+      let g : share .quotient + left + 1 ≡ n = omega (arith, part-less f) in
+      let e : (share .quotient + left + 1) * d ≡ n * d = ap (_* d) g in
+      record { all = omega (arith, e, h .below); below = omega (arith, f, h .below) }
+
+-- the squares of p and q come to d, so what p leaves of n is the share of q
+module _ (p q : ℤ) (n d : ℕ) (whole : sq p + sq q ≡ d) (share other : Division) (k : Shares p n d share) (h : Parted n d share other) where
+  brought : Brought (sq q * n) d (other .quotient) (other .rest)
+  brought =
+      let e : (sq p + sq q) * n ≡ d * n = ap (_* n) whole in
+      record { whole = omega (arith, e, h .all, shares-whole p n d share k); below = h .below }
+
+  pub other-shares : Shares q n d other
+  other-shares = record { some = k .some; whole = quotient-is brought; left = rest-is brought }
+
+-- ---- q times the root of n / d
+
+module _ (share : Division) (h : share .quotient ≤ 4_000_000_000_000_000_000) (m : ℕ) (is : m ≡ root (share .quotient)) where
+  isRoot : Root (share .quotient) m
+  isRoot = rw is (root-is (share .quotient) (omega (arith, h)))
+
+  pub root-small : m ≤ 2_000_000_000
+  root-small = omega (arith, square-lt m 2_000_000_001 (omega (arith, isRoot .notAbove, h)))
+
+  module _ (q : ℤ) (n d : ℕ) (k : Shares q n d share) where
+    -- the root is exact where the division leaves nothing and its quotient is the root's square
+    exact : (eqb (share .rest) 0 && eqb (m * m) (share .quotient)) ≡ eqb (m * m * d) (sq q * n)
+    exact = go (eqb (share .rest) 0) (eqb (m * m) (share .quotient)) refl refl
+      where
+        e : share .quotient * d + share .rest ≡ sq q * n
+        e = shares-whole q n d share k
+
+        go : (t u : Bool) → eqb (share .rest) 0 ≡ t → eqb (m * m) (share .quotient) ≡ u → (t && u) ≡ eqb (m * m * d) (sq q * n)
+        go true true z f =
+            let g : m * m * d ≡ share .quotient * d = ap (_* d) (eqb-true (m * m) (share .quotient) f) in
+            sym (eq-eqb (m * m * d) (sq q * n) (omega (arith, e, eqb-true (share .rest) 0 z)))
+        go true false z f =
+            let same : m * m * d ≡ sq q * n → m * m ≡ share .quotient =
+            λ g. eq-of-mul-eq-mul-right d (k .some) (m * m) (share .quotient) (omega (arith, g, e, eqb-true (share .rest) 0 z)) in
+            sym (ne-eqb (m * m * d) (sq q * n) (λ g. eqb-false (m * m) (share .quotient) f (same g)))
+        go false u z f =
+            let none : m * m * d ≡ sq q * n → share .rest ≡ 0 = λ g. omega (arith, g, e, mul-le-mul-right d (isRoot .notAbove)) in
+            sym (ne-eqb (m * m * d) (sq q * n) (λ g. eqb-false (share .rest) 0 z (none g)))
+
     root-here : m ≡ root (sq q * n / d)
-    root-here = k .is ∙ ap root (k .whole)
-
-    pub root-small : m ≤ 2_000_000_000
-    root-small = rw root-here root-most
-
-    test-is : (eqb rest 0 && eqb (m * m) quotient) ≡ eqb (m * m * d) (sq q * n)
-    test-is =
-        exact m quotient rest (rw (k .whole, k .left) (div-add-mod' (sq q * n) d))
-        (rw (root-here, k .whole) (isRoot .notAbove))
+    root-here = is ∙ ap root (k .whole)
 
     pub root-up : leZ (pos 0) q ≡ true → pos m ≡ scaledRoot q n d
     unfolding scaledRoot
     root-up e = rw (e, root-here)
 
-    pub root-exact : leZ (pos 0) q ≡ false → (eqb rest 0 && eqb (m * m) quotient) ≡ true → negℤ (pos m) ≡ scaledRoot q n d
+    pub root-exact : leZ (pos 0) q ≡ false → (eqb (share .rest) 0 && eqb (m * m) (share .quotient)) ≡ true → negℤ (pos m) ≡ scaledRoot q n d
     unfolding scaledRoot
-    root-exact e t = rw (e, ← root-here, ← test-is, t)
+    root-exact e t = rw (e, ← root-here, ← exact, t)
 
-    pub root-down : leZ (pos 0) q ≡ false → (eqb rest 0 && eqb (m * m) quotient) ≡ false → negℤ (pos (m + 1)) ≡ scaledRoot q n d
+    pub root-down : leZ (pos 0) q ≡ false → (eqb (share .rest) 0 && eqb (m * m) (share .quotient)) ≡ false → negℤ (pos (m + 1)) ≡ scaledRoot q n d
     unfolding scaledRoot
-    root-down e t = rw (e, ← root-here, ← test-is, t, add-one)
-
-  pub scaled-near : Within 2_000_000_001 (scaledRoot q n d)
-  unfolding scaledRoot
-  scaled-near = go (leZ (pos 0) q) (eqb (m * m * d) (sq q * n)) refl refl
-    where
-      m : ℕ
-      m = root (sq q * n / d)
-
-      go : (up whole : Bool) → leZ (pos 0) q ≡ up → eqb (m * m * d) (sq q * n) ≡ whole → Within 2_000_000_001 (scaledRoot q n d)
-      go true t e f = rw e (omega (arith, root-most))
-      go false true e f = rw (e, f) (omega (arith, root-most, neg-over (pos m), neg-under (pos m)))
-      go false false e f = rw (e, f) (omega (arith, root-most, neg-over (pos m), neg-under (pos m)))
+    root-down e t = rw (e, ← root-here, ← exact, t, add-one)
 
 -- ---- an arc whose radius has been accepted
+
+-- both coordinates of q have a share of n
+pub record Split (q : Flat) (n d : ℕ) : Type 0 where
+  pub first : Divisible (q .first .v) n d
+  pub second : Divisible (q .second .v) n d
+  pub whole : sq (q .first .v) + sq (q .second .v) ≡ d
 
 module _ (r : ℤ) (s e : Flat) (h : Spanned r s e) where
   pub radius-most : 4 * sq r ≤ 4_000_000_000_000_000_000
@@ -145,21 +174,14 @@ module _ (r : ℤ) (s e : Flat) (h : Spanned r s e) where
         near = near-sq q (omega arith);
       }
 
-  module _ (left : Bool) (q : Flat) (n d : ℕ) (qs : q ≡ across left (direction s e)) (ns : n ≡ spare r s e) (ds : d ≡ distance² s e) where
-    pub first-coordinates : Coordinates (s .first) (e .first) (q .first) n d
-    first-coordinates =
-        rw (qs, ns, ds)
-        (record {
-          start = h .chord .start .first;
-          end = h .chord .end .first;
-          divisible = divisible (across left (direction s e) .first .v) (omega (arith, across-first left s e));
-        })
-
-    pub second-coordinates : Coordinates (s .second) (e .second) (q .second) n d
-    second-coordinates =
-        rw (qs, ns, ds)
-        (record {
-          start = h .chord .start .second;
-          end = h .chord .end .second;
-          divisible = divisible (across left (direction s e) .second .v) (omega (arith, across-second left s e));
-        })
+  pub chord-split :
+      (left : Bool) (q : Flat) (n d : ℕ)
+      → q ≡ across left (direction s e) → n ≡ spare r s e → d ≡ distance² s e → Split q n d
+  chord-split left q n d qs ns ds =
+      let x = across left (direction s e) in
+      rw (qs, ns, ds)
+      (record {
+        first = divisible (x .first .v) (omega (arith, across-first left s e));
+        second = divisible (x .second .v) (omega (arith, across-second left s e));
+        whole = as-long left s e;
+      })

@@ -1,14 +1,15 @@
 -- The bounds under which every number of the centre's computation fits, as linear facts of naturals (specs/View.antt of `lengths`).
-use Prim.Native.Nat.{ℕ, _≤_, _<_}
+use Prim.Native.Nat.{ℕ, _+_, _*_, _/_, _%_, _≤_, _<_}
 use mathlib.Core.Path.{_≡_}
 use mathlib.Core.Bool.{true}
 use lib.IntN.{ℤ}
 use Rattle.lengths.specs.declared.Len.{Len}
-use Rattle.lengths.specs.Units.{sq}
+use Rattle.lengths.specs.Units.{len, sq}
 use Rattle.lengths.specs.View.{Within}
 use Rattle.points.specs.declared.Flat.{Flat}
 use Rattle.points.specs.Near.{FlatNear}
-use Rattle.centres.specs.Centres.{radiusHolds}
+use Rattle.wide.specs.declared.Division.{Division}
+use Rattle.centres.specs.Centres.{radiusHolds, scaledRoot}
 
 -- What a run keeps: an R word is within 1,000,000,000, the tool within 1,100,000,000 in the frame of the common offset, and where
 -- its words lead within 2,100,000,000, inside the travel or not.
@@ -30,7 +31,30 @@ pub record Divisible (q : ℤ) (n d : ℕ) : Type 0 where
   pub spare : n ≤ 4_000_000_000_000_000_000
   pub near : Within 2_000_000_000 q
 
-pub record Coordinates (from to q : Len) (n d : ℕ) : Type 0 where
+-- ---- what the functions of the code ask of each other and answer
+
+-- what q has of n: the square of q times n, divided by d
+pub record Shares (q : ℤ) (n d : ℕ) (share : Division) : Type 0 where
+  pub some : 0 < d
+  pub whole : share .quotient ≡ sq q * n / d
+  pub left : share .rest ≡ sq q * n % d
+
+-- a division by d of a part of n · d
+pub record Part (n d : ℕ) (share : Division) : Type 0 where
+  pub part : share .quotient * d + share .rest ≤ n * d
+  pub below : share .rest < d
+
+-- the division by d of what is left of n · d
+pub record Parted (n d : ℕ) (share other : Division) : Type 0 where
+  pub all : (share .quotient + other .quotient) * d + (share .rest + other .rest) ≡ n * d
+  pub below : other .rest < d
+
+-- q times the root of n / d, rounded down, whatever n and d the share came from
+pub record Scaled (q : ℤ) (share : Division) (r : Len) : Type 0 where
+  pub near : Within 2_000_000_001 (r .v)
+  pub is : (n d : ℕ) → Shares q n d share → r ≡ len (scaledRoot q n d)
+
+pub record Coordinates (from to : Len) (share : Division) : Type 0 where
   pub start : Within 1_100_000_000 (from .v)
   pub end : Within 2_100_000_000 (to .v)
-  pub divisible : Divisible (q .v) n d
+  pub most : share .quotient ≤ 4_000_000_000_000_000_000
