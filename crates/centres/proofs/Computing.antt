@@ -6,6 +6,7 @@ use mathlib.Core.Bool.{Bool, true, false, _&&_, and-false}
 use native.Mathlib.Nat.{mul-le-mul, mul-le-mul-left, mul-le-mul-right, lt-of-mul-lt-mul-right, eq-of-mul-eq-mul-right, div-add-mod', div-le-of-le-mul, mod-lt}
 use native.Mathlib.Numerals.{add-one}
 use native.Mathlib.Omega.{arith}
+use lib.Arith.{digits-div, digits-mod}
 use lib.Dec.{eqb}
 use lib.IntN.{ℤ, pos, negℤ, _-ℤ_, natAbs}
 use lib.Signed.{leZ}
@@ -20,7 +21,6 @@ use Rattle.arcs.specs.Bounds.{Reach}
 use Rattle.arcs.proofs.Root.{root-is, square-lt}
 use Rattle.arcs.proofs.Reach.{near-distance}
 use Rattle.wide.specs.declared.Division.{Division}
-use Rattle.wide.proofs.Dividing.{Brought, quotient-is, rest-is}
 use Rattle.centres.specs.Centres.{radiusHolds, across, spare, scaledRoot}
 use Rattle.centres.specs.Bounds.{Spanned, Divisible, Shares, Part, Parted}
 use Rattle.centres.proofs.Accepted.{chord-some, chord-most}
@@ -93,13 +93,18 @@ module _ (n d : ℕ) (share : Division) (h : Part n d share) where
 
 -- the squares of p and q come to d, so what p leaves of n is the share of q
 module _ (p q : ℤ) (n d : ℕ) (whole : sq p + sq q ≡ d) (share other : Division) (k : Shares p n d share) (h : Parted n d share other) where
-  brought : Brought (sq q * n) d (other .quotient) (other .rest)
-  brought =
+  other-sum : other .quotient * d + other .rest ≡ sq q * n
+  other-sum =
       let e : (sq p + sq q) * n ≡ d * n = ap (_* n) whole in
-      record { whole = omega (arith, e, h .all, shares-whole p n d share k); below = h .below }
+      omega (arith, e, h .all, shares-whole p n d share k)
 
   pub other-shares : Shares q n d other
-  other-shares = record { some = k .some; whole = quotient-is brought; left = rest-is brought }
+  other-shares =
+      record {
+        some = k .some;
+        whole = rw (sym other-sum) (sym (digits-div (other .quotient) (h .below)));
+        left = rw (sym other-sum) (sym (digits-mod (other .quotient) (h .below)));
+      }
 
 -- ---- q times the root of n / d
 
