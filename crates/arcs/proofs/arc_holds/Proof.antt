@@ -21,23 +21,8 @@ near c =
     let s = c .before .before .before .before .before in
     rw (r-is c) (root-near (s .args .from) (s .args .a) (s .pre))
 
-centre-of-requires : tie.Need-centre-of-requires
-centre-of-requires c κs = search needs
-
-in-plane-requires : tie.Need-in-plane-requires
-in-plane-requires c κs = search needs
-
-squared-radius-requires : tie.Need-squared-radius-requires
-squared-radius-requires c κs = search needs
-
-root-of-requires : tie.Need-root-of-requires
-root-of-requires c κs = search needs
-
 add-if1 : tie.Need-add-if1
 add-if1 c = omega (arith, near c)
-
-apart-requires : tie.Need-apart-requires
-apart-requires c κs = search needs
 
 returns : tie.Need-returns
 returns c =
@@ -49,9 +34,6 @@ returns c =
 
 add-if2 : tie.Need-add-if2
 add-if2 c = omega (arith, near (c .before .before))
-
-apart-requires-2 : tie.Need-apart-requires-2
-apart-requires-2 c κs = search needs
 
 returns-2 : tie.Need-returns-2
 returns-2 c =
@@ -78,17 +60,5 @@ returns-3 c =
 pub arc-holds-spec : {M : Type 1} → statement M
 arc-holds-spec =
     tie.close
-    (tie.spec
-    centre-of-requires
-    in-plane-requires
-    squared-radius-requires
-    root-of-requires
-    add-if1
-    apart-requires
-    returns
-    add-if2
-    apart-requires-2
-    returns-2
-    squared-distance-requires
-    is-round-enough-requires
-    returns-3)
+    (tie.spec (λ c κs. search needs) (λ c κs. search needs) (λ c κs. search needs) (λ c κs. search needs) add-if1 (λ c κs. search needs)
+    returns add-if2 (λ c κs. search needs) returns-2 squared-distance-requires is-round-enough-requires returns-3)

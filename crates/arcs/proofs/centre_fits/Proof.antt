@@ -26,24 +26,6 @@ others SO h = refl
 others PA h = refl
 others EN h = refl
 
-enum-known-r : tie.Need-enum-known-r
-enum-known-r c = search needs
-
-fits-four-requires : tie.Need-fits-four-requires
-fits-four-requires c κs = search needs
-
-fits-four-requires-2 : tie.Need-fits-four-requires-2
-fits-four-requires-2 c κs = search needs
-
-enum-known-r-2 : tie.Need-enum-known-r-2
-enum-known-r-2 c = search needs
-
-fits-four-requires-3 : tie.Need-fits-four-requires-3
-fits-four-requires-3 c κs = search needs
-
-fits-four-requires-4 : tie.Need-fits-four-requires-4
-fits-four-requires-4 c κs = search needs
-
 returns : tie.Need-returns
 unfolding centreFits pathOf
 returns c = rw (c .before .fits-four .ensures, c .fits-four2 .ensures, c .before .before .before .r .given .1)
@@ -58,13 +40,5 @@ returns-3 c = sym (others (c .before .args .r) (c .match .keys3))
 pub centre-fits-spec : {M : Type 1} → statement M
 centre-fits-spec =
     tie.close
-    (tie.spec
-    enum-known-r
-    fits-four-requires
-    fits-four-requires-2
-    enum-known-r-2
-    fits-four-requires-3
-    fits-four-requires-4
-    returns
-    returns-2
-    returns-3)
+    (tie.spec (λ c. search needs) (λ c κs. search needs) (λ c κs. search needs) (λ c. search needs) (λ c κs. search needs)
+    (λ c κs. search needs) returns returns-2 returns-3)

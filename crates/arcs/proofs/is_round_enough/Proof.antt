@@ -9,18 +9,6 @@ returns : tie.Need-returns
 unfolding roundEnough
 returns c = rw (lt-leb 2_000 (c .before .args .r) (c .if1 .taken))
 
-sub-squared : tie.Need-sub-squared
-sub-squared c = search needs
-
-squared-requires : tie.Need-squared-requires
-squared-requires c κs = search needs
-
-add-squared : tie.Need-add-squared
-add-squared c = search needs
-
-squared-requires-2 : tie.Need-squared-requires-2
-squared-requires-2 c κs = search needs
-
 returns-2 : tie.Need-returns-2
 unfolding roundEnough
 returns-2 c =
@@ -30,4 +18,4 @@ returns-2 c =
 pub is-round-enough-spec : {M : Type 1} → statement M
 is-round-enough-spec =
     tie.close
-    (tie.spec returns sub-squared squared-requires add-squared squared-requires-2 returns-2)
+    (tie.spec returns (λ c. search needs) (λ c κs. search needs) (λ c. search needs) (λ c κs. search needs) returns-2)

@@ -39,52 +39,10 @@ loop-holds c =
           rw e (record { isRoot = record { notAbove = omega arith; largest = omega arith }; left = omega arith; small = omega arith });
     }
 
-sub-pairs : tie.Need-sub-pairs Inv-loop μ-loop
-sub-pairs c = omega arith
-
-mul-rest : tie.Need-mul-rest Inv-loop μ-loop
-mul-rest c = omega arith
-
-mul-rest-2 : tie.Need-mul-rest-2 Inv-loop μ-loop
-mul-rest-2 c = omega arith
-
-cast-rest : tie.Need-cast-rest Inv-loop μ-loop
-cast-rest c = omega arith
-
-shr-rest : tie.Need-shr-rest Inv-loop μ-loop
-shr-rest c = omega arith
-
-add-rest : tie.Need-add-rest Inv-loop μ-loop
-add-rest c = omega arith
-
-mul-r : tie.Need-mul-r Inv-loop μ-loop
-mul-r c = omega arith
-
-mul-if1 : tie.Need-mul-if1 Inv-loop μ-loop
-mul-if1 c = omega arith
-
-mul-rest-3 : tie.Need-mul-rest-3 Inv-loop μ-loop
-mul-rest-3 c = omega arith
-
-add-rest-2 : tie.Need-add-rest-2 Inv-loop μ-loop
-add-rest-2 c = omega arith
-
-sub-rest : tie.Need-sub-rest Inv-loop μ-loop
-sub-rest c = omega arith
-
-add-r : tie.Need-add-r Inv-loop μ-loop
-add-r c = omega arith
-
-loop-less : tie.Need-loop-less Inv-loop μ-loop
-loop-less c = omega arith
-
 loop-again : tie.Need-loop-again Inv-loop μ-loop
 loop-again c =
     let x = c .before .before in
     record { few = omega arith; brought = digit-one (below x) (x .loop .r) (x .loop .rest) (fits x) (was (c .before)) (c .if1 .taken) }
-
-loop-less-2 : tie.Need-loop-less-2 Inv-loop μ-loop
-loop-less-2 c = omega arith
 
 loop-again-2 : tie.Need-loop-again-2 Inv-loop μ-loop
 loop-again-2 c =
@@ -100,24 +58,6 @@ returns c =
 pub root-of-spec : {M : Type 1} → statement M
 root-of-spec =
     tie.close
-    (tie.spec
-    Inv-loop
-    μ-loop
-    loop-holds
-    sub-pairs
-    mul-rest
-    mul-rest-2
-    cast-rest
-    shr-rest
-    add-rest
-    mul-r
-    mul-if1
-    mul-rest-3
-    add-rest-2
-    sub-rest
-    add-r
-    loop-less
-    loop-again
-    loop-less-2
-    loop-again-2
-    returns)
+    (tie.spec Inv-loop μ-loop loop-holds (λ c. omega arith) (λ c. omega arith) (λ c. omega arith) (λ c. omega arith) (λ c. omega arith)
+    (λ c. omega arith) (λ c. omega arith) (λ c. omega arith) (λ c. omega arith) (λ c. omega arith) (λ c. omega arith) (λ c. omega arith)
+    (λ c. omega arith) loop-again (λ c. omega arith) loop-again-2 returns)

@@ -8,8 +8,5 @@ use Rattle.arcs.proofs.squared.Tie as tie
 mul-result : tie.Need-mul-result
 mul-result c = omega (arith, mul-le-mul (c .pre) (c .pre))
 
-returns : tie.Need-returns
-returns c = search needs
-
 pub squared-spec : {M : Type 1} → statement M
-squared-spec = tie.close (tie.spec mul-result returns)
+squared-spec = tie.close (tie.spec mul-result (λ c. search needs))

@@ -17,18 +17,6 @@ is c =
     rw
     (c .before .before .square .ensures, c .square2 .ensures, c .before .before .before .minus .ensures .is, c .before .minus2 .ensures .is)
 
-minus-requires : tie.Need-minus-requires
-minus-requires c κs = search needs
-
-square-requires : tie.Need-square-requires
-square-requires c κs = search needs
-
-minus-requires-2 : tie.Need-minus-requires-2
-minus-requires-2 c κs = search needs
-
-square-requires-2 : tie.Need-square-requires-2
-square-requires-2 c κs = search needs
-
 add-result : tie.Need-add-result
 add-result c =
     let s = c .before .before .before .before in
@@ -40,4 +28,4 @@ returns c = is c
 pub squared-distance-spec : {M : Type 1} → statement M
 squared-distance-spec =
     tie.close
-    (tie.spec minus-requires square-requires minus-requires-2 square-requires-2 add-result returns)
+    (tie.spec (λ c κs. search needs) (λ c κs. search needs) (λ c κs. search needs) (λ c κs. search needs) add-result returns)

@@ -5,12 +5,6 @@ use Rattle.arcs.specs.Arcs.{radius²}
 use Rattle.arcs.proofs.squared_radius.Statement.{statement}
 use Rattle.arcs.proofs.squared_radius.Tie as tie
 
-centre-of-requires : tie.Need-centre-of-requires
-centre-of-requires c κs = search needs
-
-in-plane-requires : tie.Need-in-plane-requires
-in-plane-requires c κs = search needs
-
 squared-distance-requires : tie.Need-squared-distance-requires
 squared-distance-requires c κs = rw (c .before .centre-of .ensures, c .in-plane .ensures) (omega arith)
 
@@ -20,4 +14,5 @@ returns c = rw (c .squared-distance .ensures, c .before .before .centre-of .ensu
 
 pub squared-radius-spec : {M : Type 1} → statement M
 squared-radius-spec =
-    tie.close (tie.spec centre-of-requires in-plane-requires squared-distance-requires returns)
+    tie.close
+    (tie.spec (λ c κs. search needs) (λ c κs. search needs) squared-distance-requires returns)

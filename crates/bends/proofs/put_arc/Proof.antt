@@ -8,21 +8,6 @@ use Rattle.bends.proofs.Bent.{arc-far, arc-round, arc-left, arc-right}
 use Rattle.bends.proofs.put_arc.Statement.{statement}
 use Rattle.bends.proofs.put_arc.Tie as tie
 
-is-drawable-requires : tie.Need-is-drawable-requires
-is-drawable-requires c κs = search needs
-
-seen-requires : tie.Need-seen-requires
-seen-requires c κs = search needs
-
-seen-requires-2 : tie.Need-seen-requires-2
-seen-requires-2 c κs = search needs
-
-put-line-requires : tie.Need-put-line-requires
-put-line-requires c κs = search needs
-
-same-length : tie.Need-same-length
-same-length c = search needs
-
 returns : tie.Need-returns
 returns c =
     rw (arc-far (c .before .before .before .before .before .before .before .before .before .before .args .view) (c .before .before .before .before .before .before .before .before .before .before .args .from) (c .before .before .before .before .before .before .before .before .before .before .args .a) (c .before .before .before .before .before .before .before .before .before .before .args .turn) (sym (c .before .before .before .before .before .before .before .is-drawable .ensures) ∙ not-true _ (c .before .before .before .before .before .before .if1 .taken)), ← c .before .before .before .before .seen .ensures, ← c .before .before .before .seen2 .ensures)
@@ -40,15 +25,9 @@ radius-of-requires : tie.Need-radius-of-requires
 radius-of-requires c κs =
     drawable-facts (c .before .before .before .before .before .before .args .from) (c .before .before .before .before .before .before .args .a) (sym (c .before .before .before .is-drawable .ensures) ∙ not-false _ (c .before .before .if1 .left))
 
-is-round-requires : tie.Need-is-round-requires
-is-round-requires c κs = search needs
-
 put-round-requires : tie.Need-put-round-requires
 put-round-requires c κs =
     (drawable-facts (c .before .before .before .before .before .before .before .before .before .before .args .from) (c .before .before .before .before .before .before .before .before .before .before .args .a) (sym (c .before .before .before .before .before .before .before .is-drawable .ensures) ∙ not-false _ (c .before .before .before .before .before .before .if1 .left)), c .before .before .before .before .before .from-centre .ensures .small, c .before .before .before .before .from-centre2 .ensures .small)
-
-same-length-2 : tie.Need-same-length-2
-same-length-2 c = search needs
 
 returns-2 : tie.Need-returns-2
 returns-2 c =
@@ -58,9 +37,6 @@ put-edge-requires : tie.Need-put-edge-requires
 put-edge-requires c κs =
     (drawable-facts (c .before .before .before .before .before .before .before .before .before .before .before .args .from) (c .before .before .before .before .before .before .before .before .before .before .before .args .a) (sym (c .before .before .before .before .before .before .before .before .is-drawable .ensures) ∙ not-false _ (c .before .before .before .before .before .before .before .if1 .left)), c .before .before .before .before .before .before .from-centre .ensures .small, c .before .before .before .before .before .from-centre2 .ensures .small, c .before .before .before .before .radius-of .ensures .1)
 
-same-length-3 : tie.Need-same-length-3
-same-length-3 c = search needs
-
 returns-3 : tie.Need-returns-3
 returns-3 c =
     rw (arc-left (c .before .before .before .before .before .before .before .before .before .before .before .before .before .before .args .view) (c .before .before .before .before .before .before .before .before .before .before .before .before .before .before .args .from) (c .before .before .before .before .before .before .before .before .before .before .before .before .before .before .args .a) (sym (c .before .before .before .before .before .before .before .before .before .before .before .is-drawable .ensures) ∙ not-false _ (c .before .before .before .before .before .before .before .before .before .before .if1 .left)) (c .before .before .before .before .before .before .before .before .before .from-centre .result) (c .before .before .before .before .before .before .before .before .from-centre2 .result) (c .before .before .before .before .before .before .before .radius-of .result) (c .before .before .before .before .before .before .before .before .before .from-centre .ensures .is) (c .before .before .before .before .before .before .before .before .from-centre2 .ensures .is) (c .before .before .before .before .before .before .before .radius-of .ensures .0) (c .before .before .before .before .before .before .before .before .before .before .before .before .before .before .args .turn) (sym (c .before .before .before .before .before .before .is-round .ensures) ∙ c .before .before .before .before .before .if2 .left) (c .before .before .before .before .if3 .taken)) (c .before .before .put-edge .ensures)
@@ -69,9 +45,6 @@ put-edge-requires-2 : tie.Need-put-edge-requires-2
 put-edge-requires-2 c κs =
     (drawable-facts (c .before .before .before .before .before .before .before .before .before .before .before .args .from) (c .before .before .before .before .before .before .before .before .before .before .before .args .a) (sym (c .before .before .before .before .before .before .before .before .is-drawable .ensures) ∙ not-false _ (c .before .before .before .before .before .before .before .if1 .left)), c .before .before .before .before .before .from-centre2 .ensures .small, c .before .before .before .before .before .before .from-centre .ensures .small, c .before .before .before .before .radius-of .ensures .1)
 
-same-length-4 : tie.Need-same-length-4
-same-length-4 c = search needs
-
 returns-4 : tie.Need-returns-4
 returns-4 c =
     rw (arc-right (c .before .before .before .before .before .before .before .before .before .before .before .before .before .before .args .view) (c .before .before .before .before .before .before .before .before .before .before .before .before .before .before .args .from) (c .before .before .before .before .before .before .before .before .before .before .before .before .before .before .args .a) (sym (c .before .before .before .before .before .before .before .before .before .before .before .is-drawable .ensures) ∙ not-false _ (c .before .before .before .before .before .before .before .before .before .before .if1 .left)) (c .before .before .before .before .before .before .before .before .before .from-centre .result) (c .before .before .before .before .before .before .before .before .from-centre2 .result) (c .before .before .before .before .before .before .before .radius-of .result) (c .before .before .before .before .before .before .before .before .before .from-centre .ensures .is) (c .before .before .before .before .before .before .before .before .from-centre2 .ensures .is) (c .before .before .before .before .before .before .before .radius-of .ensures .0) (c .before .before .before .before .before .before .before .before .before .before .before .before .before .before .args .turn) (sym (c .before .before .before .before .before .before .is-round .ensures) ∙ c .before .before .before .before .before .if2 .left) (c .before .before .before .before .if3 .left)) (c .before .before .put-edge2 .ensures)
@@ -79,23 +52,6 @@ returns-4 c =
 pub put-arc-spec : {M : Type 1} → statement M
 put-arc-spec =
     tie.close
-    (tie.spec
-    is-drawable-requires
-    seen-requires
-    seen-requires-2
-    put-line-requires
-    same-length
-    returns
-    from-centre-requires
-    from-centre-requires-2
-    radius-of-requires
-    is-round-requires
-    put-round-requires
-    same-length-2
-    returns-2
-    put-edge-requires
-    same-length-3
-    returns-3
-    put-edge-requires-2
-    same-length-4
-    returns-4)
+    (tie.spec (λ c κs. search needs) (λ c κs. search needs) (λ c κs. search needs) (λ c κs. search needs) (λ c. search needs) returns
+    from-centre-requires from-centre-requires-2 radius-of-requires (λ c κs. search needs) put-round-requires (λ c. search needs) returns-2
+    put-edge-requires (λ c. search needs) returns-3 put-edge-requires-2 (λ c. search needs) returns-4)

@@ -7,36 +7,6 @@ use Rattle.bends.specs.Bends.{edge}
 use Rattle.bends.proofs.put_edge.Statement.{statement}
 use Rattle.bends.proofs.put_edge.Tie as tie
 
-slice-aggregate-put-pair : tie.Need-slice-aggregate-put-pair
-slice-aggregate-put-pair c = search needs
-
-seen-requires : tie.Need-seen-requires
-seen-requires c κs = search needs
-
-put-pair-requires : tie.Need-put-pair-requires
-put-pair-requires c κs = search needs
-
-put-extremes-requires : tie.Need-put-extremes-requires
-put-extremes-requires c κs = search needs
-
-slice-aggregate-put-pair-2 : tie.Need-slice-aggregate-put-pair-2
-slice-aggregate-put-pair-2 c = search needs
-
-seen-requires-2 : tie.Need-seen-requires-2
-seen-requires-2 c κs = search needs
-
-put-pair-requires-2 : tie.Need-put-pair-requires-2
-put-pair-requires-2 c κs = search needs
-
-slice-aggregate-put-text : tie.Need-slice-aggregate-put-text
-slice-aggregate-put-text c = search needs
-
-put-text-requires : tie.Need-put-text-requires
-put-text-requires c κs = search needs
-
-same-length : tie.Need-same-length
-same-length c = search needs
-
 returns : tie.Need-returns
 unfolding edge
 returns c =
@@ -48,15 +18,5 @@ returns c =
 pub put-edge-spec : {M : Type 1} → statement M
 put-edge-spec =
     tie.close
-    (tie.spec
-    slice-aggregate-put-pair
-    seen-requires
-    put-pair-requires
-    put-extremes-requires
-    slice-aggregate-put-pair-2
-    seen-requires-2
-    put-pair-requires-2
-    slice-aggregate-put-text
-    put-text-requires
-    same-length
-    returns)
+    (tie.spec (λ c. search needs) (λ c κs. search needs) (λ c κs. search needs) (λ c κs. search needs) (λ c. search needs)
+    (λ c κs. search needs) (λ c κs. search needs) (λ c. search needs) (λ c κs. search needs) (λ c. search needs) returns)

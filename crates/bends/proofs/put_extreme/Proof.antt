@@ -7,28 +7,10 @@ use Rattle.bends.specs.Bends.{extreme}
 use Rattle.bends.proofs.put_extreme.Statement.{statement}
 use Rattle.bends.proofs.put_extreme.Tie as tie
 
-is-on-left-way-requires : tie.Need-is-on-left-way-requires
-is-on-left-way-requires c κs = search needs
-
 returns : tie.Need-returns
 unfolding extreme
 returns c =
     rw (sym (c .before .is-on-left-way .ensures) ∙ not-true _ (c .if1 .taken)) (fills-none (c .before .before .before .args .out .now) (c .before .before .before .args .at))
-
-slice-aggregate-put-pair : tie.Need-slice-aggregate-put-pair
-slice-aggregate-put-pair c = search needs
-
-point-on-requires : tie.Need-point-on-requires
-point-on-requires c κs = search needs
-
-seen-requires : tie.Need-seen-requires
-seen-requires c κs = search needs
-
-put-pair-requires : tie.Need-put-pair-requires
-put-pair-requires c κs = search needs
-
-same-length : tie.Need-same-length
-same-length c = search needs
 
 returns-2 : tie.Need-returns-2
 unfolding extreme
@@ -38,12 +20,5 @@ returns-2 c =
 pub put-extreme-spec : {M : Type 1} → statement M
 put-extreme-spec =
     tie.close
-    (tie.spec
-    is-on-left-way-requires
-    returns
-    slice-aggregate-put-pair
-    point-on-requires
-    seen-requires
-    put-pair-requires
-    same-length
-    returns-2)
+    (tie.spec (λ c κs. search needs) returns (λ c. search needs) (λ c κs. search needs) (λ c κs. search needs) (λ c κs. search needs)
+    (λ c. search needs) returns-2)

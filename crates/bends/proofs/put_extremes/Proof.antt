@@ -74,16 +74,5 @@ returns c =
 pub put-extremes-spec : {M : Type 1} → statement M
 put-extremes-spec =
     tie.close
-    (tie.spec
-    Inv-loop
-    μ-loop
-    of-count-requires
-    zero-requires
-    loop-holds
-    put-extreme-requires
-    quarter-on-requires
-    sub-left
-    loop-less
-    loop-again
-    same-length
-    returns)
+    (tie.spec Inv-loop μ-loop of-count-requires zero-requires loop-holds put-extreme-requires quarter-on-requires sub-left loop-less
+    loop-again same-length returns)

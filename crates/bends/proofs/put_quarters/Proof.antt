@@ -91,20 +91,5 @@ returns-2 c =
 pub put-quarters-spec : {M : Type 1} → statement M
 put-quarters-spec =
     tie.close
-    (tie.spec
-    Inv-loop
-    μ-loop
-    turn-seen-requires
-    loop-holds
-    is-soon-requires
-    same-length
-    returns
-    quarter-on-requires
-    point-on-requires
-    seen-requires
-    put-piece-requires
-    sub-left
-    loop-less
-    loop-again
-    same-length-2
-    returns-2)
+    (tie.spec Inv-loop μ-loop turn-seen-requires loop-holds is-soon-requires same-length returns quarter-on-requires point-on-requires
+    seen-requires put-piece-requires sub-left loop-less loop-again same-length-2 returns-2)

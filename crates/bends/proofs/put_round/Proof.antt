@@ -6,36 +6,6 @@ use Rattle.bends.specs.Bends.{rounded}
 use Rattle.bends.proofs.put_round.Statement.{statement}
 use Rattle.bends.proofs.put_round.Tie as tie
 
-slice-aggregate-put-pair : tie.Need-slice-aggregate-put-pair
-slice-aggregate-put-pair c = search needs
-
-seen-requires : tie.Need-seen-requires
-seen-requires c κs = search needs
-
-put-pair-requires : tie.Need-put-pair-requires
-put-pair-requires c κs = search needs
-
-put-quarters-requires : tie.Need-put-quarters-requires
-put-quarters-requires c κs = search needs
-
-turn-seen-requires : tie.Need-turn-seen-requires
-turn-seen-requires c κs = search needs
-
-seen-requires-2 : tie.Need-seen-requires-2
-seen-requires-2 c κs = search needs
-
-put-piece-requires : tie.Need-put-piece-requires
-put-piece-requires c κs = search needs
-
-slice-aggregate-put-text : tie.Need-slice-aggregate-put-text
-slice-aggregate-put-text c = search needs
-
-put-text-requires : tie.Need-put-text-requires
-put-text-requires c κs = search needs
-
-same-length : tie.Need-same-length
-same-length c = search needs
-
 returns : tie.Need-returns
 unfolding rounded
 returns c =
@@ -47,15 +17,5 @@ returns c =
 pub put-round-spec : {M : Type 1} → statement M
 put-round-spec =
     tie.close
-    (tie.spec
-    slice-aggregate-put-pair
-    seen-requires
-    put-pair-requires
-    put-quarters-requires
-    turn-seen-requires
-    seen-requires-2
-    put-piece-requires
-    slice-aggregate-put-text
-    put-text-requires
-    same-length
-    returns)
+    (tie.spec (λ c. search needs) (λ c κs. search needs) (λ c κs. search needs) (λ c κs. search needs) (λ c κs. search needs)
+    (λ c κs. search needs) (λ c κs. search needs) (λ c. search needs) (λ c κs. search needs) (λ c. search needs) returns)

@@ -4,12 +4,6 @@ use Rattle.bends.specs.Bends.{turnSeen}
 use Rattle.bends.proofs.turn_seen.Statement.{statement}
 use Rattle.bends.proofs.turn_seen.Tie as tie
 
-enum-told : tie.Need-enum-told
-enum-told c = search needs
-
-enum-told-2 : tie.Need-enum-told-2
-enum-told-2 c = search needs
-
 returns : tie.Need-returns
 unfolding turnSeen
 returns c =
@@ -21,4 +15,4 @@ returns-2 c =
     rw (c .enum-told2 .given .1)
 
 pub turn-seen-spec : {M : Type 1} → statement M
-turn-seen-spec = tie.close (tie.spec enum-told enum-told-2 returns returns-2)
+turn-seen-spec = tie.close (tie.spec (λ c. search needs) (λ c. search needs) returns returns-2)

@@ -8,8 +8,5 @@ pub across-spec : {M : Type 1} → statement M
 unfolding across
 across-spec =
     tie.close
-    (tie.spec
-    (λ c κs. search needs)
-    (λ c. rw (c .negated .ensures .is, c .before .if1 .taken))
-    (λ c κs. search needs)
+    (tie.spec (λ c κs. search needs) (λ c. rw (c .negated .ensures .is, c .before .if1 .taken)) (λ c κs. search needs)
     (λ c. rw (c .negated2 .ensures .is, c .before .if1 .left)))

@@ -144,18 +144,6 @@ returns c =
 pub centre-by-spec : {M : Type 1} → statement M
 centre-by-spec =
     tie.close
-    (tie.spec
-    (λ c κs. search needs)
-    (λ c κs. search needs)
-    (λ c κs. search needs)
-    squared-distance-requires
-    (λ c κs. search needs)
-    mul-n
-    sub-n
-    (λ c κs. omega (arith, split-here c .first .near))
-    (λ c κs. search needs)
-    divided-requires
-    other-share-requires
-    coordinate-requires
-    coordinate-requires-2
-    returns)
+    (tie.spec (λ c κs. search needs) (λ c κs. search needs) (λ c κs. search needs) squared-distance-requires (λ c κs. search needs) mul-n
+    sub-n (λ c κs. omega (arith, split-here c .first .near)) (λ c κs. search needs) divided-requires other-share-requires
+    coordinate-requires coordinate-requires-2 returns)

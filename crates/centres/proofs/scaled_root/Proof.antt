@@ -67,17 +67,9 @@ returns-3 c =
 pub scaled-root-spec : {M : Type 1} → statement M
 scaled-root-spec =
     tie.close
-    (tie.spec
-    (λ c κs. search needs)
-    (λ c κs. search needs)
-    (λ c κs. search needs)
-    (λ c κs. omega (arith, small (c .before .before .before)))
-    returns
+    (tie.spec (λ c κs. search needs) (λ c κs. search needs) (λ c κs. search needs)
+    (λ c κs. omega (arith, small (c .before .before .before))) returns
     (λ c. let k = small (c .before .before .before .before) in omega (arith, mul-le-mul k k))
-    (λ c κs. omega (arith, small (c .before .before .before .before .before .before)))
-    (λ c κs. search needs)
-    returns-2
+    (λ c κs. omega (arith, small (c .before .before .before .before .before .before))) (λ c κs. search needs) returns-2
     (λ c. omega (arith, small (c .before .before .before .before .before .before)))
-    (λ c κs. omega (arith, small (c .before .before .before .before .before .before)))
-    (λ c κs. search needs)
-    returns-3)
+    (λ c κs. omega (arith, small (c .before .before .before .before .before .before))) (λ c κs. search needs) returns-3)

@@ -8,7 +8,4 @@ pub clash-spec : {M : Type 1} → statement M
 unfolding clash isGroupA isG04
 clash-spec =
     tie.close
-    (tie.spec
-    (λ c κs. search needs)
-    (λ c κs. search needs)
-    (λ c. rw (c .before .group-of .ensures, c .group-of2 .ensures)))
+    (tie.spec (λ c κs. search needs) (λ c κs. search needs) (λ c. rw (c .before .group-of .ensures, c .group-of2 .ensures)))

@@ -5,12 +5,6 @@ use Rattle.commands.proofs.Parting.{past-word, past-last}
 use Rattle.commands.proofs.after_word.Statement.{statement}
 use Rattle.commands.proofs.after_word.Tie as tie
 
-word-end-requires : tie.Need-word-end-requires
-word-end-requires c κs = search needs
-
-add-result : tie.Need-add-result
-add-result c = search needs
-
 returns : tie.Need-returns
 returns c =
     let a = c .before .before .before .args in
@@ -22,4 +16,4 @@ returns-2 c =
     (omega arith, past-last (a .line .now) (a .from) (c .before .word-end .result) (c .before .word-end .ensures) (c .if1 .left))
 
 pub after-word-spec : {M : Type 1} → statement M
-after-word-spec = tie.close (tie.spec word-end-requires add-result returns returns-2)
+after-word-spec = tie.close (tie.spec (λ c κs. search needs) (λ c. search needs) returns returns-2)

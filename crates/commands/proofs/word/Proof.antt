@@ -7,18 +7,6 @@ use Rattle.commands.proofs.Parting.{word-inside, is-word}
 use Rattle.commands.proofs.word.Statement.{statement}
 use Rattle.commands.proofs.word.Tie as tie
 
-after-words-requires : tie.Need-after-words-requires
-after-words-requires c κs = search needs
-
-word-end-requires : tie.Need-word-end-requires
-word-end-requires c κs = search needs
-
-sub-result : tie.Need-sub-result
-sub-result c = search needs
-
-part-result-start : tie.Need-part-result-start
-part-result-start c = search needs
-
 part-result-end : tie.Need-part-result-end
 part-result-end c =
     let d = c .before in
@@ -33,10 +21,4 @@ returns c =
 pub word-spec : {M : Type 1} → statement M
 word-spec =
     tie.close
-    (tie.spec
-    after-words-requires
-    word-end-requires
-    sub-result
-    part-result-start
-    part-result-end
-    returns)
+    (tie.spec (λ c κs. search needs) (λ c κs. search needs) (λ c. search needs) (λ c. search needs) part-result-end returns)

@@ -7,9 +7,6 @@ use Rattle.cycles.specs.Cycles.{holeOf, levelR, levelZ}
 use Rattle.cycles.proofs.hole_of.Statement.{statement}
 use Rattle.cycles.proofs.hole_of.Tie as tie
 
-aimed-requires : tie.Need-aimed-requires
-aimed-requires c κs = search needs
-
 aimed-requires-2 : tie.Need-aimed-requires-2
 aimed-requires-2 c κs =
     let s = c .before .before .before .before .before in
@@ -25,4 +22,4 @@ unfolding holeOf levelR levelZ
 returns c = rw (c .before .before .aimed2 .ensures, c .before .before .before .before .aimed .ensures)
 
 pub hole-of-spec : {M : Type 1} → statement M
-hole-of-spec = tie.close (tie.spec aimed-requires aimed-requires-2 returns)
+hole-of-spec = tie.close (tie.spec (λ c κs. search needs) aimed-requires-2 returns)

@@ -8,12 +8,6 @@ use Rattle.cycles.specs.Cycles.{passCount}
 use Rattle.cycles.proofs.pass_count.Statement.{statement}
 use Rattle.cycles.proofs.pass_count.Tie as tie
 
-zero-requires : tie.Need-zero-requires
-zero-requires c κs = search needs
-
-apart-requires : tie.Need-apart-requires
-apart-requires c κs = search needs
-
 returns : tie.Need-returns
 unfolding passCount
 returns c =
@@ -26,4 +20,6 @@ unfolding passCount
 returns-2 c = record { is = rw (c .if1 .left); few = omega arith }
 
 pub pass-count-spec : {M : Type 1} → statement M
-pass-count-spec = tie.close (tie.spec zero-requires apart-requires returns returns-2)
+pass-count-spec =
+    tie.close
+    (tie.spec (λ c κs. search needs) (λ c κs. search needs) returns returns-2)

@@ -6,15 +6,6 @@ use Rattle.cycles.proofs.Passes.{ends-with-z, ends-without-z}
 use Rattle.cycles.proofs.pass_end.Statement.{statement}
 use Rattle.cycles.proofs.pass_end.Tie as tie
 
-return-level-requires : tie.Need-return-level-requires
-return-level-requires c κs = search needs
-
-at-height-requires : tie.Need-at-height-requires
-at-height-requires c κs = search needs
-
-at-height-requires-2 : tie.Need-at-height-requires-2
-at-height-requires-2 c κs = search needs
-
 returns : tie.Need-returns
 returns c =
     let a = c .before .before .before .before .args in
@@ -29,4 +20,6 @@ returns-2 c =
     λ level from. c .at-height2 .ensures ∙ sym (ends-without-z (a .h) (a .p) level from (c .before .if1 .left))
 
 pub pass-end-spec : {M : Type 1} → statement M
-pass-end-spec = tie.close (tie.spec return-level-requires at-height-requires at-height-requires-2 returns returns-2)
+pass-end-spec =
+    tie.close
+    (tie.spec (λ c κs. search needs) (λ c κs. search needs) (λ c κs. search needs) returns returns-2)

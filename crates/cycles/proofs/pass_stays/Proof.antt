@@ -16,36 +16,8 @@ tested t e f = e ∙ ap (inside t) f
 pub pass-stays-spec : {M : Type 1} → statement M
 pass-stays-spec =
     tie.close
-    (tie.spec
+    (tie.spec (λ c κs. search needs) (λ c κs. search needs) (λ c κs. search needs) (λ c κs. search needs) (λ c κs. search needs)
+    (λ c κs. search needs) (λ c κs. search needs) (λ c κs. search needs) (λ c κs. search needs) (λ c κs. search needs)
     (λ c κs. search needs)
-    (λ c κs. search needs)
-    (λ c κs. search needs)
-    (λ c κs. search needs)
-    (λ c κs. search needs)
-    (λ c κs. search needs)
-    (λ c κs. search needs)
-    (λ c κs. search needs)
-    (λ c κs. search needs)
-    (λ c κs. search needs)
-    (λ c κs. search needs)
-    (λ c.
-    let three = c .before .before .before in
-    let two = three .before .before in
-    let one = two .before .before in
-    let test = one .before .before in
-    let a = test .before .before .args in
-    let last = ap (atHeight (a .p)) (c .before .before .return-level .ensures) in
-    λ from.
-    ap₂ _&&_
-    (ap₂ _&&_
-    (ap₂ _&&_
-    (tested (a .t) (one .is-inside .ensures) (one .before .at-height .ensures))
-    (tested (a .t) (two .is-inside2 .ensures) (two .before .at-height2 .ensures)))
-    (tested (a .t) (three .is-inside3 .ensures) (three .before .at-height3 .ensures)))
-    (tested (a .t) (c .is-inside4 .ensures) (c .before .at-height4 .ensures ∙ last))
-    ∙ sym (stays-with-z (a .t) (a .h) (a .p) (a .level) from (test .if1 .taken)))
-    (λ c.
-    let a = c .before .before .before .before .args in
-    λ from.
-    tested (a .t) (c .is-inside5 .ensures) (c .before .at-height5 .ensures)
-    ∙ sym (stays-without-z (a .t) (a .h) (a .p) (a .level) from (c .before .before .if1 .left))))
+    (λ c. let three = c .before .before .before in let two = three .before .before in let one = two .before .before in let test = one .before .before in let a = test .before .before .args in let last = ap (atHeight (a .p)) (c .before .before .return-level .ensures) in λ from. ap₂ _&&_ (ap₂ _&&_ (ap₂ _&&_ (tested (a .t) (one .is-inside .ensures) (one .before .at-height .ensures)) (tested (a .t) (two .is-inside2 .ensures) (two .before .at-height2 .ensures))) (tested (a .t) (three .is-inside3 .ensures) (three .before .at-height3 .ensures))) (tested (a .t) (c .is-inside4 .ensures) (c .before .at-height4 .ensures ∙ last)) ∙ sym (stays-with-z (a .t) (a .h) (a .p) (a .level) from (test .if1 .taken)))
+    (λ c. let a = c .before .before .before .before .args in λ from. tested (a .t) (c .is-inside5 .ensures) (c .before .at-height5 .ensures) ∙ sym (stays-without-z (a .t) (a .h) (a .p) (a .level) from (c .before .before .if1 .left))))

@@ -20,20 +20,11 @@ Inv-loop t h d origin v back left₀ level₀ at₀ left level at =
 abbrev μ-loop : tie.MeasureT-loop
 μ-loop t h d origin v back left₀ level₀ at₀ left level at = left
 
-return-level-requires : tie.Need-return-level-requires Inv-loop μ-loop
-return-level-requires c κs = search needs
-
 pass-count-requires : tie.Need-pass-count-requires Inv-loop μ-loop
 pass-count-requires c κs = c .before .pre .k
 
 loop-holds : tie.Need-loop-holds Inv-loop μ-loop
 loop-holds c = (c .before .before .before .pre .aims .from, refl)
-
-target-point-requires : tie.Need-target-point-requires Inv-loop μ-loop
-target-point-requires c κs = search needs
-
-pass-stays-requires : tie.Need-pass-stays-requires Inv-loop μ-loop
-pass-stays-requires c κs = search needs
 
 returns : tie.Need-returns Inv-loop μ-loop
 returns c =
@@ -46,15 +37,6 @@ returns c =
     ∙ now .inv .1
     ∙ way-leaves (a .h) (a .d) (a .origin) (a .v) (a .t) (now .left) (now .level) (now .at) (aim .target-point .result) (test .pass-stays .result)
     (aim .before .loop-test .taken) (aim .target-point .ensures .is) (test .pass-stays .ensures) (c .if1 .taken))
-
-pass-end-requires : tie.Need-pass-end-requires Inv-loop μ-loop
-pass-end-requires c κs = search needs
-
-sub-left : tie.Need-sub-left Inv-loop μ-loop
-sub-left c = omega arith
-
-loop-less : tie.Need-loop-less Inv-loop μ-loop
-loop-less c = omega arith
 
 loop-again : tie.Need-loop-again Inv-loop μ-loop
 loop-again c =
@@ -88,17 +70,5 @@ returns-2 c =
 pub passes-way-spec : {M : Type 1} → statement M
 passes-way-spec =
     tie.close
-    (tie.spec
-    Inv-loop
-    μ-loop
-    return-level-requires
-    pass-count-requires
-    loop-holds
-    target-point-requires
-    pass-stays-requires
-    returns
-    pass-end-requires
-    sub-left
-    loop-less
-    loop-again
-    returns-2)
+    (tie.spec Inv-loop μ-loop (λ c κs. search needs) pass-count-requires loop-holds (λ c κs. search needs) (λ c κs. search needs) returns
+    (λ c κs. search needs) (λ c. omega arith) (λ c. omega arith) loop-again returns-2)

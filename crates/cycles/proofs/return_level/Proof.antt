@@ -10,8 +10,6 @@ pub return-level-spec : {M : Type 1} → statement M
 unfolding levelFor returnLevel
 return-level-spec =
     tie.close
-    (tie.spec
-    (λ c. search needs)
-    (λ c. search needs)
+    (tie.spec (λ c. search needs) (λ c. search needs)
     (λ c. sym (ap (λ (b : Return). levelFor b (c .before .before .before .args .h)) (c .before .enum-told .given .1)))
     (λ c. sym (ap (λ (b : Return). levelFor b (c .before .before .before .args .h)) (c .before .enum-told2 .given .1))))

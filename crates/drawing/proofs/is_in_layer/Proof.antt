@@ -4,16 +4,10 @@ use Rattle.drawing.specs.Shapes.{inLayer}
 use Rattle.drawing.proofs.is_in_layer.Statement.{statement}
 use Rattle.drawing.proofs.is_in_layer.Tie as tie
 
-is-rapid-requires : tie.Need-is-rapid-requires
-is-rapid-requires c κs = search needs
-
 returns : tie.Need-returns
 unfolding inLayer
 returns c =
     rw (c .before .if1 .taken, c .is-rapid .ensures)
-
-is-rapid-requires-2 : tie.Need-is-rapid-requires-2
-is-rapid-requires-2 c κs = search needs
 
 returns-2 : tie.Need-returns-2
 unfolding inLayer
@@ -21,4 +15,6 @@ returns-2 c =
     rw (c .before .if1 .left, c .is-rapid2 .ensures)
 
 pub is-in-layer-spec : {M : Type 1} → statement M
-is-in-layer-spec = tie.close (tie.spec is-rapid-requires returns is-rapid-requires-2 returns-2)
+is-in-layer-spec =
+    tie.close
+    (tie.spec (λ c κs. search needs) returns (λ c κs. search needs) returns-2)

@@ -57,15 +57,4 @@ returns-2 c =
 pub last-of-spec : {M : Type 1} → statement M
 last-of-spec =
     tie.close
-    (tie.spec
-    Inv-loop
-    μ-loop
-    loop-holds
-    read-requires
-    enum-known-found
-    loop-less
-    loop-again
-    enum-told
-    returns
-    enum-told-2
-    returns-2)
+    (tie.spec Inv-loop μ-loop loop-holds read-requires enum-known-found loop-less loop-again enum-told returns enum-told-2 returns-2)

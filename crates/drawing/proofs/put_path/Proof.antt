@@ -86,19 +86,5 @@ returns-2 c =
 pub put-path-spec : {M : Type 1} → statement M
 put-path-spec =
     tie.close
-    (tie.spec
-    Inv-loop
-    μ-loop
-    loop-holds
-    read-requires
-    enum-known-found
-    put-record-requires
-    path-end-requires
-    loop-less
-    loop-again
-    enum-told
-    same-length
-    returns
-    enum-told-2
-    same-length-2
-    returns-2)
+    (tie.spec Inv-loop μ-loop loop-holds read-requires enum-known-found put-record-requires path-end-requires loop-less loop-again enum-told
+    same-length returns enum-told-2 same-length-2 returns-2)

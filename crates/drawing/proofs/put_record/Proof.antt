@@ -6,15 +6,6 @@ use Rattle.drawing.specs.Shapes.{drawn}
 use Rattle.drawing.proofs.put_record.Statement.{statement}
 use Rattle.drawing.proofs.put_record.Tie as tie
 
-is-in-layer-requires : tie.Need-is-in-layer-requires
-is-in-layer-requires c κs = search needs
-
-put-shape-requires : tie.Need-put-shape-requires
-put-shape-requires c κs = search needs
-
-same-length : tie.Need-same-length
-same-length c = search needs
-
 returns : tie.Need-returns
 unfolding drawn
 returns c =
@@ -27,4 +18,5 @@ returns-2 c =
 
 pub put-record-spec : {M : Type 1} → statement M
 put-record-spec =
-    tie.close (tie.spec is-in-layer-requires put-shape-requires same-length returns returns-2)
+    tie.close
+    (tie.spec (λ c κs. search needs) (λ c κs. search needs) (λ c. search needs) returns returns-2)

@@ -4,9 +4,6 @@ use Rattle.cycles.proofs.Written.{cut-sums, cut-fits, put-cut}
 use Rattle.drilling.proofs.put_cut.Statement.{statement}
 use Rattle.drilling.proofs.put_cut.Tie as tie
 
-at-height-requires : tie.Need-at-height-requires
-at-height-requires c κs = search needs
-
 moved-requires : tie.Need-moved-requires
 moved-requires c κs =
     let s = c .before .before in
@@ -18,9 +15,6 @@ put-requires c κs =
     let s = m .before .before .before in
     cut-fits (s .args .offset) (m .before .at-height .ensures) (m .moved .ensures .is) (s .args .feed) (s .pre)
 
-same-length : tie.Need-same-length
-same-length c = search needs
-
 returns : tie.Need-returns
 returns c =
     let put = c .before .before in
@@ -29,4 +23,6 @@ returns c =
     put-cut (a .offset) (m .before .at-height .ensures) (m .moved .ensures .is) (a .feed) (put .put .ensures)
 
 pub put-cut-spec : {M : Type 1} → statement M
-put-cut-spec = tie.close (tie.spec at-height-requires moved-requires put-requires same-length returns)
+put-cut-spec =
+    tie.close
+    (tie.spec (λ c κs. search needs) moved-requires put-requires (λ c. search needs) returns)

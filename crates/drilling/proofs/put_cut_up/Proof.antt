@@ -16,9 +16,6 @@ put-cut-requires c κs =
     let a = s .args in
     ready-left (a .offset) (LN (atHeight (a .p) (a .h .r)) (a .h .feed) ∷ []) (upUnder (a .h .back) (a .h) (a .p)) (s .pre)
 
-enum-told : tie.Need-enum-told
-enum-told c = search needs
-
 put-rapid-requires : tie.Need-put-rapid-requires
 put-rapid-requires c κs =
     let told = c .before in
@@ -28,12 +25,6 @@ put-rapid-requires c κs =
     let first = LN (atHeight (a .p) (a .h .r)) (a .h .feed) ∷ [] in
     ready-as (a .offset) (up-initial (a .h) (a .p) (told .enum-told .given .1))
     (ready-right (a .offset) first (upUnder (a .h .back) (a .h) (a .p)) (cut .put-cut .ensures) (s .pre))
-
-enum-told-2 : tie.Need-enum-told-2
-enum-told-2 c = search needs
-
-same-length : tie.Need-same-length
-same-length c = search needs
 
 returns : tie.Need-returns
 returns c =
@@ -45,9 +36,6 @@ returns c =
     put-then (a .offset) first (upUnder (a .h .back) (a .h) (a .p)) (cut .put-cut .ensures)
     (put-as (a .offset) (up-initial (a .h) (a .p) (told .enum-told .given .1)) (rapid .put-rapid .ensures))
 
-same-length-2 : tie.Need-same-length-2
-same-length-2 c = search needs
-
 returns-2 : tie.Need-returns-2
 returns-2 c =
     let cut = c .before .before .before .before in
@@ -58,4 +46,5 @@ returns-2 c =
 pub put-cut-up-spec : {M : Type 1} → statement M
 put-cut-up-spec =
     tie.close
-    (tie.spec put-cut-requires enum-told put-rapid-requires enum-told-2 same-length returns same-length-2 returns-2)
+    (tie.spec put-cut-requires (λ c. search needs) put-rapid-requires (λ c. search needs) (λ c. search needs) returns (λ c. search needs)
+    returns-2)

@@ -9,9 +9,6 @@ put-requires c κs =
     let s = c .before .before .before .before in
     dwell-fits (s .args .offset) (s .args .g) (c .before .if1 .taken) (s .pre)
 
-same-length : tie.Need-same-length
-same-length c = search needs
-
 returns : tie.Need-returns
 returns c =
     let put = c .before .before in
@@ -25,4 +22,4 @@ returns-2 c =
     put-no-dwell (a .offset) (a .g) (c .if1 .left)
 
 pub put-dwell-spec : {M : Type 1} → statement M
-put-dwell-spec = tie.close (tie.spec put-requires same-length returns returns-2)
+put-dwell-spec = tie.close (tie.spec put-requires (λ c. search needs) returns returns-2)

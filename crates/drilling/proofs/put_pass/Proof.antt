@@ -90,9 +90,6 @@ put-rapid-requires-3 c κs =
     let a = s .args in
     ready-as (a .offset) (without-z (a .h) (a .level) (a .p) (c .before .if1 .left)) (s .pre)
 
-same-length : tie.Need-same-length
-same-length c = search needs
-
 returns : tie.Need-returns
 returns c =
     let five = c .before .before in
@@ -109,9 +106,6 @@ returns c =
     put-as (a .offset) (with-z (a .h) (a .level) (a .p) (test .if1 .taken))
     (put-then (a .offset) (RP (atHeight (a .p) (a .level)) ∷ []) (after-level (a .h) (a .p)) (one .put-rapid .ensures) w2)
 
-same-length-2 : tie.Need-same-length-2
-same-length-2 c = search needs
-
 returns-2 : tie.Need-returns-2
 returns-2 c =
     let rapid = c .before .before in
@@ -122,14 +116,5 @@ returns-2 c =
 pub put-pass-spec : {M : Type 1} → statement M
 put-pass-spec =
     tie.close
-    (tie.spec
-    put-rapid-requires
-    put-rapid-requires-2
-    put-cut-requires
-    put-dwell-requires
-    put-leaving-requires
-    put-rapid-requires-3
-    same-length
-    returns
-    same-length-2
-    returns-2)
+    (tie.spec put-rapid-requires put-rapid-requires-2 put-cut-requires put-dwell-requires put-leaving-requires put-rapid-requires-3
+    (λ c. search needs) returns (λ c. search needs) returns-2)

@@ -22,9 +22,6 @@ Inv-loop list₀ at offset h d origin v back left₀ level₀ p₀ next₀ list 
 abbrev μ-loop : tie.MeasureT-loop
 μ-loop list₀ at offset h d origin v back left₀ level₀ p₀ next₀ list left level p next = left
 
-return-level-requires : tie.Need-return-level-requires Inv-loop μ-loop
-return-level-requires c κs = search needs
-
 pass-count-requires : tie.Need-pass-count-requires Inv-loop μ-loop
 pass-count-requires c κs = c .before .before .pre .1 .passing .k
 
@@ -60,15 +57,6 @@ put-pass-requires c κs =
     going-asks (a .offset) (now .inv) (a .h) (now .level) q
     (passesAt (now .left - 1) (a .h) (λ r. target (a .d) (a .origin) r (a .v)) (returnLevel (a .h)) end) step
     (puts .travel) (rw are at (puts .stays)) (puts .frame) (puts .feed) (puts .dwell)
-
-pass-end-requires : tie.Need-pass-end-requires Inv-loop μ-loop
-pass-end-requires c κs = search needs
-
-sub-left : tie.Need-sub-left Inv-loop μ-loop
-sub-left c = omega arith
-
-loop-less : tie.Need-loop-less Inv-loop μ-loop
-loop-less c = omega arith
 
 loop-again : tie.Need-loop-again Inv-loop μ-loop
 loop-again c =
@@ -112,17 +100,5 @@ returns c =
 pub put-passes-spec : {M : Type 1} → statement M
 put-passes-spec =
     tie.close
-    (tie.spec
-    Inv-loop
-    μ-loop
-    return-level-requires
-    pass-count-requires
-    loop-holds
-    target-point-requires
-    put-pass-requires
-    pass-end-requires
-    sub-left
-    loop-less
-    loop-again
-    same-length
-    returns)
+    (tie.spec Inv-loop μ-loop (λ c κs. search needs) pass-count-requires loop-holds target-point-requires put-pass-requires
+    (λ c κs. search needs) (λ c. omega arith) (λ c. omega arith) loop-again same-length returns)

@@ -4,9 +4,6 @@ use Rattle.cycles.proofs.Written.{rapid-sums, rapid-fits, put-rapid}
 use Rattle.drilling.proofs.put_rapid.Statement.{statement}
 use Rattle.drilling.proofs.put_rapid.Tie as tie
 
-at-height-requires : tie.Need-at-height-requires
-at-height-requires c κs = search needs
-
 moved-requires : tie.Need-moved-requires
 moved-requires c κs =
     let s = c .before .before in
@@ -18,9 +15,6 @@ put-requires c κs =
     let s = m .before .before .before in
     rapid-fits (s .args .offset) (m .before .at-height .ensures) (m .moved .ensures .is) (s .pre)
 
-same-length : tie.Need-same-length
-same-length c = search needs
-
 returns : tie.Need-returns
 returns c =
     let put = c .before .before in
@@ -28,4 +22,6 @@ returns c =
     put-rapid (m .before .before .before .args .offset) (m .before .at-height .ensures) (m .moved .ensures .is) (put .put .ensures)
 
 pub put-rapid-spec : {M : Type 1} → statement M
-put-rapid-spec = tie.close (tie.spec at-height-requires moved-requires put-requires same-length returns)
+put-rapid-spec =
+    tie.close
+    (tie.spec (λ c κs. search needs) moved-requires put-requires (λ c. search needs) returns)

@@ -30,15 +30,6 @@ whole :
     → Kept (c .before .before .before .before .before .before .args .state .modes) (c .before .before .before .before .before .before .args .s .now) (c .before .before .before .before .before .before .args .from) (standing c .ws) (c .before .before .read-words .result)
 whole c = c .before .before .read-words .ensures .kept (c .enum-told .given .1) (standing c .ws) (standing c .are)
 
-read-words-requires : tie.Need-read-words-requires
-read-words-requires c κs = search needs
-
-enum-known-status : tie.Need-enum-known-status
-enum-known-status c = search needs
-
-enum-told : tie.Need-enum-told
-enum-told c = search needs
-
 next-block-requires : tie.Need-next-block-requires
 next-block-requires c κs = whole c .inside
 
@@ -65,9 +56,6 @@ returns c =
     does-refused _ _
     (reading-stops (machineOf (a .bed)) (callsIn (subsOf (a .programs)) (a .left)) _ (a .state) (a .start) _ _ _ (sym (c .before .status .given .1) ∙ c .before .before .before .read-words .ensures .status))
 
-same-length : tie.Need-same-length
-same-length c = search needs
-
 returns-2 : tie.Need-returns-2
 unfolding exec
 returns-2 c =
@@ -79,12 +67,5 @@ returns-2 c =
 pub exec-spec : {M : Type 1} → statement M
 exec-spec =
     tie.close
-    (tie.spec
-    read-words-requires
-    enum-known-status
-    enum-told
-    next-block-requires
-    hear-requires
-    returns
-    same-length
+    (tie.spec (λ c κs. search needs) (λ c. search needs) (λ c. search needs) next-block-requires hear-requires returns (λ c. search needs)
     returns-2)

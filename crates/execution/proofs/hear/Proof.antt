@@ -12,39 +12,6 @@ use borrow.Author.Needs.{needs}
 use Rattle.execution.proofs.hear.Statement.{statement}
 use Rattle.execution.proofs.hear.Tie as tie
 
-array-read-block-code : tie.Need-array-read-block-code
-array-read-block-code c = search needs
-
-block-code-requires : tie.Need-block-code-requires
-block-code-requires c κs = search needs
-
-array-read-has-centre : tie.Need-array-read-has-centre
-array-read-has-centre c = search needs
-
-array-read-has-centre-2 : tie.Need-array-read-has-centre-2
-array-read-has-centre-2 c = search needs
-
-array-read-has-centre-3 : tie.Need-array-read-has-centre-3
-array-read-has-centre-3 c = search needs
-
-has-centre-requires : tie.Need-has-centre-requires
-has-centre-requires c κs = search needs
-
-judge-requires : tie.Need-judge-requires
-judge-requires c κs = search needs
-
-enum-known-byte : tie.Need-enum-known-byte
-enum-known-byte c = search needs
-
-enum-known-byte-2 : tie.Need-enum-known-byte-2
-enum-known-byte-2 c = search needs
-
-enum-known-values : tie.Need-enum-known-values
-enum-known-values c = search needs
-
-array-read-t44 : tie.Need-array-read-t44
-array-read-t44 c = search needs
-
 obey-requires : tie.Need-obey-requires
 obey-requires c κs =
     let s = c .before .before .before .before .before .before .before .before .before .before .before .before .before .before .before in
@@ -73,9 +40,6 @@ returns-2 c =
     let is = judged-is (a .bed) (a .state) (a .read) ws says (c .before .before .before .before .before .before .before .before .before .block-code .ensures) (c .before .before .before .before .has-centre .ensures) (sym (c .before .byte2 .given .1) ∙ c .before .before .before .judge .ensures) in
     does-refused BadParameter (c .before .byte2 .given .0 .0) (bad-stops (machineOf (a .bed)) _ _ (a .state) (a .start) ws is)
 
-same-length : tie.Need-same-length
-same-length c = search needs
-
 returns-3 : tie.Need-returns-3
 returns-3 c =
     let s = c .before .before .before .before .before .before .before .before .before .before .before .before .before .before .before .before .before .before in
@@ -92,20 +56,6 @@ returns-3 c =
 pub hear-spec : {M : Type 1} → statement M
 hear-spec =
     tie.close
-    (tie.spec
-    array-read-block-code
-    block-code-requires
-    array-read-has-centre
-    array-read-has-centre-2
-    array-read-has-centre-3
-    has-centre-requires
-    judge-requires
-    enum-known-byte
-    enum-known-byte-2
-    enum-known-values
-    array-read-t44
-    obey-requires
-    returns
-    returns-2
-    same-length
-    returns-3)
+    (tie.spec (λ c. search needs) (λ c κs. search needs) (λ c. search needs) (λ c. search needs) (λ c. search needs) (λ c κs. search needs)
+    (λ c κs. search needs) (λ c. search needs) (λ c. search needs) (λ c. search needs) (λ c. search needs) obey-requires returns returns-2
+    (λ c. search needs) returns-3)

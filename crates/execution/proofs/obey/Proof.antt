@@ -24,9 +24,6 @@ use borrow.Author.Needs.{needs}
 use Rattle.execution.proofs.obey.Statement.{statement}
 use Rattle.execution.proofs.obey.Tie as tie
 
-lacks-parameter-requires : tie.Need-lacks-parameter-requires
-lacks-parameter-requires c κs = search needs
-
 returns : tie.Need-returns
 returns c =
     let s = c .before .before .before .before .before in
@@ -34,12 +31,6 @@ returns c =
     let m = machineOf (a .bed) in
     let calls = callsIn (subsOf (a .programs)) (a .left) in
     λ ws. does-refused ParameterUndefined (a .start) (lacks-stops m calls _ (a .s) (a .start) ws (a .b) (c .before .lacks-parameter .ensures) (c .if1 .taken))
-
-control-of-requires : tie.Need-control-of-requires
-control-of-requires c κs = search needs
-
-is-unknown-call-requires : tie.Need-is-unknown-call-requires
-is-unknown-call-requires c κs = search needs
 
 returns-2 : tie.Need-returns-2
 returns-2 c =
@@ -52,9 +43,6 @@ returns-2 c =
     (lacks-past m calls _ (a .s) (a .start) ws (a .b) (c .before .before .before .before .lacks-parameter .ensures) (c .before .before .before .if1 .left)
     ∙ unknown-stops m calls _ (a .s) (a .start) ws (a .b) (c .before .is-unknown-call .ensures (a .left) ∙ ap (λ (k : Control). unknownCall calls (callTo k)) (c .before .before .control-of .ensures)) (c .if2 .taken))
 
-is-too-deep-requires : tie.Need-is-too-deep-requires
-is-too-deep-requires c κs = search needs
-
 returns-3 : tie.Need-returns-3
 returns-3 c =
     let s = c .before .before .before .before .before .before .before .before .before .before in
@@ -66,12 +54,6 @@ returns-3 c =
     (lacks-past m calls _ (a .s) (a .start) ws (a .b) (c .before .before .before .before .before .before .lacks-parameter .ensures) (c .before .before .before .before .before .if1 .left)
     ∙ unknown-past m calls _ (a .s) (a .start) ws (a .b) (c .before .before .before .is-unknown-call .ensures (a .left) ∙ ap (λ (k : Control). unknownCall calls (callTo k)) (c .before .before .before .before .control-of .ensures)) (c .before .before .if2 .left)
     ∙ deep-stops m calls _ (a .s) (a .start) ws (a .b) (c .before .is-too-deep .ensures (subsOf (a .programs)) ∙ ap (λ (k : Control). tooDeep calls (callTo k)) (c .before .before .before .before .control-of .ensures)) (c .if3 .taken))
-
-working-requires : tie.Need-working-requires
-working-requires c κs = search needs
-
-cannot-drill-requires : tie.Need-cannot-drill-requires
-cannot-drill-requires c κs = search needs
 
 returns-4 : tie.Need-returns-4
 returns-4 c =
@@ -112,9 +94,6 @@ lead-requires c κs =
       },
     )
 
-same-length : tie.Need-same-length
-same-length c = search needs
-
 returns-5 : tie.Need-returns-5
 returns-5 c =
     let s = c .before .before .before .before .before .before .before .before .before .before .before .before .before .before .before .before .before .before .before .before in
@@ -132,20 +111,6 @@ returns-5 c =
 pub obey-spec : {M : Type 1} → statement M
 obey-spec =
     tie.close
-    (tie.spec
-    lacks-parameter-requires
-    returns
-    control-of-requires
-    is-unknown-call-requires
-    returns-2
-    is-too-deep-requires
-    returns-3
-    working-requires
-    cannot-drill-requires
-    returns-4
-    mul-origin
-    array-copy-out-origin
-    plan-of-requires
-    lead-requires
-    same-length
-    returns-5)
+    (tie.spec (λ c κs. search needs) returns (λ c κs. search needs) (λ c κs. search needs) returns-2 (λ c κs. search needs) returns-3
+    (λ c κs. search needs) (λ c κs. search needs) returns-4 mul-origin array-copy-out-origin plan-of-requires lead-requires
+    (λ c. search needs) returns-5)

@@ -6,29 +6,17 @@ use borrow.Author.Needs.{needs}
 use Rattle.faults.proofs.axis_fault.Statement.{statement}
 use Rattle.faults.proofs.axis_fault.Tie as tie
 
-at-most-requires : tie.Need-at-most-requires
-at-most-requires c κs = search needs
-
 returns : tie.Need-returns
 unfolding firstBroken axisLimits
 returns c = rw (sym (c .before .at-most .ensures) ∙ not-true _ (c .if1 .taken))
-
-is-within-requires : tie.Need-is-within-requires
-is-within-requires c κs = search needs
 
 returns-2 : tie.Need-returns-2
 unfolding firstBroken axisLimits
 returns-2 c = rw (sym (c .before .before .before .at-most .ensures) ∙ not-false _ (c .before .before .if1 .left), sym (c .before .is-within .ensures) ∙ not-true _ (c .if2 .taken))
 
-is-within-requires-2 : tie.Need-is-within-requires-2
-is-within-requires-2 c κs = search needs
-
 returns-3 : tie.Need-returns-3
 unfolding firstBroken axisLimits
 returns-3 c = rw (sym (c .before .before .before .before .before .at-most .ensures) ∙ not-false _ (c .before .before .before .before .if1 .left), sym (c .before .before .before .is-within .ensures) ∙ not-false _ (c .before .before .if2 .left), sym (c .before .is-within2 .ensures) ∙ not-true _ (c .if3 .taken))
-
-is-between-requires : tie.Need-is-between-requires
-is-between-requires c κs = search needs
 
 returns-4 : tie.Need-returns-4
 unfolding firstBroken axisLimits
@@ -41,13 +29,5 @@ returns-5 c = rw (sym (c .before .before .before .before .before .before .before
 pub axis-fault-spec : {M : Type 1} → statement M
 axis-fault-spec =
     tie.close
-    (tie.spec
-    at-most-requires
-    returns
-    is-within-requires
-    returns-2
-    is-within-requires-2
-    returns-3
-    is-between-requires
-    returns-4
-    returns-5)
+    (tie.spec (λ c κs. search needs) returns (λ c κs. search needs) returns-2 (λ c κs. search needs) returns-3 (λ c κs. search needs)
+    returns-4 returns-5)

@@ -6,29 +6,17 @@ use borrow.Author.Needs.{needs}
 use Rattle.faults.proofs.number_fault.Statement.{statement}
 use Rattle.faults.proofs.number_fault.Tie as tie
 
-feed-fits-requires : tie.Need-feed-fits-requires
-feed-fits-requires c κs = search needs
-
 returns : tie.Need-returns
 unfolding firstBroken numberLimits
 returns c = rw (sym (c .before .feed-fits .ensures) ∙ not-true _ (c .if1 .taken))
-
-range-fits-requires : tie.Need-range-fits-requires
-range-fits-requires c κs = search needs
 
 returns-2 : tie.Need-returns-2
 unfolding firstBroken numberLimits
 returns-2 c = rw (sym (c .before .before .before .feed-fits .ensures) ∙ not-false _ (c .before .before .if1 .left), sym (c .before .range-fits .ensures) ∙ not-true _ (c .if2 .taken))
 
-speed-fits-requires : tie.Need-speed-fits-requires
-speed-fits-requires c κs = search needs
-
 returns-3 : tie.Need-returns-3
 unfolding firstBroken numberLimits
 returns-3 c = rw (sym (c .before .before .before .before .before .feed-fits .ensures) ∙ not-false _ (c .before .before .before .before .if1 .left), sym (c .before .before .before .range-fits .ensures) ∙ not-false _ (c .before .before .if2 .left), sym (c .before .speed-fits .ensures) ∙ not-true _ (c .if3 .taken))
-
-switch-fits-requires : tie.Need-switch-fits-requires
-switch-fits-requires c κs = search needs
 
 returns-4 : tie.Need-returns-4
 unfolding firstBroken numberLimits
@@ -41,13 +29,5 @@ returns-5 c = rw (sym (c .before .before .before .before .before .before .before
 pub number-fault-spec : {M : Type 1} → statement M
 number-fault-spec =
     tie.close
-    (tie.spec
-    feed-fits-requires
-    returns
-    range-fits-requires
-    returns-2
-    speed-fits-requires
-    returns-3
-    switch-fits-requires
-    returns-4
-    returns-5)
+    (tie.spec (λ c κs. search needs) returns (λ c κs. search needs) returns-2 (λ c κs. search needs) returns-3 (λ c κs. search needs)
+    returns-4 returns-5)

@@ -19,32 +19,11 @@ abbrev μ-loop : tie.MeasureT-loop
 loop-holds : tie.Need-loop-holds Inv-loop μ-loop
 loop-holds c = (omega arith, refl)
 
-mul-origin : tie.Need-mul-origin Inv-loop μ-loop
-mul-origin c = omega arith
-
-array-copy-out-origin : tie.Need-array-copy-out-origin Inv-loop μ-loop
-array-copy-out-origin c = omega arith
-
-point-of-requires : tie.Need-point-of-requires Inv-loop μ-loop
-point-of-requires c κs = search needs
-
-place-fault-requires : tie.Need-place-fault-requires Inv-loop μ-loop
-place-fault-requires c κs = search needs
-
-enum-told : tie.Need-enum-told Inv-loop μ-loop
-enum-told c = search needs
-
 returns : tie.Need-returns Inv-loop μ-loop
 returns c =
     let d = c .before .before .before .before .before in
     origin-stops (d .before .args .t1) (d .loop .i) _ (c .before .place-fault .result) (c .before .before .point-of .result) (omega arith) (c .before .before .point-of .ensures) (c .before .place-fault .ensures) (c .match .keys2)
     ∙ sym (d .loop .inv .1)
-
-add-i : tie.Need-add-i Inv-loop μ-loop
-add-i c = omega arith
-
-loop-less : tie.Need-loop-less Inv-loop μ-loop
-loop-less c = omega arith
 
 loop-again : tie.Need-loop-again Inv-loop μ-loop
 loop-again c =
@@ -62,17 +41,5 @@ returns-2 c =
 pub origins-fault-spec : {M : Type 1} → statement M
 origins-fault-spec =
     tie.close
-    (tie.spec
-    Inv-loop
-    μ-loop
-    loop-holds
-    mul-origin
-    array-copy-out-origin
-    point-of-requires
-    place-fault-requires
-    enum-told
-    returns
-    add-i
-    loop-less
-    loop-again
-    returns-2)
+    (tie.spec Inv-loop μ-loop loop-holds (λ c. omega arith) (λ c. omega arith) (λ c κs. search needs) (λ c κs. search needs)
+    (λ c. search needs) returns (λ c. omega arith) (λ c. omega arith) loop-again returns-2)

@@ -6,22 +6,13 @@ use borrow.Author.Needs.{needs}
 use Rattle.faults.proofs.place_fault.Statement.{statement}
 use Rattle.faults.proofs.place_fault.Tie as tie
 
-is-within-requires : tie.Need-is-within-requires
-is-within-requires c κs = search needs
-
 returns : tie.Need-returns
 unfolding firstBroken placeLimits
 returns c = rw (sym (c .before .is-within .ensures) ∙ not-true _ (c .if1 .taken))
 
-is-within-requires-2 : tie.Need-is-within-requires-2
-is-within-requires-2 c κs = search needs
-
 returns-2 : tie.Need-returns-2
 unfolding firstBroken placeLimits
 returns-2 c = rw (sym (c .before .before .before .is-within .ensures) ∙ not-false _ (c .before .before .if1 .left), sym (c .before .is-within2 .ensures) ∙ not-true _ (c .if2 .taken))
-
-is-within-requires-3 : tie.Need-is-within-requires-3
-is-within-requires-3 c κs = search needs
 
 returns-3 : tie.Need-returns-3
 unfolding firstBroken placeLimits
@@ -34,11 +25,4 @@ returns-4 c = rw (sym (c .before .before .before .before .before .is-within .ens
 pub place-fault-spec : {M : Type 1} → statement M
 place-fault-spec =
     tie.close
-    (tie.spec
-    is-within-requires
-    returns
-    is-within-requires-2
-    returns-2
-    is-within-requires-3
-    returns-3
-    returns-4)
+    (tie.spec (λ c κs. search needs) returns (λ c κs. search needs) returns-2 (λ c κs. search needs) returns-3 returns-4)

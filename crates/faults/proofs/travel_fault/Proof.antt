@@ -8,23 +8,11 @@ use borrow.Author.Needs.{needs}
 use Rattle.faults.proofs.travel_fault.Statement.{statement}
 use Rattle.faults.proofs.travel_fault.Tie as tie
 
-axis-fault-requires : tie.Need-axis-fault-requires
-axis-fault-requires c κs = search needs
-
-enum-told : tie.Need-enum-told
-enum-told c = search needs
-
 returns : tie.Need-returns
 unfolding travelLimits
 returns c =
     let a = c .before .before .args in
     stops (c .before .axis-fault .result) (axisLimits X (a .low .x .v) (a .high .x .v) (a .start .x .v)) ((axisLimits Y (a .low .y .v) (a .high .y .v) (a .start .y .v)) ++ (axisLimits Z (a .low .z .v) (a .high .z .v) (a .start .z .v))) (c .before .axis-fault .ensures) (c .match .keys2)
-
-axis-fault-requires-2 : tie.Need-axis-fault-requires-2
-axis-fault-requires-2 c κs = search needs
-
-enum-told-2 : tie.Need-enum-told-2
-enum-told-2 c = search needs
 
 returns-2 : tie.Need-returns-2
 unfolding travelLimits
@@ -32,9 +20,6 @@ returns-2 c =
     let a = c .before .before .before .before .before .args in
     stops (c .before .axis-fault2 .result) (axisLimits Y (a .low .y .v) (a .high .y .v) (a .start .y .v)) (axisLimits Z (a .low .z .v) (a .high .z .v) (a .start .z .v)) (c .before .axis-fault2 .ensures) (c .match2 .keys2)
     ∙ sym (passes (c .before .before .before .before .axis-fault .result) (axisLimits X (a .low .x .v) (a .high .x .v) (a .start .x .v)) ((axisLimits Y (a .low .y .v) (a .high .y .v) (a .start .y .v)) ++ (axisLimits Z (a .low .z .v) (a .high .z .v) (a .start .z .v))) (c .before .before .before .before .axis-fault .ensures) (axis-named X (a .low .x .v) (a .high .x .v) (a .start .x .v)) (c .before .before .enum-told .given .1))
-
-axis-fault-requires-3 : tie.Need-axis-fault-requires-3
-axis-fault-requires-3 c κs = search needs
 
 returns-3 : tie.Need-returns-3
 unfolding travelLimits
@@ -47,12 +32,5 @@ returns-3 c =
 pub travel-fault-spec : {M : Type 1} → statement M
 travel-fault-spec =
     tie.close
-    (tie.spec
-    axis-fault-requires
-    enum-told
-    returns
-    axis-fault-requires-2
-    enum-told-2
-    returns-2
-    axis-fault-requires-3
+    (tie.spec (λ c κs. search needs) (λ c. search needs) returns (λ c κs. search needs) (λ c. search needs) returns-2 (λ c κs. search needs)
     returns-3)

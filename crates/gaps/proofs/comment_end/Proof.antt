@@ -17,20 +17,11 @@ abbrev μ-loop : tie.MeasureT-loop
 loop-holds : tie.Need-loop-holds Inv-loop μ-loop
 loop-holds c = (omega arith, refl)
 
-shared-slice-read-b : tie.Need-shared-slice-read-b Inv-loop μ-loop
-shared-slice-read-b c = omega arith
-
-add-i : tie.Need-add-i Inv-loop μ-loop
-add-i c = omega arith
-
 returns : tie.Need-returns Inv-loop μ-loop
 returns c = let d = c .before .before .before in sym (d .loop .inv .1 ∙ comment-paren (d .before .args .s .now) (d .loop .i) (omega arith) (c .if1 .taken))
 
 returns-2 : tie.Need-returns-2 Inv-loop μ-loop
 returns-2 c = let d = c .before .before .before .before in sym (d .loop .inv .1 ∙ comment-lf (d .before .args .s .now) (d .loop .i) (omega arith) (c .if2 .taken))
-
-loop-less : tie.Need-loop-less Inv-loop μ-loop
-loop-less c = omega arith
 
 loop-again : tie.Need-loop-again Inv-loop μ-loop
 loop-again c = let d = c .before .before .before .before in (omega arith, d .loop .inv .1 ∙ comment-more (d .before .args .s .now) (d .loop .i) (omega arith) (c .before .if1 .left) (c .if2 .left))
@@ -41,14 +32,4 @@ returns-3 c = sym (c .before .loop .inv .1 ∙ comment-end-of (c .before .before
 pub comment-end-spec : {M : Type 1} → statement M
 comment-end-spec =
     tie.close
-    (tie.spec
-    Inv-loop
-    μ-loop
-    loop-holds
-    shared-slice-read-b
-    add-i
-    returns
-    returns-2
-    loop-less
-    loop-again
-    returns-3)
+    (tie.spec Inv-loop μ-loop loop-holds (λ c. omega arith) (λ c. omega arith) returns returns-2 (λ c. omega arith) loop-again returns-3)

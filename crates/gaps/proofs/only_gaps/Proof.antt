@@ -20,9 +20,6 @@ abbrev μ-loop : tie.MeasureT-loop
 loop-holds : tie.Need-loop-holds Inv-loop μ-loop
 loop-holds c = (omega arith, refl)
 
-text-ends-requires : tie.Need-text-ends-requires Inv-loop μ-loop
-text-ends-requires c κs = omega arith
-
 abbrev at-loop : tie.After-shared-slice-known2 Inv-loop μ-loop → tie.At-loop Inv-loop μ-loop
 at-loop c = c .before .before .before
 
@@ -45,12 +42,6 @@ add-i c = let d = c .before .before .before in omega (arith, text-inside (d .bef
 
 comment-end-requires : tie.Need-comment-end-requires Inv-loop μ-loop
 comment-end-requires c κs = let d = c .before .before .before .before in omega (arith, text-inside (d .before .before .args .s .now) (d .loop .i) (going (c .before)))
-
-enum-known-next : tie.Need-enum-known-next Inv-loop μ-loop
-enum-known-next c = search needs
-
-enum-told : tie.Need-enum-told Inv-loop μ-loop
-enum-told c = search needs
 
 returns-2 : tie.Need-returns-2 Inv-loop μ-loop
 returns-2 c =
@@ -120,22 +111,5 @@ loop-again-3 c = over-blank (c .before .before) (blank-space _ (c .if3 .left))
 pub only-gaps-spec : {M : Type 1} → statement M
 only-gaps-spec =
     tie.close
-    (tie.spec
-    Inv-loop
-    μ-loop
-    loop-holds
-    text-ends-requires
-    returns
-    shared-slice-read-b
-    add-i
-    comment-end-requires
-    enum-known-next
-    enum-told
-    returns-2
-    loop-less
-    loop-again
-    returns-3
-    loop-less-2
-    loop-again-2
-    loop-less-3
-    loop-again-3)
+    (tie.spec Inv-loop μ-loop loop-holds (λ c κs. omega arith) returns shared-slice-read-b add-i comment-end-requires (λ c. search needs)
+    (λ c. search needs) returns-2 loop-less loop-again returns-3 loop-less-2 loop-again-2 loop-less-3 loop-again-3)

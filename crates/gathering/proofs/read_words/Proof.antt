@@ -28,9 +28,6 @@ abbrev μ-loop : tie.MeasureT-loop
 μ-loop s from main words₀ count₀ letters₀ groups₀ misc₀ modes₀ stopped₀ status₀ i₀ words count letters groups misc modes stopped status i =
     length s - i
 
-no-word-requires : tie.Need-no-word-requires Inv-loop μ-loop
-no-word-requires c κs = search needs
-
 loop-holds : tie.Need-loop-holds Inv-loop μ-loop
 loop-holds c = goes-on (begins _ _ _ _ _ (c .before .before .pre) refl)
 
@@ -44,12 +41,6 @@ going c = sym (c .before .text-ends .ensures) ∙ not-true _ (c .if1 .taken)
 item-at-requires : tie.Need-item-at-requires Inv-loop μ-loop
 item-at-requires c κs = text-inside (c .before .before .before .before .before .args .s .now) (c .before .before .loop .i) (going c)
 
-enum-known-refusal : tie.Need-enum-known-refusal Inv-loop μ-loop
-enum-known-refusal c = search needs
-
-enum-known-next : tie.Need-enum-known-next Inv-loop μ-loop
-enum-known-next c = search needs
-
 -- the gap, and what follows it
 passed : (c : tie.After-known-told2 Inv-loop μ-loop) → (wordsAt (c .before .before .before .before .before .before .before .before .before .args .s .now) (c .before .before .before .before .before .before .loop .i) ≡ wordsAt (c .before .before .before .before .before .before .before .before .before .args .s .now) (c .before .next .given .0 .0)) × Gone (c .before .before .before .before .before .before .before .before .before .args .s .now) (c .before .before .before .before .before .before .loop .i) (c .before .next .given .0 .0)
 passed c =
@@ -61,9 +52,6 @@ loop-less c = let g = passed c .1 in omega (arith, g .forward, g .inside)
 
 loop-again : tie.Need-loop-again Inv-loop μ-loop
 loop-again c = gap-along (c .before .before .before .before .before .before .loop .inv) (c .before .next .given .0 .0) (passed c .0) (passed c .1)
-
-enum-known-w : tie.Need-enum-known-w Inv-loop μ-loop
-enum-known-w c = search needs
 
 -- the next word, and what follows it
 abbrev Stepped : tie.After-known-told3 Inv-loop μ-loop → Type 0
@@ -88,12 +76,6 @@ letter-place-requires c κs = stepped (c .before) .3
 array-read-role-of : tie.Need-array-read-role-of Inv-loop μ-loop
 array-read-role-of c = rw (c .letter-place .ensures) (place-inside _ (stepped (c .before .before) .3))
 
-array-read-role-of-2 : tie.Need-array-read-role-of-2 Inv-loop μ-loop
-array-read-role-of-2 c = search needs
-
-role-of-requires : tie.Need-role-of-requires Inv-loop μ-loop
-role-of-requires c κs = search needs
-
 -- what has been read, no word of it being wrong
 abbrev Read : tie.After-role-of Inv-loop μ-loop → Type 0
 Read c =
@@ -115,9 +97,6 @@ playing c r is =
     (read c .sums .letters 6 (lit< tt)) in
     subst (λ x. Plays (c .before .before .before .before .before .before .before .before .before .before .before .before .args .main) (read c .done) (c .before .before .before .before .w .given .0 .0) x) is told
 
-enum-told : tie.Need-enum-told Inv-loop μ-loop
-enum-told c = search needs
-
 loop-less-3 : tie.Need-loop-less-3 Inv-loop μ-loop
 loop-less-3 c = let g = stepped (c .before .before .before .before .before) .1 in omega (arith, g .forward, g .inside)
 
@@ -126,20 +105,8 @@ loop-again-3 c =
     let step = stepped (c .before .before .before .before .before) in
     stops (halts (read (c .before .before)) (c .before .before .before .before .before .before .w .given .0 .0) (c .before .before .before .before .before .before .w .given .0 .1 .0) (step .0) (step .1) (playing (c .before .before) _ (c .enum-told .given .1)))
 
-enum-known-c : tie.Need-enum-known-c Inv-loop μ-loop
-enum-known-c c = search needs
-
-group-of-requires : tie.Need-group-of-requires Inv-loop μ-loop
-group-of-requires c κs = search needs
-
-array-write-letters : tie.Need-array-write-letters Inv-loop μ-loop
-array-write-letters c = search needs
-
 array-write-groups : tie.Need-array-write-groups Inv-loop μ-loop
 array-write-groups c = rw (c .group-of .ensures) (group-most _)
-
-switched-requires : tie.Need-switched-requires Inv-loop μ-loop
-switched-requires c κs = search needs
 
 loop-less-4 : tie.Need-loop-less-4 Inv-loop μ-loop
 loop-less-4 c = let g = stepped (c .before .before .before .before .before .before .before .before) .1 in omega (arith, g .forward, g .inside)
@@ -151,12 +118,6 @@ loop-again-4 c =
     rw (c .before .before .before .before .before .before .before .if2 .left, c .before .before .before .before .before .before .before .before .before .before .before .before .before .before .loop .inv .fine (c .before .before .before .before .before .before .before .if2 .left), c .before .group-of .ensures, c .switched .ensures)
     (goes-on (over-code (read (c .before .before .before .before .before)) (c .before .before .before .before .before .before .before .before .before .w .given .0 .0) (c .before .before .before .before .before .before .before .before .before .w .given .0 .1 .0) (step .0) (step .1) (step .2) (step .3) (code .0) (c .before .before .before .c .given .0 .0) (code .1) (code .2)))
 
-enum-known-m : tie.Need-enum-known-m Inv-loop μ-loop
-enum-known-m c = search needs
-
-array-write-letters-2 : tie.Need-array-write-letters-2 Inv-loop μ-loop
-array-write-letters-2 c = search needs
-
 loop-less-5 : tie.Need-loop-less-5 Inv-loop μ-loop
 loop-less-5 c = let g = stepped (c .before .before .before .before .before .before) .1 in omega (arith, g .forward, g .inside)
 
@@ -165,9 +126,6 @@ loop-again-5 c =
     let step = stepped (c .before .before .before .before .before .before) in
     let misc = playing (c .before .before .before) _ (c .before .m .given .1) in
     rw (c .before .before .before .before .before .if2 .left, c .before .before .before .before .before .before .before .before .before .before .before .before .loop .inv .fine (c .before .before .before .before .before .if2 .left)) (goes-on (over-misc (read (c .before .before .before)) (c .before .before .before .before .before .before .before .w .given .0 .0) (c .before .before .before .before .before .before .before .w .given .0 .1 .0) (step .0) (step .1) (step .2) (step .3) (misc .0) (c .before .m .given .0 .0) (misc .1) (misc .2)))
-
-enum-told-2 : tie.Need-enum-told-2 Inv-loop μ-loop
-enum-told-2 c = search needs
 
 array-write-letters-3 : tie.Need-array-write-letters-3 Inv-loop μ-loop
 array-write-letters-3 c = rw (c .before .before .before .letter-place .ensures) (place-inside _ (stepped (c .before .before .before .before .before) .3))
@@ -209,44 +167,8 @@ returns-2 c =
 pub read-words-spec : {M : Type 1} → statement M
 read-words-spec =
     tie.close
-    (tie.spec
-    Inv-loop
-    μ-loop
-    no-word-requires
-    loop-holds
-    text-ends-requires
-    item-at-requires
-    enum-known-refusal
-    enum-known-next
-    loop-less
-    loop-again
-    enum-known-w
-    loop-less-2
-    loop-again-2
-    letter-place-requires
-    array-read-role-of
-    array-read-role-of-2
-    role-of-requires
-    enum-told
-    loop-less-3
-    loop-again-3
-    enum-known-c
-    group-of-requires
-    array-write-letters
-    array-write-groups
-    switched-requires
-    loop-less-4
-    loop-again-4
-    enum-known-m
-    array-write-letters-2
-    loop-less-5
-    loop-again-5
-    enum-told-2
-    array-write-letters-3
-    mul-words
-    array-set-from-words
-    add-count
-    loop-less-6
-    loop-again-6
-    returns
-    returns-2)
+    (tie.spec Inv-loop μ-loop (λ c κs. search needs) loop-holds text-ends-requires item-at-requires (λ c. search needs) (λ c. search needs)
+    loop-less loop-again (λ c. search needs) loop-less-2 loop-again-2 letter-place-requires array-read-role-of (λ c. search needs)
+    (λ c κs. search needs) (λ c. search needs) loop-less-3 loop-again-3 (λ c. search needs) (λ c κs. search needs) (λ c. search needs)
+    array-write-groups (λ c κs. search needs) loop-less-4 loop-again-4 (λ c. search needs) (λ c. search needs) loop-less-5 loop-again-5
+    (λ c. search needs) array-write-letters-3 mul-words array-set-from-words add-count loop-less-6 loop-again-6 returns returns-2)

@@ -6,12 +6,6 @@ use Rattle.headers.proofs.Laws.{count-none, count-some}
 use Rattle.headers.proofs.count_at.Statement.{statement}
 use Rattle.headers.proofs.count_at.Tie as tie
 
-next-word-requires : tie.Need-next-word-requires
-next-word-requires c κs = search needs
-
-word-end-requires : tie.Need-word-end-requires
-word-end-requires c κs = search needs
-
 returns : tie.Need-returns
 returns c =
     let w = c .before in
@@ -32,4 +26,5 @@ returns-2 c =
 
 pub count-at-spec : {M : Type 1} → statement M
 count-at-spec =
-    tie.close (tie.spec next-word-requires word-end-requires returns digits-at-requires returns-2)
+    tie.close
+    (tie.spec (λ c κs. search needs) (λ c κs. search needs) returns digits-at-requires returns-2)

@@ -9,11 +9,8 @@ use Rattle.headers.proofs.is_line_end.Tie as tie
 returns : tie.Need-returns
 returns c = sym (begins-end 10 (c .before .args .input .now) (c .before .args .at) (c .if1 .taken))
 
-shared-slice-read-result : tie.Need-shared-slice-read-result
-shared-slice-read-result c = search needs
-
 returns-2 : tie.Need-returns-2
 returns-2 c = let a = c .before .before .args in sym (begins-at 10 (a .input .now) (a .at) (omega arith))
 
 pub is-line-end-spec : {M : Type 1} → statement M
-is-line-end-spec = tie.close (tie.spec returns shared-slice-read-result returns-2)
+is-line-end-spec = tie.close (tie.spec returns (λ c. search needs) returns-2)

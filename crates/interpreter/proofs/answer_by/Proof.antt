@@ -9,12 +9,6 @@ pub answer-by-spec : {M : Type 1} → statement M
 unfolding answerFor
 answer-by-spec =
     tie.close
-    (tie.spec
-    (λ c. search needs)
-    (λ c. search needs)
-    (λ c. search needs)
-    (λ c. search needs)
-    (λ c. sym (ap answerFor (c .before .ending .given .1)))
-    (λ c. sym (ap answerFor (c .before .ending2 .given .1)))
-    (λ c. sym (ap answerFor (c .before .ending3 .given .1)))
-    (λ c. sym (ap answerFor (c .before .ending4 .given .1))))
+    (tie.spec (λ c. search needs) (λ c. search needs) (λ c. search needs) (λ c. search needs)
+    (λ c. sym (ap answerFor (c .before .ending .given .1))) (λ c. sym (ap answerFor (c .before .ending2 .given .1)))
+    (λ c. sym (ap answerFor (c .before .ending3 .given .1))) (λ c. sym (ap answerFor (c .before .ending4 .given .1))))

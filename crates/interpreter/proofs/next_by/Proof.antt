@@ -9,12 +9,6 @@ pub next-by-spec : {M : Type 1} → statement M
 unfolding nextFor
 next-by-spec =
     tie.close
-    (tie.spec
-    (λ c. search needs)
-    (λ c. search needs)
-    (λ c. search needs)
-    (λ c. search needs)
-    (λ c. sym (ap nextFor (c .enum-told .given .1)))
-    (λ c. sym (ap nextFor (c .enum-told2 .given .1)))
-    (λ c. sym (ap nextFor (c .before .ending .given .1)))
-    (λ c. sym (ap nextFor (c .enum-told3 .given .1))))
+    (tie.spec (λ c. search needs) (λ c. search needs) (λ c. search needs) (λ c. search needs)
+    (λ c. sym (ap nextFor (c .enum-told .given .1))) (λ c. sym (ap nextFor (c .enum-told2 .given .1)))
+    (λ c. sym (ap nextFor (c .before .ending .given .1))) (λ c. sym (ap nextFor (c .enum-told3 .given .1))))

@@ -58,15 +58,5 @@ returns c =
 pub run-main-spec : {M : Type 1} → statement M
 run-main-spec =
     tie.close
-    (tie.spec
-    (λ c κs. search needs)
-    (λ c κs. search needs)
-    (λ c κs. search needs)
-    run-program-requires
-    (λ c κs. search needs)
-    (λ c κs. search needs)
-    state-moved-requires
-    (λ c κs. search needs)
-    (λ c κs. search needs)
-    (λ c. search needs)
-    returns)
+    (tie.spec (λ c κs. search needs) (λ c κs. search needs) (λ c κs. search needs) run-program-requires (λ c κs. search needs)
+    (λ c κs. search needs) state-moved-requires (λ c κs. search needs) (λ c κs. search needs) (λ c. search needs) returns)

@@ -83,20 +83,6 @@ returns-5 c =
 pub run-within-spec : {M : Type 1} → statement M
 run-within-spec =
     tie.close
-    (tie.spec
-    (λ c κs. search needs)
-    returns
-    (λ c κs. search needs)
-    (λ c κs. search needs)
-    returns-2
-    (λ c κs. search needs)
-    (λ c κs. search needs)
-    returns-3
-    find-programs-requires
-    (λ c. search needs)
-    (λ c κs. search needs)
-    (λ c. search needs)
-    run-main-requires
-    returns-4
-    (λ c. search needs)
-    returns-5)
+    (tie.spec (λ c κs. search needs) returns (λ c κs. search needs) (λ c κs. search needs) returns-2 (λ c κs. search needs)
+    (λ c κs. search needs) returns-3 find-programs-requires (λ c. search needs) (λ c κs. search needs) (λ c. search needs) run-main-requires
+    returns-4 (λ c. search needs) returns-5)

@@ -9,12 +9,6 @@ pub state-by-spec : {M : Type 1} → statement M
 unfolding stateFor
 state-by-spec =
     tie.close
-    (tie.spec
-    (λ c. search needs)
-    (λ c. search needs)
-    (λ c. search needs)
-    (λ c. search needs)
-    (λ c. sym (ap stateFor (c .before .ending .given .1)))
-    (λ c. sym (ap stateFor (c .before .before .ending2 .given .1)))
-    (λ c. sym (ap stateFor (c .before .ending3 .given .1)))
-    (λ c. sym (ap stateFor (c .before .ending4 .given .1))))
+    (tie.spec (λ c. search needs) (λ c. search needs) (λ c. search needs) (λ c. search needs)
+    (λ c. sym (ap stateFor (c .before .ending .given .1))) (λ c. sym (ap stateFor (c .before .before .ending2 .given .1)))
+    (λ c. sym (ap stateFor (c .before .ending3 .given .1))) (λ c. sym (ap stateFor (c .before .ending4 .given .1))))

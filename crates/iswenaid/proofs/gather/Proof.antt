@@ -14,29 +14,8 @@ Inv-loop line₀ arguments at₀ i₀ line at i = (at ≤ length line) × (lengt
 abbrev μ-loop : tie.MeasureT-loop
 μ-loop line₀ arguments at₀ i₀ line at i = arguments - i
 
-loop-holds : tie.Need-loop-holds Inv-loop μ-loop
-loop-holds c = search needs
-
-put-argument-requires : tie.Need-put-argument-requires Inv-loop μ-loop
-put-argument-requires c κs = search needs
-
-same-length : tie.Need-same-length Inv-loop μ-loop
-same-length c = search needs
-
 returns : tie.Need-returns Inv-loop μ-loop
 returns c = let d = c .before .before .before .before .put-argument in counts (d .result .count) (d .last .0) (d .ensures)
-
-add-i : tie.Need-add-i Inv-loop μ-loop
-add-i c = search needs
-
-loop-less : tie.Need-loop-less Inv-loop μ-loop
-loop-less c = search needs
-
-loop-again : tie.Need-loop-again Inv-loop μ-loop
-loop-again c = search needs
-
-same-length-2 : tie.Need-same-length-2 Inv-loop μ-loop
-same-length-2 c = search needs
 
 returns-2 : tie.Need-returns-2 Inv-loop μ-loop
 returns-2 c = let d = c .before .loop in counts (d .at) (d .line) (omega arith)
@@ -44,15 +23,5 @@ returns-2 c = let d = c .before .loop in counts (d .at) (d .line) (omega arith)
 pub gather-spec : {M : Type 1} → statement M
 gather-spec =
     tie.close
-    (tie.spec
-    Inv-loop
-    μ-loop
-    loop-holds
-    put-argument-requires
-    same-length
-    returns
-    add-i
-    loop-less
-    loop-again
-    same-length-2
-    returns-2)
+    (tie.spec Inv-loop μ-loop (λ c. search needs) (λ c κs. search needs) (λ c. search needs) returns (λ c. search needs) (λ c. search needs)
+    (λ c. search needs) (λ c. search needs) returns-2)

@@ -10,7 +10,4 @@ pub is-nothing-spec : {M : Type 1} → statement M
 unfolding isNothing
 is-nothing-spec =
     tie.close
-    (tie.spec
-    (λ c. search needs)
-    (λ c. rw (c .enum-told .given .1))
-    (λ c. sym (other-uses (c .before .args .meaning) (c .match .keys2))))
+    (tie.spec (λ c. search needs) (λ c. rw (c .enum-told .given .1)) (λ c. sym (other-uses (c .before .args .meaning) (c .match .keys2))))

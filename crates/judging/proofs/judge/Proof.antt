@@ -14,29 +14,11 @@ Inv-loop speeds m code centred count words stands₀ v₀ bad₀ place₀ i₀ s
 abbrev μ-loop : tie.MeasureT-loop
 μ-loop speeds m code centred count words stands₀ v₀ bad₀ place₀ i₀ stands v bad place i = count - i
 
-zero-requires : tie.Need-zero-requires Inv-loop μ-loop
-zero-requires c κs = search needs
-
 loop-holds : tie.Need-loop-holds Inv-loop μ-loop
 loop-holds c =
     let a = c .before .args in
     kept-first (a .speeds) (a .m) (a .code) (a .centred) (a .t5) (a .count) (c .zero .result) (c .zero .ensures .is)
     (omega (arith, c .before .pre .few, c .before .good .1 .1 .1 .1 .0))
-
-mul-w : tie.Need-mul-w Inv-loop μ-loop
-mul-w c = omega arith
-
-array-copy-out-w : tie.Need-array-copy-out-w Inv-loop μ-loop
-array-copy-out-w c = omega arith
-
-add-i : tie.Need-add-i Inv-loop μ-loop
-add-i c = omega arith
-
-use-of-requires : tie.Need-use-of-requires Inv-loop μ-loop
-use-of-requires c κs = search needs
-
-is-unused-requires : tie.Need-is-unused-requires Inv-loop μ-loop
-is-unused-requires c κs = search needs
 
 returns : tie.Need-returns Inv-loop μ-loop
 returns c =
@@ -61,15 +43,6 @@ value-of-requires c κs =
     let l = t .before in
     l .before .before .pre .written (l .loop .i) _ (t .loop-test .taken)
 
-enum-known-z : tie.Need-enum-known-z Inv-loop μ-loop
-enum-known-z c = search needs
-
-enum-told : tie.Need-enum-told Inv-loop μ-loop
-enum-told c = search needs
-
-loop-less : tie.Need-loop-less Inv-loop μ-loop
-loop-less c = omega arith
-
 loop-again : tie.Need-loop-again Inv-loop μ-loop
 loop-again c =
     let q = c .before .before .before in
@@ -91,9 +64,6 @@ loop-again c =
     (c .before .enum-told .given .1)
     (not-true (k .bad) (c .if2 .taken))
 
-loop-less-2 : tie.Need-loop-less-2 Inv-loop μ-loop
-loop-less-2 c = omega arith
-
 loop-again-2 : tie.Need-loop-again-2 Inv-loop μ-loop
 loop-again-2 c =
     let q = c .before .before .before in
@@ -114,9 +84,6 @@ loop-again-2 c =
     (q .value-of .ensures)
     (not-false (k .bad) (c .if2 .left))
 
-value-place-requires : tie.Need-value-place-requires Inv-loop μ-loop
-value-place-requires c κs = search needs
-
 array-write-stands : tie.Need-array-write-stands Inv-loop μ-loop
 array-write-stands c = c .value-place .ensures .inside
 
@@ -125,9 +92,6 @@ mul-v c = omega (arith, c .value-place .ensures .inside)
 
 array-set-from-v : tie.Need-array-set-from-v Inv-loop μ-loop
 array-set-from-v c = c .value-place .ensures .inside
-
-loop-less-3 : tie.Need-loop-less-3 Inv-loop μ-loop
-loop-less-3 c = omega arith
 
 loop-again-3 : tie.Need-loop-again-3 Inv-loop μ-loop
 loop-again-3 c =
@@ -162,9 +126,6 @@ returns-2 c =
     (c .before .loop-test .left)
     (c .if3 .taken)
 
-values-in-requires : tie.Need-values-in-requires Inv-loop μ-loop
-values-in-requires c κs = search needs
-
 returns-3 : tie.Need-returns-3 Inv-loop μ-loop
 returns-3 c =
     let l = c .before .before .before in
@@ -179,30 +140,7 @@ returns-3 c =
 pub judge-spec : {M : Type 1} → statement M
 judge-spec =
     tie.close
-    (tie.spec
-    Inv-loop
-    μ-loop
-    zero-requires
-    loop-holds
-    mul-w
-    array-copy-out-w
-    add-i
-    use-of-requires
-    is-unused-requires
-    returns
-    value-of-requires
-    enum-known-z
-    enum-told
-    loop-less
-    loop-again
-    loop-less-2
-    loop-again-2
-    value-place-requires
-    array-write-stands
-    mul-v
-    array-set-from-v
-    loop-less-3
-    loop-again-3
-    returns-2
-    values-in-requires
-    returns-3)
+    (tie.spec Inv-loop μ-loop (λ c κs. search needs) loop-holds (λ c. omega arith) (λ c. omega arith) (λ c. omega arith)
+    (λ c κs. search needs) (λ c κs. search needs) returns value-of-requires (λ c. search needs) (λ c. search needs) (λ c. omega arith)
+    loop-again (λ c. omega arith) loop-again-2 (λ c κs. search needs) array-write-stands mul-v array-set-from-v (λ c. omega arith)
+    loop-again-3 returns-2 (λ c κs. search needs) returns-3)

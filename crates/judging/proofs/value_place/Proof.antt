@@ -12,8 +12,7 @@ pub value-place-spec : {M : Type 1} → statement M
 unfolding valuesBy withValue
 value-place-spec =
     tie.close
-    (tie.spec
-    (λ c. place-at (byte "X") _ (c .match .keys1) (place-by (byte "X") _ (omega arith) (λ given g. refl)))
+    (tie.spec (λ c. place-at (byte "X") _ (c .match .keys1) (place-by (byte "X") _ (omega arith) (λ given g. refl)))
     (λ c. place-at (byte "Y") _ (c .match .keys2) (place-by (byte "Y") _ (omega arith) (λ given g. refl)))
     (λ c. place-at (byte "Z") _ (c .match .keys3) (place-by (byte "Z") _ (omega arith) (λ given g. refl)))
     (λ c. place-at (byte "I") _ (c .match .keys4) (place-by (byte "I") _ (omega arith) (λ given g. refl)))

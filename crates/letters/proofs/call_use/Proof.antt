@@ -11,6 +11,5 @@ pub call-use-spec : {M : Type 1} → statement M
 unfolding lookup any all
 call-use-spec =
     tie.close
-    (tie.spec
-    (λ c. used-at callLetters (byte "P") (c .match .keys1))
+    (tie.spec (λ c. used-at callLetters (byte "P") (c .match .keys1))
     (λ c. used-past (bytes "P") callLetters [] (c .before .args .letter) (c .match .rest) refl refl))

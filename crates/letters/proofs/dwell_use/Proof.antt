@@ -11,8 +11,6 @@ pub dwell-use-spec : {M : Type 1} → statement M
 unfolding lookup any all
 dwell-use-spec =
     tie.close
-    (tie.spec
-    (λ c. used-at dwellLetters (byte "P") (c .match .keys1))
-    (λ c. used-at dwellLetters (byte "F") (c .match .keys2))
+    (tie.spec (λ c. used-at dwellLetters (byte "P") (c .match .keys1)) (λ c. used-at dwellLetters (byte "F") (c .match .keys2))
     (λ c. used-at dwellLetters (byte "S") (c .match .keys3))
     (λ c. used-past (bytes "SFP") dwellLetters [] (c .before .args .letter) (c .match .rest) refl refl))

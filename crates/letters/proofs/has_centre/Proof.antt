@@ -8,7 +8,4 @@ pub has-centre-spec : {M : Type 1} → statement M
 unfolding hasCentre
 has-centre-spec =
     tie.close
-    (tie.spec
-    (λ c κs. search needs)
-    (λ c κs. search needs)
-    (λ c ws seen. rw (c .before .is-arc .ensures, c .names-centre .ensures ws seen)))
+    (tie.spec (λ c κs. search needs) (λ c κs. search needs) (λ c ws seen. rw (c .before .is-arc .ensures, c .names-centre .ensures ws seen)))

@@ -10,8 +10,5 @@ pub is-arc-spec : {M : Type 1} → statement M
 unfolding isArc
 is-arc-spec =
     tie.close
-    (tie.spec
-    (λ c. search needs)
-    (λ c κs. search needs)
-    (λ c. rw (c .before .before .code .given .1) (c .turns .ensures))
+    (tie.spec (λ c. search needs) (λ c κs. search needs) (λ c. rw (c .before .before .code .given .1) (c .turns .ensures))
     (λ c. sym (other-codes (c .before .args .code) (c .match .keys2))))

@@ -20,8 +20,7 @@ pub moving-use-spec : {M : Type 1} → statement M
 unfolding lookup
 moving-use-spec =
     tie.close
-    (tie.spec
-    (λ c κs. search needs)
+    (tie.spec (λ c κs. search needs)
     (λ c. let a = c .before .args in used-at (feedAndSpeed ++ motionLetters (a .motion) (a .plane)) (byte "F") (c .match .keys1))
     (λ c. let a = c .before .args in used-at (feedAndSpeed ++ motionLetters (a .motion) (a .plane)) (byte "S") (c .match .keys2))
     returns-motion)

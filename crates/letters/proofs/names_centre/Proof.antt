@@ -10,10 +10,7 @@ pub names-centre-spec : {M : Type 1} → statement M
 unfolding namesCentre centreLetters
 names-centre-spec =
     tie.close
-    (tie.spec
-    (λ c. search needs)
-    (λ c. search needs)
-    (λ c. search needs)
+    (tie.spec (λ c. search needs) (λ c. search needs) (λ c. search needs)
     (λ c ws seen. rw (c .enum-told .given .1) (two-seen (byte "I") (byte "J") ws (seen .hasI) (seen .hasJ)))
     (λ c ws seen. rw (c .enum-told2 .given .1) (two-seen (byte "K") (byte "I") ws (seen .hasK) (seen .hasI)))
     (λ c ws seen. rw (c .enum-told3 .given .1) (two-seen (byte "J") (byte "K") ws (seen .hasJ) (seen .hasK))))

@@ -8,13 +8,7 @@ pub plane-use-spec : {M : Type 1} → statement M
 unfolding endLetters centreLetters
 plane-use-spec =
     tie.close
-    (tie.spec
-    (λ c. search needs)
-    (λ c κs. search needs)
-    (λ c. search needs)
-    (λ c κs. search needs)
-    (λ c. search needs)
-    (λ c κs. search needs)
-    (λ c. rw (c .before .enum-told .given .1) (c .length-among .ensures))
+    (tie.spec (λ c. search needs) (λ c κs. search needs) (λ c. search needs) (λ c κs. search needs) (λ c. search needs)
+    (λ c κs. search needs) (λ c. rw (c .before .enum-told .given .1) (c .length-among .ensures))
     (λ c. rw (c .before .enum-told2 .given .1) (c .length-among2 .ensures))
     (λ c. rw (c .before .enum-told3 .given .1) (c .length-among3 .ensures)))

@@ -11,8 +11,6 @@ pub straight-use-spec : {M : Type 1} → statement M
 unfolding lookup any all
 straight-use-spec =
     tie.close
-    (tie.spec
-    (λ c. used-at straightLetters (byte "X") (c .match .keys1))
-    (λ c. used-at straightLetters (byte "Y") (c .match .keys2))
+    (tie.spec (λ c. used-at straightLetters (byte "X") (c .match .keys1)) (λ c. used-at straightLetters (byte "Y") (c .match .keys2))
     (λ c. used-at straightLetters (byte "Z") (c .match .keys3))
     (λ c. used-past (bytes "ZYX") straightLetters [] (c .before .args .letter) (c .match .rest) refl refl))

@@ -10,9 +10,5 @@ pub turns-spec : {M : Type 1} → statement M
 unfolding turns
 turns-spec =
     tie.close
-    (tie.spec
-    (λ c. search needs)
-    (λ c. search needs)
-    (λ c. rw (c .enum-told .given .1))
-    (λ c. rw (c .enum-told2 .given .1))
+    (tie.spec (λ c. search needs) (λ c. search needs) (λ c. rw (c .enum-told .given .1)) (λ c. rw (c .enum-told2 .given .1))
     (λ c. sym (other-motions (c .before .args .motion) (c .match .keys3))))

@@ -38,18 +38,8 @@ pub use-of-spec : {M : Type 1} → statement M
 unfolding lookup useOf
 use-of-spec =
     tie.close
-    (tie.spec
-    (λ c. search needs)
-    (λ c κs. search needs)
-    (λ c. search needs)
-    (λ c. search needs)
-    (λ c κs. search needs)
-    (λ c. search needs)
-    (λ c κs. search needs)
-    (λ c. use-at (c .before .args .code) (c .before .args .plane) (byte "N") (c .match .keys1))
+    (tie.spec (λ c. search needs) (λ c κs. search needs) (λ c. search needs) (λ c. search needs) (λ c κs. search needs) (λ c. search needs)
+    (λ c κs. search needs) (λ c. use-at (c .before .args .code) (c .before .args .plane) (byte "N") (c .match .keys1))
     (λ c. use-at (c .before .args .code) (c .before .args .plane) (byte "G") (c .match .keys2))
-    (λ c. use-at (c .before .args .code) (c .before .args .plane) (byte "M") (c .match .keys3))
-    returns-call
-    returns-none
-    returns-dwell
+    (λ c. use-at (c .before .args .code) (c .before .args .plane) (byte "M") (c .match .keys3)) returns-call returns-none returns-dwell
     returns-moving)

@@ -8,17 +8,8 @@ use Rattle.lines.proofs.is_percent.Tie as tie
 returns : tie.Need-returns
 returns c = let a = c .before .before .args in sym (percent-end (a .s .now) (a .at) (c .if1 .taken))
 
-shared-slice-read-if2 : tie.Need-shared-slice-read-if2
-shared-slice-read-if2 c = search needs
-
 returns-2 : tie.Need-returns-2
 returns-2 c = let a = c .before .before .before .before .args in sym (percent-not (a .s .now) (a .at) (omega arith) (c .if2 .taken))
-
-add-text-ends : tie.Need-add-text-ends
-add-text-ends c = search needs
-
-text-ends-requires : tie.Need-text-ends-requires
-text-ends-requires c κs = search needs
 
 returns-3 : tie.Need-returns-3
 returns-3 c =
@@ -28,4 +19,4 @@ returns-3 c =
 pub is-percent-spec : {M : Type 1} → statement M
 is-percent-spec =
     tie.close
-    (tie.spec returns shared-slice-read-if2 returns-2 add-text-ends text-ends-requires returns-3)
+    (tie.spec returns (λ c. search needs) returns-2 (λ c. search needs) (λ c κs. search needs) returns-3)

@@ -13,20 +13,8 @@ Inv-loop s at i₀ i = (i ≤ length s) × (at + lengthFrom (drop at s) ≡ i + 
 abbrev μ-loop : tie.MeasureT-loop
 μ-loop s at i₀ i = length s - i
 
-loop-holds : tie.Need-loop-holds Inv-loop μ-loop
-loop-holds c = omega arith
-
-shared-slice-read-b : tie.Need-shared-slice-read-b Inv-loop μ-loop
-shared-slice-read-b c = omega arith
-
-add-i : tie.Need-add-i Inv-loop μ-loop
-add-i c = omega arith
-
 returns : tie.Need-returns Inv-loop μ-loop
 returns c = let d = c .before .before .before in omega (arith, length-at-lf (d .before .args .s .now) (d .loop .i) (omega arith) (c .if1 .taken))
-
-loop-less : tie.Need-loop-less Inv-loop μ-loop
-loop-less c = omega arith
 
 loop-again : tie.Need-loop-again Inv-loop μ-loop
 loop-again c = let d = c .before .before .before in omega (arith, length-at-more (d .before .args .s .now) (d .loop .i) (omega arith) (c .if1 .left))
@@ -37,13 +25,4 @@ returns-2 c = omega (arith, length-at-end (c .before .before .args .s .now) (c .
 pub next-block-spec : {M : Type 1} → statement M
 next-block-spec =
     tie.close
-    (tie.spec
-    Inv-loop
-    μ-loop
-    loop-holds
-    shared-slice-read-b
-    add-i
-    returns
-    loop-less
-    loop-again
-    returns-2)
+    (tie.spec Inv-loop μ-loop (λ c. omega arith) (λ c. omega arith) (λ c. omega arith) returns (λ c. omega arith) loop-again returns-2)

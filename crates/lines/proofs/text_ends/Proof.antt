@@ -9,28 +9,16 @@ use Rattle.lines.proofs.text_ends.Tie as tie
 returns : tie.Need-returns
 returns c = let a = c .before .args in sym (no-text-end (a .s .now) (a .at) (c .if1 .taken))
 
-shared-slice-read-if2 : tie.Need-shared-slice-read-if2
-shared-slice-read-if2 c = search needs
-
 returns-2 : tie.Need-returns-2
 returns-2 c = let a = c .before .before .before .args in sym (no-text-lf (a .s .now) (a .at) (omega arith) (c .if2 .taken))
 
-shared-slice-read-if3 : tie.Need-shared-slice-read-if3
-shared-slice-read-if3 c = search needs
-
 returns-3 : tie.Need-returns-3
 returns-3 c = let a = c .before .before .before .before .before .args in sym (no-text-other (a .s .now) (a .at) (omega arith) (c .before .before .if2 .left) (c .if3 .taken))
-
-add-next : tie.Need-add-next
-add-next c = search needs
 
 returns-4 : tie.Need-returns-4
 returns-4 c =
     let a = c .before .before .before .before .before .before .args in
     sym (no-text-cr (a .s .now) (a .at) (omega arith) (c .before .if3 .left) ∙ begins-end 10 (a .s .now) (a .at + 1) (c .if4 .taken))
-
-shared-slice-read-result : tie.Need-shared-slice-read-result
-shared-slice-read-result c = search needs
 
 returns-5 : tie.Need-returns-5
 returns-5 c =
@@ -40,13 +28,5 @@ returns-5 c =
 pub text-ends-spec : {M : Type 1} → statement M
 text-ends-spec =
     tie.close
-    (tie.spec
-    returns
-    shared-slice-read-if2
-    returns-2
-    shared-slice-read-if3
-    returns-3
-    add-next
-    returns-4
-    shared-slice-read-result
+    (tie.spec returns (λ c. search needs) returns-2 (λ c. search needs) returns-3 (λ c. search needs) returns-4 (λ c. search needs)
     returns-5)

@@ -19,10 +19,4 @@ returns-3 c = rw (c .before .enum-told3 .given .1)
 pub is-written-spec : {M : Type 1} → statement M
 is-written-spec =
     tie.close
-    (tie.spec
-    (λ c. search needs)
-    (λ c. search needs)
-    (λ c. search needs)
-    returns
-    returns-2
-    returns-3)
+    (tie.spec (λ c. search needs) (λ c. search needs) (λ c. search needs) returns returns-2 returns-3)

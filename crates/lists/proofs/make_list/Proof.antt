@@ -24,11 +24,5 @@ returns c =
 pub make-list-spec : {M : Type 1} → statement M
 make-list-spec =
     tie.close
-    (tie.spec
-    (λ c. search needs)
-    slice-aggregate-report-in
-    (λ c κs. search needs)
-    (λ c κs. search needs)
-    (λ c κs. search needs)
-    (λ c. search needs)
-    returns)
+    (tie.spec (λ c. search needs) slice-aggregate-report-in (λ c κs. search needs) (λ c κs. search needs) (λ c κs. search needs)
+    (λ c. search needs) returns)

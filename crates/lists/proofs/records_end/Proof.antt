@@ -17,24 +17,12 @@ abbrev μ-loop : tie.MeasureT-loop
 loop-holds : tie.Need-loop-holds Inv-loop μ-loop
 loop-holds c = refl
 
-read-requires : tie.Need-read-requires Inv-loop μ-loop
-read-requires c κs = search needs
-
-enum-known-next : tie.Need-enum-known-next Inv-loop μ-loop
-enum-known-next c = search needs
-
-enum-told : tie.Need-enum-told Inv-loop μ-loop
-enum-told c = search needs
-
 returns : tie.Need-returns Inv-loop μ-loop
 returns c =
     let d = c .before .before in
     let p = d .before .before in
     let l = p .before .before .args .list .now in
     sym (p .loop .inv ∙ end-over l (p .loop .at) (p .loop .left) (sym (d .read .ensures) ∙ c .enum-told .given .1))
-
-enum-told-2 : tie.Need-enum-told-2 Inv-loop μ-loop
-enum-told-2 c = search needs
 
 returns-2 : tie.Need-returns-2 Inv-loop μ-loop
 returns-2 c =
@@ -43,12 +31,6 @@ returns-2 c =
     let l = p .before .before .args .list .now in
     let told = c .enum-told2 .given in
     sym (p .loop .inv ∙ end-faulty l (p .loop .at) (p .loop .left) (told .0 .0) (told .0 .1 .0) (sym (d .read .ensures) ∙ told .1))
-
-sub-left : tie.Need-sub-left Inv-loop μ-loop
-sub-left c = search needs
-
-loop-less : tie.Need-loop-less Inv-loop μ-loop
-loop-less c = search needs
 
 loop-again : tie.Need-loop-again Inv-loop μ-loop
 loop-again c =
@@ -68,17 +50,5 @@ returns-3 c =
 pub records-end-spec : {M : Type 1} → statement M
 records-end-spec =
     tie.close
-    (tie.spec
-    Inv-loop
-    μ-loop
-    loop-holds
-    read-requires
-    enum-known-next
-    enum-told
-    returns
-    enum-told-2
-    returns-2
-    sub-left
-    loop-less
-    loop-again
-    returns-3)
+    (tie.spec Inv-loop μ-loop loop-holds (λ c κs. search needs) (λ c. search needs) (λ c. search needs) returns (λ c. search needs)
+    returns-2 (λ c. search needs) (λ c. search needs) loop-again returns-3)

@@ -8,27 +8,6 @@ use Rattle.records.proofs.Found.{byWord, by-word, no-word}
 use Rattle.loading.proofs.kind_at.Statement.{statement}
 use Rattle.loading.proofs.kind_at.Tie as tie
 
-shared-slice-read-wide : tie.Need-shared-slice-read-wide
-shared-slice-read-wide c = search needs
-
-wide-requires : tie.Need-wide-requires
-wide-requires c κs = search needs
-
-mul-mark : tie.Need-mul-mark
-mul-mark c = search needs
-
-add-wide : tie.Need-add-wide
-add-wide c = search needs
-
-shared-slice-read-wide-2 : tie.Need-shared-slice-read-wide-2
-shared-slice-read-wide-2 c = search needs
-
-wide-requires-2 : tie.Need-wide-requires-2
-wide-requires-2 c κs = search needs
-
-add-mark : tie.Need-add-mark
-add-mark c = search needs
-
 found :
     (c : tie.After-wide2)
     → (let x = c .before .before .before .before .before .args in
@@ -82,21 +61,5 @@ returns-10 c =
 pub kind-at-spec : {M : Type 1} → statement M
 kind-at-spec =
     tie.close
-    (tie.spec
-    shared-slice-read-wide
-    wide-requires
-    mul-mark
-    add-wide
-    shared-slice-read-wide-2
-    wide-requires-2
-    add-mark
-    returns
-    returns-2
-    returns-3
-    returns-4
-    returns-5
-    returns-6
-    returns-7
-    returns-8
-    returns-9
-    returns-10)
+    (tie.spec (λ c. search needs) (λ c κs. search needs) (λ c. search needs) (λ c. search needs) (λ c. search needs) (λ c κs. search needs)
+    (λ c. search needs) returns returns-2 returns-3 returns-4 returns-5 returns-6 returns-7 returns-8 returns-9 returns-10)

@@ -6,9 +6,6 @@ use Rattle.records.specs.Reading.{planeAt}
 use Rattle.loading.proofs.plane_at.Statement.{statement}
 use Rattle.loading.proofs.plane_at.Tie as tie
 
-shared-slice-read-byte : tie.Need-shared-slice-read-byte
-shared-slice-read-byte c = search needs
-
 returns : tie.Need-returns
 unfolding planeAt first
 returns c = rw (c .match .keys1)
@@ -26,4 +23,4 @@ unfolding planeAt first
 returns-4 c = let n = c .match .rest in simp (ne-eqb _ 17 (n .0 .0 .1), ne-eqb _ 18 (n .0 .1), ne-eqb _ 19 (n .1))
 
 pub plane-at-spec : {M : Type 1} → statement M
-plane-at-spec = tie.close (tie.spec shared-slice-read-byte returns returns-2 returns-3 returns-4)
+plane-at-spec = tie.close (tie.spec (λ c. search needs) returns returns-2 returns-3 returns-4)

@@ -8,12 +8,6 @@ use Rattle.records.specs.Reading.{planeFor}
 use Rattle.loading.proofs.plane_for.Statement.{statement}
 use Rattle.loading.proofs.plane_for.Tie as tie
 
-has-plane-requires : tie.Need-has-plane-requires
-has-plane-requires c κs = search needs
-
-add-plane-at : tie.Need-add-plane-at
-add-plane-at c = search needs
-
 plane-at-requires : tie.Need-plane-at-requires
 plane-at-requires c κs =
     let e : hasPlane (c .before .before .before .args .kind) ≡ true = sym (c .before .has-plane .ensures) ∙ c .if1 .taken in
@@ -29,4 +23,5 @@ returns-2 c = rw (← c .before .has-plane .ensures, c .if1 .left)
 
 pub plane-for-spec : {M : Type 1} → statement M
 plane-for-spec =
-    tie.close (tie.spec has-plane-requires add-plane-at plane-at-requires returns returns-2)
+    tie.close
+    (tie.spec (λ c κs. search needs) (λ c. search needs) plane-at-requires returns returns-2)

@@ -29,9 +29,6 @@ returns c =
     let x = c .before .before .args in
     sym (read-cut (x .list .now) (x .at) (λ e. omega arith) (omega arith))
 
-sub-left : tie.Need-sub-left
-sub-left c = search needs
-
 returns-2 : tie.Need-returns-2
 returns-2 c =
     let x = c .before .before .before .args in
@@ -42,37 +39,16 @@ returns-3 c =
     let x = c .before .before .before .before .args in
     sym (read-cut (x .list .now) (x .at) (λ e. omega arith) (omega arith))
 
-kind-at-requires : tie.Need-kind-at-requires
-kind-at-requires c κs = search needs
-
-enum-known-found : tie.Need-enum-known-found
-enum-known-found c = search needs
-
-enum-told : tie.Need-enum-told
-enum-told c = search needs
-
 returns-4 : tie.Need-returns-4
 returns-4 c =
     let x = c .before .before .before .before .before .before .before .args in
     sym (read-unknown (x .list .now) (x .at) (omega arith) (sym (c .before .before .kind-at .ensures) ∙ ap foundKind (c .enum-told .given .1)))
-
-kind-length-requires : tie.Need-kind-length-requires
-kind-length-requires c κs = search needs
 
 returns-5 : tie.Need-returns-5
 returns-5 c =
     let k = c .before .before .before in
     let x = k .before .before .before .before .before .before .before .args in
     sym (read-short (x .list .now) (x .at) (omega arith) (kind k) (omega arith))
-
-plane-for-requires : tie.Need-plane-for-requires
-plane-for-requires c κs = search needs
-
-enum-known-byte : tie.Need-enum-known-byte
-enum-known-byte c = search needs
-
-enum-told-2 : tie.Need-enum-told-2
-enum-told-2 c = search needs
 
 returns-6 : tie.Need-returns-6
 returns-6 c =
@@ -87,18 +63,6 @@ returns-6 c =
     (omega arith)
     (sym (c .before .before .plane-for .ensures) ∙ ap foundPlane (c .enum-told2 .given .1)))
 
-head-length-requires : tie.Need-head-length-requires
-head-length-requires c κs = search needs
-
-add-record-at : tie.Need-add-record-at
-add-record-at c = search needs
-
-record-at-requires : tie.Need-record-at-requires
-record-at-requires c κs = search needs
-
-add-t18 : tie.Need-add-t18
-add-t18 c = search needs
-
 returns-7 : tie.Need-returns-7
 returns-7 c =
     let p = c .before .before .before in
@@ -110,23 +74,6 @@ returns-7 c =
 pub read-spec : {M : Type 1} → statement M
 read-spec =
     tie.close
-    (tie.spec
-    returns
-    sub-left
-    returns-2
-    returns-3
-    kind-at-requires
-    enum-known-found
-    enum-told
-    returns-4
-    kind-length-requires
-    returns-5
-    plane-for-requires
-    enum-known-byte
-    enum-told-2
-    returns-6
-    head-length-requires
-    add-record-at
-    record-at-requires
-    add-t18
-    returns-7)
+    (tie.spec returns (λ c. search needs) returns-2 returns-3 (λ c κs. search needs) (λ c. search needs) (λ c. search needs) returns-4
+    (λ c κs. search needs) returns-5 (λ c κs. search needs) (λ c. search needs) (λ c. search needs) returns-6 (λ c κs. search needs)
+    (λ c. search needs) (λ c κs. search needs) (λ c. search needs) returns-7)

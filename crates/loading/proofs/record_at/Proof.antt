@@ -9,56 +9,26 @@ use Rattle.records.proofs.Found.{line-found}
 use Rattle.loading.proofs.record_at.Statement.{statement}
 use Rattle.loading.proofs.record_at.Tie as tie
 
-enum-told : tie.Need-enum-told
-enum-told c = search needs
-
 point-at-requires : tie.Need-point-at-requires
 point-at-requires c κs = omega (arith, rw (c .enum-told .given .1) at (c .before .before .before .pre))
-
-enum-told-2 : tie.Need-enum-told-2
-enum-told-2 c = search needs
 
 point-at-requires-2 : tie.Need-point-at-requires-2
 point-at-requires-2 c κs = omega (arith, rw (c .enum-told2 .given .1) at (c .before .before .before .pre))
 
-add-number-at : tie.Need-add-number-at
-add-number-at c = search needs
-
 number-at-requires : tie.Need-number-at-requires
 number-at-requires c κs = omega (arith, rw (c .before .enum-told2 .given .1) at (c .before .before .before .before .pre))
-
-enum-told-3 : tie.Need-enum-told-3
-enum-told-3 c = search needs
 
 arc-at-requires : tie.Need-arc-at-requires
 arc-at-requires c κs = omega (arith, rw (c .enum-told3 .given .1) at (c .before .before .before .pre))
 
-enum-told-4 : tie.Need-enum-told-4
-enum-told-4 c = search needs
-
 arc-at-requires-2 : tie.Need-arc-at-requires-2
 arc-at-requires-2 c κs = omega (arith, rw (c .enum-told4 .given .1) at (c .before .before .before .pre))
-
-enum-told-5 : tie.Need-enum-told-5
-enum-told-5 c = search needs
 
 number-at-requires-2 : tie.Need-number-at-requires-2
 number-at-requires-2 c κs = omega (arith, rw (c .enum-told5 .given .1) at (c .before .before .before .pre))
 
-enum-told-6 : tie.Need-enum-told-6
-enum-told-6 c = search needs
-
 number-at-requires-3 : tie.Need-number-at-requires-3
 number-at-requires-3 c κs = omega (arith, rw (c .enum-told6 .given .1) at (c .before .before .before .pre))
-
-enum-told-7 : tie.Need-enum-told-7
-enum-told-7 c = search needs
-
-enum-told-8 : tie.Need-enum-told-8
-enum-told-8 c = search needs
-
-enum-told-9 : tie.Need-enum-told-9
-enum-told-9 c = search needs
 
 returns : tie.Need-returns
 unfolding recordOf
@@ -101,30 +71,7 @@ returns-9 c = rw (c .enum-told9 .given .1)
 pub record-at-spec : {M : Type 1} → statement M
 record-at-spec =
     tie.close
-    (tie.spec
-    enum-told
-    point-at-requires
-    enum-told-2
-    point-at-requires-2
-    add-number-at
-    number-at-requires
-    enum-told-3
-    arc-at-requires
-    enum-told-4
-    arc-at-requires-2
-    enum-told-5
-    number-at-requires-2
-    enum-told-6
-    number-at-requires-3
-    enum-told-7
-    enum-told-8
-    enum-told-9
-    returns
-    returns-2
-    returns-3
-    returns-4
-    returns-5
-    returns-6
-    returns-7
-    returns-8
-    returns-9)
+    (tie.spec (λ c. search needs) point-at-requires (λ c. search needs) point-at-requires-2 (λ c. search needs) number-at-requires
+    (λ c. search needs) arc-at-requires (λ c. search needs) arc-at-requires-2 (λ c. search needs) number-at-requires-2 (λ c. search needs)
+    number-at-requires-3 (λ c. search needs) (λ c. search needs) (λ c. search needs) returns returns-2 returns-3 returns-4 returns-5
+    returns-6 returns-7 returns-8 returns-9)

@@ -6,15 +6,9 @@ use borrow.Author.Needs.{needs}
 use Rattle.look.proofs.first_modes.Statement.{statement}
 use Rattle.look.proofs.first_modes.Tie as tie
 
-zero-requires : tie.Need-zero-requires
-zero-requires c κs = search needs
-
-first-state-requires : tie.Need-first-state-requires
-first-state-requires c κs = search needs
-
 returns : tie.Need-returns
 unfolding firstState
 returns c = ap (λ (x : State). x .modes) (c .before .first-state .ensures)
 
 pub first-modes-spec : {M : Type 1} → statement M
-first-modes-spec = tie.close (tie.spec zero-requires first-state-requires returns)
+first-modes-spec = tie.close (tie.spec (λ c κs. search needs) (λ c κs. search needs) returns)

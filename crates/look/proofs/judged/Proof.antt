@@ -10,12 +10,5 @@ returns c ws seen = c .judge .ensures ∙ rw (c .before .has-centre .ensures ws 
 pub judged-spec : {M : Type 1} → statement M
 judged-spec =
     tie.close
-    (tie.spec
-    (λ c. search needs)
-    (λ c κs. search needs)
-    (λ c. search needs)
-    (λ c. search needs)
-    (λ c. search needs)
-    (λ c κs. search needs)
-    (λ c κs. search needs)
-    returns)
+    (tie.spec (λ c. search needs) (λ c κs. search needs) (λ c. search needs) (λ c. search needs) (λ c. search needs) (λ c κs. search needs)
+    (λ c κs. search needs) returns)

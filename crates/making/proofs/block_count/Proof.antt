@@ -7,21 +7,6 @@ use borrow.Author.Needs.{needs}
 use Rattle.making.proofs.block_count.Statement.{statement}
 use Rattle.making.proofs.block_count.Tie as tie
 
-plan-count-requires : tie.Need-plan-count-requires
-plan-count-requires c κs = search needs
-
-plan-count-requires-2 : tie.Need-plan-count-requires-2
-plan-count-requires-2 c κs = search needs
-
-add-result : tie.Need-add-result
-add-result c = search needs
-
-plan-count-requires-3 : tie.Need-plan-count-requires-3
-plan-count-requires-3 c κs = search needs
-
-add-result-2 : tie.Need-add-result-2
-add-result-2 c = search needs
-
 returns : tie.Need-returns
 returns c =
     let a = c .before .before .before .args in
@@ -41,10 +26,4 @@ returns c =
 pub block-count-spec : {M : Type 1} → statement M
 block-count-spec =
     tie.close
-    (tie.spec
-    plan-count-requires
-    plan-count-requires-2
-    add-result
-    plan-count-requires-3
-    add-result-2
-    returns)
+    (tie.spec (λ c κs. search needs) (λ c κs. search needs) (λ c. search needs) (λ c κs. search needs) (λ c. search needs) returns)

@@ -7,21 +7,6 @@ use borrow.Author.Needs.{needs}
 use Rattle.making.proofs.block_room.Statement.{statement}
 use Rattle.making.proofs.block_room.Tie as tie
 
-plan-room-requires : tie.Need-plan-room-requires
-plan-room-requires c κs = search needs
-
-plan-room-requires-2 : tie.Need-plan-room-requires-2
-plan-room-requires-2 c κs = search needs
-
-add-result : tie.Need-add-result
-add-result c = search needs
-
-plan-room-requires-3 : tie.Need-plan-room-requires-3
-plan-room-requires-3 c κs = search needs
-
-add-result-2 : tie.Need-add-result-2
-add-result-2 c = search needs
-
 returns : tie.Need-returns
 returns c =
     let a = c .before .before .before .args in
@@ -41,10 +26,4 @@ returns c =
 pub block-room-spec : {M : Type 1} → statement M
 block-room-spec =
     tie.close
-    (tie.spec
-    plan-room-requires
-    plan-room-requires-2
-    add-result
-    plan-room-requires-3
-    add-result-2
-    returns)
+    (tie.spec (λ c κs. search needs) (λ c κs. search needs) (λ c. search needs) (λ c κs. search needs) (λ c. search needs) returns)

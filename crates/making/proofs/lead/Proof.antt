@@ -42,12 +42,6 @@ plan-way-requires c κs =
     let s = c .before .before .before .before .before .before .before .before .before .before in
     plan-ready (s .pre .1) (sym (c .before .before .before .plan-holds .ensures) ∙ not-false _ (c .before .before .if1 .left))
 
-enum-known-end : tie.Need-enum-known-end
-enum-known-end c = search needs
-
-enum-told : tie.Need-enum-told
-enum-told c = search needs
-
 returns-3 : tie.Need-returns-3
 returns-3 c =
     let s = c .before .before .before .before .before .before .before .before .before .before .before .before .before in
@@ -64,9 +58,6 @@ make-requires : tie.Need-make-requires
 make-requires c κs =
     let s = c .before .before .before .before .before .before .before .before .before .before .before .before .before .before .before in
     (s .pre .0, (s .pre .1, sym (c .before .before .end .given .1) ∙ c .before .before .before .before .plan-way .ensures))
-
-same-length : tie.Need-same-length
-same-length c = search needs
 
 returns-4 : tie.Need-returns-4
 returns-4 c =
@@ -85,15 +76,5 @@ returns-4 c =
 pub lead-spec : {M : Type 1} → statement M
 lead-spec =
     tie.close
-    (tie.spec
-    plan-holds-requires
-    returns
-    plan-fits-requires
-    returns-2
-    plan-way-requires
-    enum-known-end
-    enum-told
-    returns-3
-    make-requires
-    same-length
-    returns-4)
+    (tie.spec plan-holds-requires returns plan-fits-requires returns-2 plan-way-requires (λ c. search needs) (λ c. search needs) returns-3
+    make-requires (λ c. search needs) returns-4)

@@ -16,12 +16,6 @@ use Rattle.making.proofs.make.Tie as tie
 spindle-plan-requires : tie.Need-spindle-plan-requires
 spindle-plan-requires c κs = let h = c .before .before .before .before .before .before .pre .1 .0 in rw (h .works)
 
-last-plan-requires : tie.Need-last-plan-requires
-last-plan-requires c κs = search needs
-
-sub-if1 : tie.Need-sub-if1
-sub-if1 c = search needs
-
 block-room-requires : tie.Need-block-room-requires
 block-room-requires c κs =
     let s = c .before .before .before .before .before .before .before .before in
@@ -52,12 +46,6 @@ block-count-requires c κs =
     let s = c .before .before .before .before .before .before .before .before .before .before .before .before .before .before in
     three-counts (s .pre .1 .0) (s .pre .1 .1) (c .before .before .before .before .before .before .before .spindle-plan .ensures) (c .before .before .before .before .before .before .last-plan .ensures)
 
-settled-requires : tie.Need-settled-requires
-settled-requires c κs = search needs
-
-same-length : tie.Need-same-length
-same-length c = search needs
-
 returns-2 : tie.Need-returns-2
 returns-2 c =
     let s = c .before .before .before .before .before .before .before .before .before .before .before .before .before .before .before .before in
@@ -74,14 +62,5 @@ returns-2 c =
 pub make-spec : {M : Type 1} → statement M
 make-spec =
     tie.close
-    (tie.spec
-    spindle-plan-requires
-    last-plan-requires
-    sub-if1
-    block-room-requires
-    returns
-    put-block-requires
-    block-count-requires
-    settled-requires
-    same-length
-    returns-2)
+    (tie.spec spindle-plan-requires (λ c κs. search needs) (λ c. search needs) block-room-requires returns put-block-requires
+    block-count-requires (λ c κs. search needs) (λ c. search needs) returns-2)

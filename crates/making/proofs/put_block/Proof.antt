@@ -38,9 +38,6 @@ put-brief-requires-2 c κs =
     let both = put-then (a .offset) f m spun (c .before .before .before .put-plan .ensures) in
     ready-as (a .offset) (s .pre .1 .lastly) (ready-right (a .offset) (f ++ m) l both (s .pre .0))
 
-same-length : tie.Need-same-length
-same-length c = search needs
-
 returns : tie.Need-returns
 returns c =
     let three = c .before .before in
@@ -58,4 +55,4 @@ returns c =
 pub put-block-spec : {M : Type 1} → statement M
 put-block-spec =
     tie.close
-    (tie.spec put-brief-requires put-plan-requires put-brief-requires-2 same-length returns)
+    (tie.spec put-brief-requires put-plan-requires put-brief-requires-2 (λ c. search needs) returns)

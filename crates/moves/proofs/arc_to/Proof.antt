@@ -6,4 +6,6 @@ use Rattle.moves.proofs.arc_to.Tie as tie
 
 pub arc-to-spec : {M : Type 1} → statement M
 unfolding arcTo
-arc-to-spec = tie.close (tie.spec (λ c κs. search needs) (λ c. rw (c .before .before .centre-for .ensures)))
+arc-to-spec =
+    tie.close
+    (tie.spec (λ c κs. search needs) (λ c. rw (c .before .before .centre-for .ensures)))

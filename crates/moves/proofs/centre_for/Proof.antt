@@ -34,12 +34,5 @@ returns-2 c =
 pub centre-for-spec : {M : Type 1} → statement M
 centre-for-spec =
     tie.close
-    (tie.spec
-    (λ c κs. search needs)
-    (λ c κs. search needs)
-    centre-by-requires
-    returns
-    (λ c κs. search needs)
-    moved-requires
-    (λ c κs. search needs)
-    returns-2)
+    (tie.spec (λ c κs. search needs) (λ c κs. search needs) centre-by-requires returns (λ c κs. search needs) moved-requires
+    (λ c κs. search needs) returns-2)

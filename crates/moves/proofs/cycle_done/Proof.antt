@@ -4,12 +4,9 @@ use borrow.Author.Needs.{needs}
 use Rattle.moves.proofs.cycle_done.Statement.{statement}
 use Rattle.moves.proofs.cycle_done.Tie as tie
 
-end-stands-requires : tie.Need-end-stands-requires
-end-stands-requires c κs = search needs
-
 returns : tie.Need-returns
 unfolding cycleDone
 returns c = rw (c .before .end-stands .ensures)
 
 pub cycle-done-spec : {M : Type 1} → statement M
-cycle-done-spec = tie.close (tie.spec end-stands-requires returns)
+cycle-done-spec = tie.close (tie.spec (λ c κs. search needs) returns)

@@ -5,4 +5,5 @@ use Rattle.moves.proofs.is_larger.Tie as tie
 
 pub is-larger-spec : {M : Type 1} → statement M
 is-larger-spec =
-    tie.close (tie.spec (λ c κs. search needs) (λ c κs. search needs) (λ c. rw (c .below .ensures, c .before .zero .ensures .is)))
+    tie.close
+    (tie.spec (λ c κs. search needs) (λ c κs. search needs) (λ c. rw (c .below .ensures, c .before .zero .ensures .is)))

@@ -4,35 +4,17 @@ use borrow.Author.Needs.{needs}
 use Rattle.moves.proofs.motion_plan.Statement.{statement}
 use Rattle.moves.proofs.motion_plan.Tie as tie
 
-enum-told : tie.Need-enum-told
-enum-told c = search needs
-
-enum-told-2 : tie.Need-enum-told-2
-enum-told-2 c = search needs
-
 rapid-plan-requires : tie.Need-rapid-plan-requires
 rapid-plan-requires c κs = rw (c .enum-told2 .given .1) at (c .before .before .pre)
-
-enum-told-3 : tie.Need-enum-told-3
-enum-told-3 c = search needs
 
 cut-plan-requires : tie.Need-cut-plan-requires
 cut-plan-requires c κs = rw (c .enum-told3 .given .1) at (c .before .before .pre)
 
-enum-told-4 : tie.Need-enum-told-4
-enum-told-4 c = search needs
-
 clockwise-plan-requires : tie.Need-clockwise-plan-requires
 clockwise-plan-requires c κs = rw (c .enum-told4 .given .1) at (c .before .before .pre)
 
-enum-told-5 : tie.Need-enum-told-5
-enum-told-5 c = search needs
-
 counter-plan-requires : tie.Need-counter-plan-requires
 counter-plan-requires c κs = rw (c .enum-told5 .given .1) at (c .before .before .pre)
-
-enum-known-motion : tie.Need-enum-known-motion
-enum-known-motion c = search needs
 
 cycle-plan-requires : tie.Need-cycle-plan-requires
 cycle-plan-requires c κs = rw (c .before .motion .given .1) at (c .before .before .before .pre)
@@ -58,21 +40,6 @@ returns-6 c = rw (c .before .before .motion .given .1) (c .cycle-plan .ensures)
 pub motion-plan-spec : {M : Type 1} → statement M
 motion-plan-spec =
     tie.close
-    (tie.spec
-    enum-told
-    enum-told-2
-    rapid-plan-requires
-    enum-told-3
-    cut-plan-requires
-    enum-told-4
-    clockwise-plan-requires
-    enum-told-5
-    counter-plan-requires
-    enum-known-motion
-    cycle-plan-requires
-    returns
-    returns-2
-    returns-3
-    returns-4
-    returns-5
-    returns-6)
+    (tie.spec (λ c. search needs) (λ c. search needs) rapid-plan-requires (λ c. search needs) cut-plan-requires (λ c. search needs)
+    clockwise-plan-requires (λ c. search needs) counter-plan-requires (λ c. search needs) cycle-plan-requires returns returns-2 returns-3
+    returns-4 returns-5 returns-6)

@@ -5,18 +5,6 @@ use borrow.Author.Needs.{needs}
 use Rattle.moves.proofs.plan_of.Statement.{statement}
 use Rattle.moves.proofs.plan_of.Tie as tie
 
-enum-told : tie.Need-enum-told
-enum-told c = search needs
-
-enum-told-2 : tie.Need-enum-told-2
-enum-told-2 c = search needs
-
-enum-told-3 : tie.Need-enum-told-3
-enum-told-3 c = search needs
-
-enum-known-code : tie.Need-enum-known-code
-enum-known-code c = search needs
-
 motion-plan-requires : tie.Need-motion-plan-requires
 motion-plan-requires c κs = rw (c .before .code .given .1) at (c .before .before .before .before .before .pre)
 
@@ -36,13 +24,5 @@ returns-4 c = rw (c .before .before .code .given .1) (c .motion-plan .ensures)
 pub plan-of-spec : {M : Type 1} → statement M
 plan-of-spec =
     tie.close
-    (tie.spec
-    enum-told
-    enum-told-2
-    enum-told-3
-    enum-known-code
-    motion-plan-requires
-    returns
-    returns-2
-    returns-3
-    returns-4)
+    (tie.spec (λ c. search needs) (λ c. search needs) (λ c. search needs) (λ c. search needs) motion-plan-requires returns returns-2
+    returns-3 returns-4)

@@ -42,4 +42,7 @@ returns-5 c =
     c .kind-fate .ensures ∙ is-there (a .out) (a .first) (a .second) (sym (n .before .same-file .ensures) ∙ n .if1 .left) (sym (m .before .same-file2 .ensures) ∙ m .if2 .left) (f .if3 .left) (t .if4 .left)
 
 pub fate-of-spec : {M : Type 1} → statement M
-fate-of-spec = tie.close (tie.spec (λ c κs. search needs) returns (λ c κs. search needs) returns-2 returns-3 (λ c κs. search needs) returns-4 (λ c κs. search needs) returns-5)
+fate-of-spec =
+    tie.close
+    (tie.spec (λ c κs. search needs) returns (λ c κs. search needs) returns-2 returns-3 (λ c κs. search needs) returns-4
+    (λ c κs. search needs) returns-5)

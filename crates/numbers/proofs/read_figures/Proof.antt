@@ -25,20 +25,11 @@ Inv-loop s at end sign i₀ digits₀ decimals₀ count₀ point₀ i digits dec
 abbrev μ-loop : tie.MeasureT-loop
 μ-loop s at end sign i₀ digits₀ decimals₀ count₀ point₀ i digits decimals count point = end - i
 
-sign-length-requires : tie.Need-sign-length-requires Inv-loop μ-loop
-sign-length-requires c κs = search needs
-
-add-i : tie.Need-add-i Inv-loop μ-loop
-add-i c = omega arith
-
 loop-holds : tie.Need-loop-holds Inv-loop μ-loop
 loop-holds c =
     let start = c .before .before in
     none-passed (start .args .s .now) (start .args .at) (start .args .end) (c .sign-length .result) (start .args .sign)
     (c .sign-length .ensures) (start .pre .0) (start .pre .1)
-
-shared-slice-read-b : tie.Need-shared-slice-read-b Inv-loop μ-loop
-shared-slice-read-b c = omega arith
 
 returns : tie.Need-returns Inv-loop μ-loop
 returns c =
@@ -55,25 +46,10 @@ mul-digits c =
     let p = c .before .before .before .before .before .before .loop .inv in
     omega (arith, below-ten _ (p .nine) (p .small))
 
-cast-digits : tie.Need-cast-digits Inv-loop μ-loop
-cast-digits c = omega arith
-
 add-digits : tie.Need-add-digits Inv-loop μ-loop
 add-digits c =
     let p = c .before .before .before .before .before .before .loop .inv in
     omega (arith, below-ten _ (p .nine) (p .small))
-
-add-count : tie.Need-add-count Inv-loop μ-loop
-add-count c = omega arith
-
-add-decimals : tie.Need-add-decimals Inv-loop μ-loop
-add-decimals c = omega arith
-
-add-i-2 : tie.Need-add-i-2 Inv-loop μ-loop
-add-i-2 c = omega arith
-
-loop-less : tie.Need-loop-less Inv-loop μ-loop
-loop-less c = omega arith
 
 loop-again : tie.Need-loop-again Inv-loop μ-loop
 loop-again c =
@@ -111,23 +87,6 @@ returns-4 c = some-number (c .before .before .loop .inv) (none-more (c .before))
 pub read-figures-spec : {M : Type 1} → statement M
 read-figures-spec =
     tie.close
-    (tie.spec
-    Inv-loop
-    μ-loop
-    sign-length-requires
-    add-i
-    loop-holds
-    shared-slice-read-b
-    returns
-    returns-2
-    mul-digits
-    cast-digits
-    add-digits
-    add-count
-    add-decimals
-    add-i-2
-    loop-less
-    loop-again
-    returns-3
-    sub-t12
+    (tie.spec Inv-loop μ-loop (λ c κs. search needs) (λ c. omega arith) loop-holds (λ c. omega arith) returns returns-2 mul-digits
+    (λ c. omega arith) add-digits (λ c. omega arith) (λ c. omega arith) (λ c. omega arith) (λ c. omega arith) loop-again returns-3 sub-t12
     returns-4)

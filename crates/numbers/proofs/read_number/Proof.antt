@@ -9,12 +9,6 @@ use Rattle.numbers.proofs.read_number.Tie as tie
 returns : tie.Need-returns
 returns c = no-byte (c .before .before .args .s .now) (c .before .before .args .at) (c .before .before .args .end) (c .if1 .taken)
 
-shared-slice-read-sign-of : tie.Need-shared-slice-read-sign-of
-shared-slice-read-sign-of c = search needs
-
-sign-of-requires : tie.Need-sign-of-requires
-sign-of-requires c κs = search needs
-
 read-figures-requires : tie.Need-read-figures-requires
 read-figures-requires c κs = (omega (arith, sign-most (c .sign-of .result)), c .before .before .before .before .pre .1)
 
@@ -28,4 +22,4 @@ returns-2 c =
 pub read-number-spec : {M : Type 1} → statement M
 read-number-spec =
     tie.close
-    (tie.spec returns shared-slice-read-sign-of sign-of-requires read-figures-requires returns-2)
+    (tie.spec returns (λ c. search needs) (λ c κs. search needs) read-figures-requires returns-2)

@@ -9,9 +9,5 @@ pub sign-of-spec : {M : Type 1} → statement M
 unfolding signOf
 sign-of-spec =
     tie.close
-    (tie.spec
-    (λ c. rw (c .match .keys1))
-    (λ c. rw (c .match .keys2))
-    (λ c.
-    let other = c .match .rest in
-    rw (ne-eqb _ (byte "+") (other .0 .1), ne-eqb _ (byte "-") (other .1))))
+    (tie.spec (λ c. rw (c .match .keys1)) (λ c. rw (c .match .keys2))
+    (λ c. let other = c .match .rest in rw (ne-eqb _ (byte "+") (other .0 .1), ne-eqb _ (byte "-") (other .1))))

@@ -10,25 +10,10 @@ returns c =
     let a = c .before .before .before .args in
     no-room (a .path .now) (a .name .now) (omega arith)
 
-sub-if2 : tie.Need-sub-if2
-sub-if2 c = search needs
-
 returns-2 : tie.Need-returns-2
 returns-2 c =
     let a = c .before .before .before .before .args in
     no-room (a .path .now) (a .name .now) (omega arith)
-
-put-requires : tie.Need-put-requires
-put-requires c κs = search needs
-
-slice-aggregate-put : tie.Need-slice-aggregate-put
-slice-aggregate-put c = search needs
-
-put-requires-2 : tie.Need-put-requires-2
-put-requires-2 c κs = search needs
-
-same-length : tie.Need-same-length
-same-length c = search needs
 
 returns-3 : tie.Need-returns-3
 returns-3 c =
@@ -41,12 +26,5 @@ returns-3 c =
 pub part-name-spec : {M : Type 1} → statement M
 part-name-spec =
     tie.close
-    (tie.spec
-    returns
-    sub-if2
-    returns-2
-    put-requires
-    slice-aggregate-put
-    put-requires-2
-    same-length
+    (tie.spec returns (λ c. search needs) returns-2 (λ c κs. search needs) (λ c. search needs) (λ c κs. search needs) (λ c. search needs)
     returns-3)

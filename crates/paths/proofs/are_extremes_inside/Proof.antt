@@ -4,39 +4,6 @@ use Rattle.arcs.specs.Arcs.{extremesInside}
 use Rattle.paths.proofs.are_extremes_inside.Statement.{statement}
 use Rattle.paths.proofs.are_extremes_inside.Tie as tie
 
-zero-requires : tie.Need-zero-requires
-zero-requires c κs = search needs
-
-of-requires : tie.Need-of-requires
-of-requires c κs = search needs
-
-of-requires-2 : tie.Need-of-requires-2
-of-requires-2 c κs = search needs
-
-is-on-left-way-requires : tie.Need-is-on-left-way-requires
-is-on-left-way-requires c κs = search needs
-
-is-on-left-way-requires-2 : tie.Need-is-on-left-way-requires-2
-is-on-left-way-requires-2 c κs = search needs
-
-is-on-left-way-requires-3 : tie.Need-is-on-left-way-requires-3
-is-on-left-way-requires-3 c κs = search needs
-
-is-on-left-way-requires-4 : tie.Need-is-on-left-way-requires-4
-is-on-left-way-requires-4 c κs = search needs
-
-is-extreme-inside-requires : tie.Need-is-extreme-inside-requires
-is-extreme-inside-requires c κs = search needs
-
-is-extreme-inside-requires-2 : tie.Need-is-extreme-inside-requires-2
-is-extreme-inside-requires-2 c κs = search needs
-
-is-extreme-inside-requires-3 : tie.Need-is-extreme-inside-requires-3
-is-extreme-inside-requires-3 c κs = search needs
-
-is-extreme-inside-requires-4 : tie.Need-is-extreme-inside-requires-4
-is-extreme-inside-requires-4 c κs = search needs
-
 returns : tie.Need-returns
 unfolding extremesInside
 returns c =
@@ -56,16 +23,6 @@ returns c =
 pub are-extremes-inside-spec : {M : Type 1} → statement M
 are-extremes-inside-spec =
     tie.close
-    (tie.spec
-    zero-requires
-    of-requires
-    of-requires-2
-    is-on-left-way-requires
-    is-on-left-way-requires-2
-    is-on-left-way-requires-3
-    is-on-left-way-requires-4
-    is-extreme-inside-requires
-    is-extreme-inside-requires-2
-    is-extreme-inside-requires-3
-    is-extreme-inside-requires-4
-    returns)
+    (tie.spec (λ c κs. search needs) (λ c κs. search needs) (λ c κs. search needs) (λ c κs. search needs) (λ c κs. search needs)
+    (λ c κs. search needs) (λ c κs. search needs) (λ c κs. search needs) (λ c κs. search needs) (λ c κs. search needs)
+    (λ c κs. search needs) returns)

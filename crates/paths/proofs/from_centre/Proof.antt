@@ -5,12 +5,6 @@ use Rattle.arcs.specs.Turning.{direction}
 use Rattle.paths.proofs.from_centre.Statement.{statement}
 use Rattle.paths.proofs.from_centre.Tie as tie
 
-centre-of-requires : tie.Need-centre-of-requires
-centre-of-requires c κs = search needs
-
-in-plane-requires : tie.Need-in-plane-requires
-in-plane-requires c κs = search needs
-
 minus-requires : tie.Need-minus-requires
 minus-requires c κs = rw (c .in-plane .ensures, c .before .centre-of .ensures) (omega arith)
 
@@ -32,4 +26,4 @@ returns c =
 pub from-centre-spec : {M : Type 1} → statement M
 from-centre-spec =
     tie.close
-    (tie.spec centre-of-requires in-plane-requires minus-requires minus-requires-2 returns)
+    (tie.spec (λ c κs. search needs) (λ c κs. search needs) minus-requires minus-requires-2 returns)

@@ -6,16 +6,9 @@ use Rattle.arcs.specs.Arcs.{extremeInside}
 use Rattle.paths.proofs.is_extreme_inside.Statement.{statement}
 use Rattle.paths.proofs.is_extreme_inside.Tie as tie
 
-is-coordinate-inside-requires : tie.Need-is-coordinate-inside-requires
-is-coordinate-inside-requires c κs = search needs
-
-is-coordinate-inside-requires-2 : tie.Need-is-coordinate-inside-requires-2
-is-coordinate-inside-requires-2 c κs = search needs
-
 returns : tie.Need-returns
 unfolding extremeInside
 returns c = ap₂ _&&_ (c .before .is-coordinate-inside .ensures) (c .is-coordinate-inside2 .ensures)
 
 pub is-extreme-inside-spec : {M : Type 1} → statement M
-is-extreme-inside-spec =
-    tie.close (tie.spec is-coordinate-inside-requires is-coordinate-inside-requires-2 returns)
+is-extreme-inside-spec = tie.close (tie.spec (λ c κs. search needs) (λ c κs. search needs) returns)

@@ -5,16 +5,10 @@ use Rattle.arcs.proofs.Reach.{end-near}
 use Rattle.paths.proofs.left_arc_stays.Statement.{statement}
 use Rattle.paths.proofs.left_arc_stays.Tie as tie
 
-from-centre-requires : tie.Need-from-centre-requires
-from-centre-requires c κs = search needs
-
 from-centre-requires-2 : tie.Need-from-centre-requires-2
 from-centre-requires-2 c κs =
     let x = c .before .before in
     end-near (x .args .from) (x .args .a) (x .pre .bounds .centre) (x .pre .holds)
-
-way-stays-requires : tie.Need-way-stays-requires
-way-stays-requires c κs = search needs
 
 returns : tie.Need-returns
 unfolding arcStays leftWay
@@ -22,4 +16,5 @@ returns c = rw (c .way-stays .ensures, c .before .from-centre2 .ensures .is, c .
 
 pub left-arc-stays-spec : {M : Type 1} → statement M
 left-arc-stays-spec =
-    tie.close (tie.spec from-centre-requires from-centre-requires-2 way-stays-requires returns)
+    tie.close
+    (tie.spec (λ c κs. search needs) from-centre-requires-2 (λ c κs. search needs) returns)

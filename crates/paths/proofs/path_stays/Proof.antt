@@ -29,27 +29,9 @@ others t from SO h = refl
 others t from PA h = refl
 others t from EN h = refl
 
-enum-known-r : tie.Need-enum-known-r
-enum-known-r c = search needs
-
-is-inside-requires : tie.Need-is-inside-requires
-is-inside-requires c κs = search needs
-
-enum-known-r-2 : tie.Need-enum-known-r-2
-enum-known-r-2 c = search needs
-
-is-inside-requires-2 : tie.Need-is-inside-requires-2
-is-inside-requires-2 c κs = search needs
-
-enum-known-r-3 : tie.Need-enum-known-r-3
-enum-known-r-3 c = search needs
-
 right-arc-stays-requires : tie.Need-right-arc-stays-requires
 unfolding pathOf
 right-arc-stays-requires c κs = rw (c .before .r3 .given .1) at (c .before .before .before .pre)
-
-enum-known-r-4 : tie.Need-enum-known-r-4
-enum-known-r-4 c = search needs
 
 left-arc-stays-requires : tie.Need-left-arc-stays-requires
 unfolding pathOf
@@ -77,17 +59,5 @@ returns-5 c = sym (others (c .before .args .t) (c .before .args .from) (c .befor
 pub path-stays-spec : {M : Type 1} → statement M
 path-stays-spec =
     tie.close
-    (tie.spec
-    enum-known-r
-    is-inside-requires
-    enum-known-r-2
-    is-inside-requires-2
-    enum-known-r-3
-    right-arc-stays-requires
-    enum-known-r-4
-    left-arc-stays-requires
-    returns
-    returns-2
-    returns-3
-    returns-4
-    returns-5)
+    (tie.spec (λ c. search needs) (λ c κs. search needs) (λ c. search needs) (λ c κs. search needs) (λ c. search needs)
+    right-arc-stays-requires (λ c. search needs) left-arc-stays-requires returns returns-2 returns-3 returns-4 returns-5)

@@ -10,16 +10,11 @@ from-centre-requires c κs =
     let x = c .before in
     end-near (x .args .from) (x .args .a) (x .pre .bounds .centre) (x .pre .holds)
 
-from-centre-requires-2 : tie.Need-from-centre-requires-2
-from-centre-requires-2 c κs = search needs
-
-way-stays-requires : tie.Need-way-stays-requires
-way-stays-requires c κs = search needs
-
 returns : tie.Need-returns
 unfolding arcStays rightWay
 returns c = rw (c .way-stays .ensures, c .before .from-centre2 .ensures .is, c .before .before .from-centre .ensures .is)
 
 pub right-arc-stays-spec : {M : Type 1} → statement M
 right-arc-stays-spec =
-    tie.close (tie.spec from-centre-requires from-centre-requires-2 way-stays-requires returns)
+    tie.close
+    (tie.spec from-centre-requires (λ c κs. search needs) (λ c κs. search needs) returns)

@@ -7,21 +7,6 @@ use Rattle.arcs.proofs.Reach.{bounds-framed}
 use Rattle.paths.proofs.way_stays.Statement.{statement}
 use Rattle.paths.proofs.way_stays.Tie as tie
 
-in-plane-requires : tie.Need-in-plane-requires
-in-plane-requires c κs = search needs
-
-in-plane-requires-2 : tie.Need-in-plane-requires-2
-in-plane-requires-2 c κs = search needs
-
-is-inside-requires : tie.Need-is-inside-requires
-is-inside-requires c κs = search needs
-
-centre-of-requires : tie.Need-centre-of-requires
-centre-of-requires c κs = search needs
-
-squared-radius-requires : tie.Need-squared-radius-requires
-squared-radius-requires c κs = search needs
-
 are-extremes-inside-requires : tie.Need-are-extremes-inside-requires
 are-extremes-inside-requires c κs =
     let x = c .before .before .before .before .before .before in
@@ -41,11 +26,5 @@ returns c =
 pub way-stays-spec : {M : Type 1} → statement M
 way-stays-spec =
     tie.close
-    (tie.spec
-    in-plane-requires
-    in-plane-requires-2
-    is-inside-requires
-    centre-of-requires
-    squared-radius-requires
-    are-extremes-inside-requires
-    returns)
+    (tie.spec (λ c κs. search needs) (λ c κs. search needs) (λ c κs. search needs) (λ c κs. search needs) (λ c κs. search needs)
+    are-extremes-inside-requires returns)

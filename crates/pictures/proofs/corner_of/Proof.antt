@@ -4,18 +4,6 @@ use Rattle.pictures.specs.Picture.{cornerOf}
 use Rattle.pictures.proofs.corner_of.Statement.{statement}
 use Rattle.pictures.proofs.corner_of.Tie as tie
 
-of-count-requires : tie.Need-of-count-requires
-of-count-requires c κs = search needs
-
-minus-requires : tie.Need-minus-requires
-minus-requires c κs = search needs
-
-plus-requires : tie.Need-plus-requires
-plus-requires c κs = search needs
-
-negated-requires : tie.Need-negated-requires
-negated-requires c κs = search needs
-
 returns : tie.Need-returns
 unfolding cornerOf
 returns c =
@@ -23,4 +11,5 @@ returns c =
 
 pub corner-of-spec : {M : Type 1} → statement M
 corner-of-spec =
-    tie.close (tie.spec of-count-requires minus-requires plus-requires negated-requires returns)
+    tie.close
+    (tie.spec (λ c κs. search needs) (λ c κs. search needs) (λ c κs. search needs) (λ c κs. search needs) returns)

@@ -4,19 +4,12 @@ use Rattle.pictures.specs.Picture.{downOf}
 use Rattle.pictures.proofs.down_of.Statement.{statement}
 use Rattle.pictures.proofs.down_of.Tie as tie
 
-minus-requires : tie.Need-minus-requires
-minus-requires c κs = search needs
-
-of-count-requires : tie.Need-of-count-requires
-of-count-requires c κs = search needs
-
-plus-requires : tie.Need-plus-requires
-plus-requires c κs = search needs
-
 returns : tie.Need-returns
 unfolding downOf
 returns c =
     rw (c .plus .ensures .is, c .before .before .minus .ensures .is, c .before .of-count .ensures .is)
 
 pub down-of-spec : {M : Type 1} → statement M
-down-of-spec = tie.close (tie.spec minus-requires of-count-requires plus-requires returns)
+down-of-spec =
+    tie.close
+    (tie.spec (λ c κs. search needs) (λ c κs. search needs) (λ c κs. search needs) returns)

@@ -6,42 +6,21 @@ use Rattle.pictures.proofs.Drawing.{draws-bad, draws-faulty, draws-end,
 use Rattle.pictures.proofs.draw.Statement.{statement}
 use Rattle.pictures.proofs.draw.Tie as tie
 
-is-valid-requires : tie.Need-is-valid-requires
-is-valid-requires c κs = search needs
-
 returns : tie.Need-returns
 returns c =
     draws-bad (c .before .before .before .before .args .list .now) (c .before .before .before .before .args .s) (c .before .before .before .before .args .out .now) (sym (c .before .is-valid .ensures) ∙ not-true _ (c .if1 .taken))
-
-last-of-requires : tie.Need-last-of-requires
-last-of-requires c κs = search needs
-
-enum-told : tie.Need-enum-told
-enum-told c = search needs
 
 put-fitting-requires : tie.Need-put-fitting-requires
 put-fitting-requires c κs =
     (sym (c .before .before .before .before .before .is-valid .ensures) ∙ not-false _ (c .before .before .before .before .if1 .left))
 
-enum-told-2 : tie.Need-enum-told-2
-enum-told-2 c = search needs
-
 put-fitting-requires-2 : tie.Need-put-fitting-requires-2
 put-fitting-requires-2 c κs =
     (sym (c .before .before .before .before .before .is-valid .ensures) ∙ not-false _ (c .before .before .before .before .if1 .left))
 
-enum-known-end : tie.Need-enum-known-end
-enum-known-end c = search needs
-
-same-length : tie.Need-same-length
-same-length c = search needs
-
 returns-2 : tie.Need-returns-2
 returns-2 c =
     draws-next (c .before .before .before .before .before .before .before .before .before .before .before .args .list .now) (c .before .before .before .before .before .before .before .before .before .before .before .args .s) (sym (c .before .before .before .before .before .before .before .before .is-valid .ensures) ∙ not-false _ (c .before .before .before .before .before .before .before .if1 .left)) (sym (c .before .before .before .before .before .before .last-of .ensures) ∙ c .before .before .before .before .enum-told .given .1) (c .before .before .put-fitting .ensures .0) (c .before .before .put-fitting .ensures .1)
-
-same-length-2 : tie.Need-same-length-2
-same-length-2 c = search needs
 
 returns-3 : tie.Need-returns-3
 returns-3 c =
@@ -54,17 +33,5 @@ returns-4 c =
 pub draw-spec : {M : Type 1} → statement M
 draw-spec =
     tie.close
-    (tie.spec
-    is-valid-requires
-    returns
-    last-of-requires
-    enum-told
-    put-fitting-requires
-    enum-told-2
-    put-fitting-requires-2
-    enum-known-end
-    same-length
-    returns-2
-    same-length-2
-    returns-3
-    returns-4)
+    (tie.spec (λ c κs. search needs) returns (λ c κs. search needs) (λ c. search needs) put-fitting-requires (λ c. search needs)
+    put-fitting-requires-2 (λ c. search needs) (λ c. search needs) returns-2 (λ c. search needs) returns-3 returns-4)

@@ -5,24 +5,6 @@ use Rattle.pictures.specs.Picture.{gapOf}
 use Rattle.pictures.proofs.gap_of.Statement.{statement}
 use Rattle.pictures.proofs.gap_of.Tie as tie
 
-apart-requires : tie.Need-apart-requires
-apart-requires c κs = search needs
-
-apart-requires-2 : tie.Need-apart-requires-2
-apart-requires-2 c κs = search needs
-
-add-sides : tie.Need-add-sides
-add-sides c = search needs
-
-apart-requires-3 : tie.Need-apart-requires-3
-apart-requires-3 c κs = search needs
-
-add-sides-2 : tie.Need-add-sides-2
-add-sides-2 c = search needs
-
-add-result : tie.Need-add-result
-add-result c = search needs
-
 returns : tie.Need-returns
 unfolding gapOf
 returns c =
@@ -31,11 +13,5 @@ returns c =
 pub gap-of-spec : {M : Type 1} → statement M
 gap-of-spec =
     tie.close
-    (tie.spec
-    apart-requires
-    apart-requires-2
-    add-sides
-    apart-requires-3
-    add-sides-2
-    add-result
-    returns)
+    (tie.spec (λ c κs. search needs) (λ c κs. search needs) (λ c. search needs) (λ c κs. search needs) (λ c. search needs)
+    (λ c. search needs) returns)

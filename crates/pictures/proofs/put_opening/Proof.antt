@@ -6,42 +6,6 @@ use Rattle.pictures.specs.Picture.{opening}
 use Rattle.pictures.proofs.put_opening.Statement.{statement}
 use Rattle.pictures.proofs.put_opening.Tie as tie
 
-slice-aggregate-put-pair : tie.Need-slice-aggregate-put-pair
-slice-aggregate-put-pair c = search needs
-
-corner-of-requires : tie.Need-corner-of-requires
-corner-of-requires c κs = search needs
-
-put-pair-requires : tie.Need-put-pair-requires
-put-pair-requires c κs = search needs
-
-slice-aggregate-put-pair-2 : tie.Need-slice-aggregate-put-pair-2
-slice-aggregate-put-pair-2 c = search needs
-
-size-of-requires : tie.Need-size-of-requires
-size-of-requires c κs = search needs
-
-put-pair-requires-2 : tie.Need-put-pair-requires-2
-put-pair-requires-2 c κs = search needs
-
-slice-aggregate-put-text : tie.Need-slice-aggregate-put-text
-slice-aggregate-put-text c = search needs
-
-put-text-requires : tie.Need-put-text-requires
-put-text-requires c κs = search needs
-
-put-style-requires : tie.Need-put-style-requires
-put-style-requires c κs = search needs
-
-slice-aggregate-put-text-2 : tie.Need-slice-aggregate-put-text-2
-slice-aggregate-put-text-2 c = search needs
-
-put-text-requires-2 : tie.Need-put-text-requires-2
-put-text-requires-2 c κs = search needs
-
-same-length : tie.Need-same-length
-same-length c = search needs
-
 returns : tie.Need-returns
 unfolding opening
 returns c =
@@ -53,17 +17,6 @@ returns c =
 pub put-opening-spec : {M : Type 1} → statement M
 put-opening-spec =
     tie.close
-    (tie.spec
-    slice-aggregate-put-pair
-    corner-of-requires
-    put-pair-requires
-    slice-aggregate-put-pair-2
-    size-of-requires
-    put-pair-requires-2
-    slice-aggregate-put-text
-    put-text-requires
-    put-style-requires
-    slice-aggregate-put-text-2
-    put-text-requires-2
-    same-length
-    returns)
+    (tie.spec (λ c. search needs) (λ c κs. search needs) (λ c κs. search needs) (λ c. search needs) (λ c κs. search needs)
+    (λ c κs. search needs) (λ c. search needs) (λ c κs. search needs) (λ c κs. search needs) (λ c. search needs) (λ c κs. search needs)
+    (λ c. search needs) returns)

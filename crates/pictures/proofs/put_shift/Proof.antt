@@ -6,24 +6,6 @@ use Rattle.pictures.specs.Picture.{shift}
 use Rattle.pictures.proofs.put_shift.Statement.{statement}
 use Rattle.pictures.proofs.put_shift.Tie as tie
 
-slice-aggregate-put-named : tie.Need-slice-aggregate-put-named
-slice-aggregate-put-named c = search needs
-
-down-of-requires : tie.Need-down-of-requires
-down-of-requires c κs = search needs
-
-put-named-requires : tie.Need-put-named-requires
-put-named-requires c κs = search needs
-
-slice-aggregate-put-text : tie.Need-slice-aggregate-put-text
-slice-aggregate-put-text c = search needs
-
-put-text-requires : tie.Need-put-text-requires
-put-text-requires c κs = search needs
-
-same-length : tie.Need-same-length
-same-length c = search needs
-
 returns : tie.Need-returns
 unfolding shift
 returns c =
@@ -32,11 +14,5 @@ returns c =
 pub put-shift-spec : {M : Type 1} → statement M
 put-shift-spec =
     tie.close
-    (tie.spec
-    slice-aggregate-put-named
-    down-of-requires
-    put-named-requires
-    slice-aggregate-put-text
-    put-text-requires
-    same-length
-    returns)
+    (tie.spec (λ c. search needs) (λ c κs. search needs) (λ c κs. search needs) (λ c. search needs) (λ c κs. search needs)
+    (λ c. search needs) returns)

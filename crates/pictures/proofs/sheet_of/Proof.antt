@@ -6,15 +6,6 @@ use Rattle.pictures.specs.Picture.{sheetOf}
 use Rattle.pictures.proofs.sheet_of.Statement.{statement}
 use Rattle.pictures.proofs.sheet_of.Tie as tie
 
-point-of-requires : tie.Need-point-of-requires
-point-of-requires c κs = search needs
-
-point-of-requires-2 : tie.Need-point-of-requires-2
-point-of-requires-2 c κs = search needs
-
-point-of-requires-3 : tie.Need-point-of-requires-3
-point-of-requires-3 c κs = search needs
-
 gap-of-requires : tie.Need-gap-of-requires
 gap-of-requires c κs =
     rw (c .before .before .point-of .ensures, c .before .point-of2 .ensures) (valid-low (c .before .before .before .args .s) (c .before .before .before .pre), valid-high (c .before .before .before .args .s) (c .before .before .before .pre))
@@ -29,4 +20,4 @@ returns c =
 pub sheet-of-spec : {M : Type 1} → statement M
 sheet-of-spec =
     tie.close
-    (tie.spec point-of-requires point-of-requires-2 point-of-requires-3 gap-of-requires returns)
+    (tie.spec (λ c κs. search needs) (λ c κs. search needs) (λ c κs. search needs) gap-of-requires returns)

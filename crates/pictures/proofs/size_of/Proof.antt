@@ -5,27 +5,6 @@ use Rattle.pictures.specs.Picture.{sizeOf}
 use Rattle.pictures.proofs.size_of.Statement.{statement}
 use Rattle.pictures.proofs.size_of.Tie as tie
 
-mul-of-count : tie.Need-mul-of-count
-mul-of-count c = search needs
-
-of-count-requires : tie.Need-of-count-requires
-of-count-requires c κs = search needs
-
-mul-of-count-2 : tie.Need-mul-of-count-2
-mul-of-count-2 c = search needs
-
-of-count-requires-2 : tie.Need-of-count-requires-2
-of-count-requires-2 c κs = search needs
-
-minus-requires : tie.Need-minus-requires
-minus-requires c κs = search needs
-
-plus-requires : tie.Need-plus-requires
-plus-requires c κs = search needs
-
-minus-requires-2 : tie.Need-minus-requires-2
-minus-requires-2 c κs = search needs
-
 minus-requires-3 : tie.Need-minus-requires-3
 minus-requires-3 c κs =
     omega (arith, c .before .before .before .before .before .before .before .before .before .pre .low .z, c .before .before .before .before .before .before .before .before .before .pre .high .z)
@@ -46,15 +25,5 @@ returns c =
 pub size-of-spec : {M : Type 1} → statement M
 size-of-spec =
     tie.close
-    (tie.spec
-    mul-of-count
-    of-count-requires
-    mul-of-count-2
-    of-count-requires-2
-    minus-requires
-    plus-requires
-    minus-requires-2
-    minus-requires-3
-    plus-requires-2
-    plus-requires-3
-    returns)
+    (tie.spec (λ c. search needs) (λ c κs. search needs) (λ c. search needs) (λ c κs. search needs) (λ c κs. search needs)
+    (λ c κs. search needs) (λ c κs. search needs) minus-requires-3 plus-requires-2 plus-requires-3 returns)

@@ -7,23 +7,8 @@ use borrow.Author.Needs.{needs}
 use Rattle.plans.proofs.plan_count.Statement.{statement}
 use Rattle.plans.proofs.plan_count.Tie as tie
 
-enum-told : tie.Need-enum-told
-enum-told c = search needs
-
-enum-told-2 : tie.Need-enum-told-2
-enum-told-2 c = search needs
-
-enum-known-p : tie.Need-enum-known-p
-enum-known-p c = search needs
-
 pass-count-requires : tie.Need-pass-count-requires
 pass-count-requires c κs = rw (c .before .p .given .1) at (c .before .before .before .pre)
-
-passes-length-requires : tie.Need-passes-length-requires
-passes-length-requires c κs = search needs
-
-enum-told-3 : tie.Need-enum-told-3
-enum-told-3 c = search needs
 
 returns : tie.Need-returns
 returns c = rest-amount length (c .enum-told .given .1) refl
@@ -40,14 +25,5 @@ returns-4 c = impossible-amount length (c .enum-told3 .given .1) refl
 pub plan-count-spec : {M : Type 1} → statement M
 plan-count-spec =
     tie.close
-    (tie.spec
-    enum-told
-    enum-told-2
-    enum-known-p
-    pass-count-requires
-    passes-length-requires
-    enum-told-3
-    returns
-    returns-2
-    returns-3
-    returns-4)
+    (tie.spec (λ c. search needs) (λ c. search needs) (λ c. search needs) pass-count-requires (λ c κs. search needs) (λ c. search needs)
+    returns returns-2 returns-3 returns-4)

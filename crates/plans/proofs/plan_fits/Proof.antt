@@ -5,23 +5,8 @@ use borrow.Author.Needs.{needs}
 use Rattle.plans.proofs.plan_fits.Statement.{statement}
 use Rattle.plans.proofs.plan_fits.Tie as tie
 
-enum-told : tie.Need-enum-told
-enum-told c = search needs
-
-enum-known-p : tie.Need-enum-known-p
-enum-known-p c = search needs
-
 displaced-requires : tie.Need-displaced-requires
 displaced-requires c κs = (c .before .before .before .pre .0, rw (c .before .p .given .1) at (c .before .before .before .pre .1))
-
-centre-fits-requires : tie.Need-centre-fits-requires
-centre-fits-requires c κs = search needs
-
-enum-told-2 : tie.Need-enum-told-2
-enum-told-2 c = search needs
-
-enum-told-3 : tie.Need-enum-told-3
-enum-told-3 c = search needs
 
 returns : tie.Need-returns
 returns c = λ d origin from v. sym (rest-fits (c .before .before .args .offset) d origin from v (c .enum-told .given .1))
@@ -38,14 +23,5 @@ returns-4 c = λ d origin from v. sym (impossible-fits (c .before .before .args 
 pub plan-fits-spec : {M : Type 1} → statement M
 plan-fits-spec =
     tie.close
-    (tie.spec
-    enum-told
-    enum-known-p
-    displaced-requires
-    centre-fits-requires
-    enum-told-2
-    enum-told-3
-    returns
-    returns-2
-    returns-3
-    returns-4)
+    (tie.spec (λ c. search needs) (λ c. search needs) displaced-requires (λ c κs. search needs) (λ c. search needs) (λ c. search needs)
+    returns returns-2 returns-3 returns-4)

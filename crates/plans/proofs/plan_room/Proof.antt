@@ -7,26 +7,8 @@ use borrow.Author.Needs.{needs}
 use Rattle.plans.proofs.plan_room.Statement.{statement}
 use Rattle.plans.proofs.plan_room.Tie as tie
 
-enum-told : tie.Need-enum-told
-enum-told c = search needs
-
-enum-known-p : tie.Need-enum-known-p
-enum-known-p c = search needs
-
-room-requires : tie.Need-room-requires
-room-requires c κs = search needs
-
-enum-known-p-2 : tie.Need-enum-known-p-2
-enum-known-p-2 c = search needs
-
 pass-count-requires : tie.Need-pass-count-requires
 pass-count-requires c κs = rw (c .before .p2 .given .1) at (c .before .before .before .pre)
-
-passes-room-requires : tie.Need-passes-room-requires
-passes-room-requires c κs = search needs
-
-enum-told-2 : tie.Need-enum-told-2
-enum-told-2 c = search needs
 
 returns : tie.Need-returns
 unfolding roomOf
@@ -47,15 +29,5 @@ returns-4 c = impossible-amount roomOf (c .enum-told2 .given .1) refl
 pub plan-room-spec : {M : Type 1} → statement M
 plan-room-spec =
     tie.close
-    (tie.spec
-    enum-told
-    enum-known-p
-    room-requires
-    enum-known-p-2
-    pass-count-requires
-    passes-room-requires
-    enum-told-2
-    returns
-    returns-2
-    returns-3
-    returns-4)
+    (tie.spec (λ c. search needs) (λ c. search needs) (λ c κs. search needs) (λ c. search needs) pass-count-requires (λ c κs. search needs)
+    (λ c. search needs) returns returns-2 returns-3 returns-4)

@@ -6,23 +6,11 @@ use borrow.Author.Needs.{needs}
 use Rattle.plans.proofs.plan_way.Statement.{statement}
 use Rattle.plans.proofs.plan_way.Tie as tie
 
-enum-told : tie.Need-enum-told
-enum-told c = search needs
-
-enum-known-p : tie.Need-enum-known-p
-enum-known-p c = search needs
-
 record-way-requires : tie.Need-record-way-requires
 record-way-requires c κs = rw (c .before .p .given .1) at (c .before .before .before .pre)
 
-enum-known-p-2 : tie.Need-enum-known-p-2
-enum-known-p-2 c = search needs
-
 passes-way-requires : tie.Need-passes-way-requires
 passes-way-requires c κs = rw (c .before .p2 .given .1) at (c .before .before .before .pre)
-
-enum-told-2 : tie.Need-enum-told-2
-enum-told-2 c = search needs
 
 returns : tie.Need-returns
 unfolding planRecords wayOf endOf pathStaysIn
@@ -43,14 +31,5 @@ returns-4 c = rw (c .enum-told2 .given .1)
 pub plan-way-spec : {M : Type 1} → statement M
 plan-way-spec =
     tie.close
-    (tie.spec
-    enum-told
-    enum-known-p
-    record-way-requires
-    enum-known-p-2
-    passes-way-requires
-    enum-told-2
-    returns
-    returns-2
-    returns-3
-    returns-4)
+    (tie.spec (λ c. search needs) (λ c. search needs) record-way-requires (λ c. search needs) passes-way-requires (λ c. search needs)
+    returns returns-2 returns-3 returns-4)

@@ -5,16 +5,10 @@ use borrow.Author.Needs.{needs}
 use Rattle.plans.proofs.put_brief.Statement.{statement}
 use Rattle.plans.proofs.put_brief.Tie as tie
 
-enum-known-p : tie.Need-enum-known-p
-enum-known-p c = search needs
-
 put-record-requires : tie.Need-put-record-requires
 put-record-requires c κs =
     let s = c .before .before .before .before .before in
     ready-as (s .args .offset) (brief-single (c .before .before .p .given .1)) (s .pre)
-
-same-length : tie.Need-same-length
-same-length c = search needs
 
 returns : tie.Need-returns
 returns c =
@@ -29,4 +23,5 @@ returns-2 c =
 
 pub put-brief-spec : {M : Type 1} → statement M
 put-brief-spec =
-    tie.close (tie.spec enum-known-p put-record-requires same-length returns returns-2)
+    tie.close
+    (tie.spec (λ c. search needs) put-record-requires (λ c. search needs) returns returns-2)

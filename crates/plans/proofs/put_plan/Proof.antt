@@ -5,20 +5,11 @@ use borrow.Author.Needs.{needs}
 use Rattle.plans.proofs.put_plan.Statement.{statement}
 use Rattle.plans.proofs.put_plan.Tie as tie
 
-enum-told : tie.Need-enum-told
-enum-told c = search needs
-
-enum-known-p : tie.Need-enum-known-p
-enum-known-p c = search needs
-
 put-record-requires : tie.Need-put-record-requires
 put-record-requires c κs =
     let s = c .before .before .before .before .before in
     let a = s .args in
     ready-as (a .offset) (records-single (a .d) (a .origin) (a .from) (a .v) (c .before .before .p .given .1)) (s .pre .0)
-
-enum-known-p-2 : tie.Need-enum-known-p-2
-enum-known-p-2 c = search needs
 
 put-passes-requires : tie.Need-put-passes-requires
 put-passes-requires c κs =
@@ -27,25 +18,16 @@ put-passes-requires c κs =
     let e = c .before .before .p2 .given .1 in
     (ready-as (a .offset) (records-passes (a .d) (a .origin) (a .from) (a .v) e) (s .pre .0) .room, rw e at (s .pre .1))
 
-enum-told-2 : tie.Need-enum-told-2
-enum-told-2 c = search needs
-
 returns : tie.Need-returns
 returns c =
     let a = c .before .before .before .args in
     put-as (a .offset) (records-rest (a .d) (a .origin) (a .from) (a .v) (c .enum-told .given .1)) (put-none (a .offset) _ (a .at))
-
-same-length : tie.Need-same-length
-same-length c = search needs
 
 returns-2 : tie.Need-returns-2
 returns-2 c =
     let put = c .before .before in
     let a = c .before .before .before .before .before .before .before .before .args in
     put-as (a .offset) (records-single (a .d) (a .origin) (a .from) (a .v) (put .before .before .before .p .given .1)) (put .put-record .ensures)
-
-same-length-2 : tie.Need-same-length-2
-same-length-2 c = search needs
 
 returns-3 : tie.Need-returns-3
 returns-3 c =
@@ -61,16 +43,5 @@ returns-4 c =
 pub put-plan-spec : {M : Type 1} → statement M
 put-plan-spec =
     tie.close
-    (tie.spec
-    enum-told
-    enum-known-p
-    put-record-requires
-    enum-known-p-2
-    put-passes-requires
-    enum-told-2
-    returns
-    same-length
-    returns-2
-    same-length-2
-    returns-3
-    returns-4)
+    (tie.spec (λ c. search needs) (λ c. search needs) put-record-requires (λ c. search needs) put-passes-requires (λ c. search needs)
+    returns (λ c. search needs) returns-2 (λ c. search needs) returns-3 returns-4)

@@ -12,9 +12,6 @@ put-requires c κs =
     let s = c .before .before .before in
     one-fits (s .args .offset) (s .args .r) (c .displaced .ensures) (s .pre)
 
-same-length : tie.Need-same-length
-same-length c = search needs
-
 returns : tie.Need-returns
 returns c =
     let put = c .before .before in
@@ -22,4 +19,4 @@ returns c =
     one-put (c .before .before .before .before .before .before .args .offset) (c .before .before .before .before .before .before .args .r) (d .displaced .ensures) (put .put .ensures)
 
 pub put-record-spec : {M : Type 1} → statement M
-put-record-spec = tie.close (tie.spec displaced-requires put-requires same-length returns)
+put-record-spec = tie.close (tie.spec displaced-requires put-requires (λ c. search needs) returns)

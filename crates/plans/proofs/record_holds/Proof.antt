@@ -27,15 +27,9 @@ others from SO h = refl
 others from PA h = refl
 others from EN h = refl
 
-enum-known-r : tie.Need-enum-known-r
-enum-known-r c = search needs
-
 arc-holds-requires : tie.Need-arc-holds-requires
 unfolding pathOf
 arc-holds-requires c κs = rw (c .before .r .given .1) at (c .before .before .before .pre)
-
-enum-known-r-2 : tie.Need-enum-known-r-2
-enum-known-r-2 c = search needs
 
 arc-holds-requires-2 : tie.Need-arc-holds-requires-2
 unfolding pathOf
@@ -55,11 +49,4 @@ returns-3 c = sym (others (c .before .args .from) (c .before .args .r) (c .match
 pub record-holds-spec : {M : Type 1} → statement M
 record-holds-spec =
     tie.close
-    (tie.spec
-    enum-known-r
-    arc-holds-requires
-    enum-known-r-2
-    arc-holds-requires-2
-    returns
-    returns-2
-    returns-3)
+    (tie.spec (λ c. search needs) arc-holds-requires (λ c. search needs) arc-holds-requires-2 returns returns-2 returns-3)

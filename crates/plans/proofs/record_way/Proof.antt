@@ -5,12 +5,6 @@ use borrow.Author.Needs.{needs}
 use Rattle.plans.proofs.record_way.Statement.{statement}
 use Rattle.plans.proofs.record_way.Tie as tie
 
-path-stays-requires : tie.Need-path-stays-requires
-path-stays-requires c κs = search needs
-
-path-end-requires : tie.Need-path-end-requires
-path-end-requires c κs = search needs
-
 returns : tie.Need-returns
 returns c = ends-one (c .before .before .before .args .t) (c .before .before .before .args .from) (c .before .before .before .args .r) (sym (c .before .before .path-stays .ensures) ∙ c .before .if1 .taken) (c .path-end .ensures)
 
@@ -18,4 +12,6 @@ returns-2 : tie.Need-returns-2
 returns-2 c = leaves-one (c .before .before .args .t) (c .before .before .args .from) (c .before .before .args .r) (sym (c .before .path-stays .ensures) ∙ c .if1 .left)
 
 pub record-way-spec : {M : Type 1} → statement M
-record-way-spec = tie.close (tie.spec path-stays-requires path-end-requires returns returns-2)
+record-way-spec =
+    tie.close
+    (tie.spec (λ c κs. search needs) (λ c κs. search needs) returns returns-2)

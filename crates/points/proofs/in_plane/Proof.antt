@@ -4,15 +4,6 @@ use Rattle.points.specs.Points.{flat}
 use Rattle.points.proofs.in_plane.Statement.{statement}
 use Rattle.points.proofs.in_plane.Tie as tie
 
-enum-told : tie.Need-enum-told
-enum-told c = search needs
-
-enum-told-2 : tie.Need-enum-told-2
-enum-told-2 c = search needs
-
-enum-told-3 : tie.Need-enum-told-3
-enum-told-3 c = search needs
-
 returns : tie.Need-returns
 unfolding flat
 returns c = rw (c .enum-told .given .1)
@@ -26,4 +17,6 @@ unfolding flat
 returns-3 c = rw (c .enum-told3 .given .1)
 
 pub in-plane-spec : {M : Type 1} → statement M
-in-plane-spec = tie.close (tie.spec enum-told enum-told-2 enum-told-3 returns returns-2 returns-3)
+in-plane-spec =
+    tie.close
+    (tie.spec (λ c. search needs) (λ c. search needs) (λ c. search needs) returns returns-2 returns-3)

@@ -4,18 +4,11 @@ use Rattle.points.specs.Points.{moved}
 use Rattle.points.proofs.moved.Statement.{statement}
 use Rattle.points.proofs.moved.Tie as tie
 
-plus-requires : tie.Need-plus-requires
-plus-requires c κs = search needs
-
-plus-requires-2 : tie.Need-plus-requires-2
-plus-requires-2 c κs = search needs
-
-plus-requires-3 : tie.Need-plus-requires-3
-plus-requires-3 c κs = search needs
-
 returns : tie.Need-returns
 unfolding moved
 returns c = record { is = rw (c .before .before .plus .ensures .is, c .before .plus2 .ensures .is, c .plus3 .ensures .is); x = c .before .before .plus .ensures; y = c .before .plus2 .ensures; z = c .plus3 .ensures }
 
 pub moved-spec : {M : Type 1} → statement M
-moved-spec = tie.close (tie.spec plus-requires plus-requires-2 plus-requires-3 returns)
+moved-spec =
+    tie.close
+    (tie.spec (λ c κs. search needs) (λ c κs. search needs) (λ c κs. search needs) returns)

@@ -5,18 +5,9 @@ use borrow.Author.Needs.{needs}
 use Rattle.programs.proofs.entry_of.Statement.{statement}
 use Rattle.programs.proofs.entry_of.Tie as tie
 
-enum-known-o : tie.Need-enum-known-o
-enum-known-o c = search needs
-
-enum-told : tie.Need-enum-told
-enum-told c = search needs
-
 returns : tie.Need-returns
 unfolding entryOf
 returns c = rw (c .enum-told .given .1)
-
-is-taken-requires : tie.Need-is-taken-requires
-is-taken-requires c κs = search needs
 
 returns-2 : tie.Need-returns-2
 returns-2 c =
@@ -41,4 +32,4 @@ returns-4 c =
 pub entry-of-spec : {M : Type 1} → statement M
 entry-of-spec =
     tie.close
-    (tie.spec enum-known-o enum-told returns is-taken-requires returns-2 returns-3 returns-4)
+    (tie.spec (λ c. search needs) (λ c. search needs) returns (λ c κs. search needs) returns-2 returns-3 returns-4)

@@ -18,12 +18,6 @@ returns c = let a = c .before .before .before .args in sym (taken-main (a .t .ma
 loop-holds : tie.Need-loop-holds Inv-loop μ-loop
 loop-holds c = let a = c .before .before .before .before in (omega arith, a .pre .used, search-start (a .args .n) (a .args .t .subs) (a .args .t .count) (omega arith))
 
-mul-p : tie.Need-mul-p Inv-loop μ-loop
-mul-p c = omega arith
-
-array-copy-out-p : tie.Need-array-copy-out-p Inv-loop μ-loop
-array-copy-out-p c = omega arith
-
 returns-2 : tie.Need-returns-2 Inv-loop μ-loop
 returns-2 c =
     let d = c .before .before .before .before in
@@ -31,12 +25,6 @@ returns-2 c =
     sym
     (taken-rest (a .t .main) (subsOf (a .t)) (a .n) (d .before .before .if1 .left)
     ∙ search-found (a .n) (a .t .subs) (a .t .count) (d .loop .i) _ (d .loop .inv .2) (omega arith) (c .if2 .taken))
-
-add-i : tie.Need-add-i Inv-loop μ-loop
-add-i c = omega arith
-
-loop-less : tie.Need-loop-less Inv-loop μ-loop
-loop-less c = omega arith
 
 loop-again : tie.Need-loop-again Inv-loop μ-loop
 loop-again c =
@@ -55,15 +43,5 @@ returns-3 c =
 pub is-taken-spec : {M : Type 1} → statement M
 is-taken-spec =
     tie.close
-    (tie.spec
-    Inv-loop
-    μ-loop
-    returns
-    loop-holds
-    mul-p
-    array-copy-out-p
-    returns-2
-    add-i
-    loop-less
-    loop-again
-    returns-3)
+    (tie.spec Inv-loop μ-loop returns loop-holds (λ c. omega arith) (λ c. omega arith) returns-2 (λ c. omega arith) (λ c. omega arith)
+    loop-again returns-3)

@@ -14,9 +14,6 @@ abbrev μ-loop : tie.MeasureT-loop
 loop-holds : tie.Need-loop-holds Inv-loop μ-loop
 loop-holds c = none-passed (c .args .s .now) (c .args .at) (c .pre)
 
-shared-slice-read-b : tie.Need-shared-slice-read-b Inv-loop μ-loop
-shared-slice-read-b c = omega arith
-
 returns : tie.Need-returns Inv-loop μ-loop
 returns c =
     let d = c .before .before .before .before .before in
@@ -29,20 +26,11 @@ returns c =
 mul-value : tie.Need-mul-value Inv-loop μ-loop
 mul-value c = let p = c .before .before .before .before .before .loop .inv in omega (arith, at-most-eight (c .before .before .before .before .before .loop .count) (p .few) (p .small))
 
-cast-value : tie.Need-cast-value Inv-loop μ-loop
-cast-value c = omega arith
-
 add-value : tie.Need-add-value Inv-loop μ-loop
 add-value c = let p = c .before .before .before .before .before .loop .inv in omega (arith, at-most-eight (c .before .before .before .before .before .loop .count) (p .few) (p .small))
 
 add-count : tie.Need-add-count Inv-loop μ-loop
 add-count c = omega (arith, c .before .before .before .before .before .loop .inv .few)
-
-add-i : tie.Need-add-i Inv-loop μ-loop
-add-i c = omega arith
-
-loop-less : tie.Need-loop-less Inv-loop μ-loop
-loop-less c = omega arith
 
 loop-again : tie.Need-loop-again Inv-loop μ-loop
 loop-again c = one-passed (c .before .before .before .before .before .loop .inv) (omega arith) (c .before .before .if1 .left) (c .before .if2 .left) (c .if3 .left)
@@ -59,19 +47,5 @@ returns-4 c = let p = c .before .before .before .before .loop .inv in all-passed
 pub read-digits-spec : {M : Type 1} → statement M
 read-digits-spec =
     tie.close
-    (tie.spec
-    Inv-loop
-    μ-loop
-    loop-holds
-    shared-slice-read-b
-    returns
-    mul-value
-    cast-value
-    add-value
-    add-count
-    add-i
-    loop-less
-    loop-again
-    returns-2
-    returns-3
-    returns-4)
+    (tie.spec Inv-loop μ-loop loop-holds (λ c. omega arith) returns mul-value (λ c. omega arith) add-value add-count (λ c. omega arith)
+    (λ c. omega arith) loop-again returns-2 returns-3 returns-4)

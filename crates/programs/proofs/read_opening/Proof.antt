@@ -6,9 +6,6 @@ use borrow.Author.Needs.{needs}
 use Rattle.programs.proofs.read_opening.Statement.{statement}
 use Rattle.programs.proofs.read_opening.Tie as tie
 
-read-digits-requires : tie.Need-read-digits-requires
-read-digits-requires c κs = search needs
-
 returns : tie.Need-returns
 returns c = sym (opening-few (c .before .before .read-digits .ensures) (c .if1 .taken))
 
@@ -20,9 +17,6 @@ returns-3 c = sym (opening-zero (c .before .before .before .before .before .befo
 
 returns-4 : tie.Need-returns-4
 returns-4 c = sym (opening-large (c .before .before .before .before .before .before .before .before .read-digits .ensures) (c .before .before .before .before .before .before .if1 .left) (c .before .before .before .before .if2 .left) (c .if4 .taken))
-
-add-only-gaps : tie.Need-add-only-gaps
-add-only-gaps c = search needs
 
 only-gaps-requires : tie.Need-only-gaps-requires
 only-gaps-requires c κs =
@@ -52,13 +46,4 @@ returns-6 c =
 pub read-opening-spec : {M : Type 1} → statement M
 read-opening-spec =
     tie.close
-    (tie.spec
-    read-digits-requires
-    returns
-    returns-2
-    returns-3
-    returns-4
-    add-only-gaps
-    only-gaps-requires
-    returns-5
-    returns-6)
+    (tie.spec (λ c κs. search needs) returns returns-2 returns-3 returns-4 (λ c. search needs) only-gaps-requires returns-5 returns-6)

@@ -9,8 +9,5 @@ pub is-spent-spec : {M : Type 1} → statement M
 unfolding isSpent
 is-spent-spec =
     tie.close
-    (tie.spec
-    (λ c. search needs)
-    (λ c. search needs)
-    (λ c. sym (ap isSpent (c .enum-told .given .1)))
+    (tie.spec (λ c. search needs) (λ c. search needs) (λ c. sym (ap isSpent (c .enum-told .given .1)))
     (λ c. sym (ap isSpent (c .before .budget .given .1))))

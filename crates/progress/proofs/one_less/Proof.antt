@@ -17,9 +17,5 @@ pub one-less-spec : {M : Type 1} → statement M
 unfolding oneLess
 one-less-spec =
     tie.close
-    (tie.spec
-    (λ c. search needs)
-    (λ c. search needs)
-    sub-t4
-    (λ c. sym (ap oneLess (c .enum-told .given .1)))
+    (tie.spec (λ c. search needs) (λ c. search needs) sub-t4 (λ c. sym (ap oneLess (c .enum-told .given .1)))
     (λ c. sym (ap oneLess (c .before .b .given .1))))

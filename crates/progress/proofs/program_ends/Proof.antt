@@ -9,16 +9,10 @@ use Rattle.progress.proofs.program_ends.Tie as tie
 returns : tie.Need-returns
 returns c = sym (ends-past (c .before .before .args .s .now) (c .before .before .args .at) (omega arith))
 
-begins-with-requires : tie.Need-begins-with-requires
-begins-with-requires c κs = search needs
-
 returns-2 : tie.Need-returns-2
 returns-2 c =
     let a = c .before .before .before .before .args in
     sym (ends-opening (a .s .now) (a .at) (omega arith) (sym (c .before .begins-with .ensures) ∙ c .if2 .taken))
-
-is-percent-requires : tie.Need-is-percent-requires
-is-percent-requires c κs = search needs
 
 returns-3 : tie.Need-returns-3
 returns-3 c =
@@ -28,4 +22,5 @@ returns-3 c =
 
 pub program-ends-spec : {M : Type 1} → statement M
 program-ends-spec =
-    tie.close (tie.spec returns begins-with-requires returns-2 is-percent-requires returns-3)
+    tie.close
+    (tie.spec returns (λ c κs. search needs) returns-2 (λ c κs. search needs) returns-3)

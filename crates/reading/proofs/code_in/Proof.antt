@@ -4,12 +4,6 @@ use borrow.Author.Needs.{needs}
 use Rattle.reading.proofs.code_in.Statement.{statement}
 use Rattle.reading.proofs.code_in.Tie as tie
 
-is-plain-requires : tie.Need-is-plain-requires
-is-plain-requires c κs = search needs
-
-code-of-requires : tie.Need-code-of-requires
-code-of-requires c κs = search needs
-
 returns : tie.Need-returns
 unfolding codeIn
 returns c = rw (sym (c .before .before .is-plain .ensures) ∙ c .before .if1 .taken) (c .code-of .ensures)
@@ -19,4 +13,4 @@ unfolding codeIn
 returns-2 c = rw (sym (c .before .is-plain .ensures) ∙ c .if1 .left)
 
 pub code-in-spec : {M : Type 1} → statement M
-code-in-spec = tie.close (tie.spec is-plain-requires code-of-requires returns returns-2)
+code-in-spec = tie.close (tie.spec (λ c κs. search needs) (λ c κs. search needs) returns returns-2)

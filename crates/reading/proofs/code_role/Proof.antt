@@ -5,12 +5,6 @@ use Rattle.reading.proofs.Seeing.{toldG, tells-code}
 use Rattle.reading.proofs.code_role.Statement.{statement}
 use Rattle.reading.proofs.code_role.Tie as tie
 
-code-in-requires : tie.Need-code-in-requires
-code-in-requires c κs = search needs
-
-is-bad-code-requires : tie.Need-is-bad-code-requires
-is-bad-code-requires c κs = search needs
-
 returns : tie.Need-returns
 returns c main stood after =
     let d = c .before .before .before in
@@ -31,4 +25,6 @@ returns-2 c main stood after =
     }
 
 pub code-role-spec : {M : Type 1} → statement M
-code-role-spec = tie.close (tie.spec code-in-requires is-bad-code-requires returns returns-2)
+code-role-spec =
+    tie.close
+    (tie.spec (λ c κs. search needs) (λ c κs. search needs) returns returns-2)

@@ -7,9 +7,6 @@ use borrow.Author.Needs.{needs}
 use Rattle.reading.proofs.is_bad_code.Statement.{statement}
 use Rattle.reading.proofs.is_bad_code.Tie as tie
 
-group-of-requires : tie.Need-group-of-requires
-group-of-requires c κs = search needs
-
 returns : tie.Need-returns
 returns c =
     let a = c .before .before .args in
@@ -27,12 +24,6 @@ returns-2 c =
           (ap (λ (g : ℕ). getD (c .before .before .before .args .t1) g false) (sym (c .before .before .group-of .ensures)) ∙ c .if2 .taken);
     }
 
-stands-alone-requires : tie.Need-stands-alone-requires
-stands-alone-requires c κs = search needs
-
-array-read-result : tie.Need-array-read-result
-array-read-result c = search needs
-
 returns-3 : tie.Need-returns-3
 returns-3 c =
     let a = c .before .before .before .before .before .args in
@@ -42,9 +33,6 @@ returns-3 c =
           told-one done (a .t1) (a .m) s (a .c) _ (c .before .stands-alone .ensures)
           (ap (λ (g : ℕ). getD (c .before .before .before .before .before .args .t1) g false) (sym is) ∙ c .before .before .if2 .left) (sym is ∙ c .if3 .taken);
     }
-
-array-read-result-2 : tie.Need-array-read-result-2
-array-read-result-2 c = search needs
 
 returns-4 : tie.Need-returns-4
 returns-4 c =
@@ -70,14 +58,5 @@ returns-5 c =
 pub is-bad-code-spec : {M : Type 1} → statement M
 is-bad-code-spec =
     tie.close
-    (tie.spec
-    group-of-requires
-    returns
-    array-read-if2
-    returns-2
-    stands-alone-requires
-    array-read-result
-    returns-3
-    array-read-result-2
-    returns-4
-    returns-5)
+    (tie.spec (λ c κs. search needs) returns array-read-if2 returns-2 (λ c κs. search needs) (λ c. search needs) returns-3
+    (λ c. search needs) returns-4 returns-5)

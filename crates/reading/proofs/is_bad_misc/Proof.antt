@@ -3,15 +3,6 @@ use borrow.Author.Needs.{needs}
 use Rattle.reading.proofs.is_bad_misc.Statement.{statement}
 use Rattle.reading.proofs.is_bad_misc.Tie as tie
 
-misc-number-requires : tie.Need-misc-number-requires
-misc-number-requires c κs = search needs
-
-is-wrong-program-requires : tie.Need-is-wrong-program-requires
-is-wrong-program-requires c κs = search needs
-
-stands-alone-requires : tie.Need-stands-alone-requires
-stands-alone-requires c κs = search needs
-
 returns : tie.Need-returns
 unfolding isM
 returns c = rw (c .before .before .misc-number .ensures, c .before .is-wrong-program .ensures, c .stands-alone .ensures)
@@ -19,4 +10,4 @@ returns c = rw (c .before .before .misc-number .ensures, c .before .is-wrong-pro
 pub is-bad-misc-spec : {M : Type 1} → statement M
 is-bad-misc-spec =
     tie.close
-    (tie.spec misc-number-requires is-wrong-program-requires stands-alone-requires returns)
+    (tie.spec (λ c κs. search needs) (λ c κs. search needs) (λ c κs. search needs) returns)

@@ -8,9 +8,6 @@ use borrow.Author.Needs.{needs}
 use Rattle.reading.proofs.is_wrong_program.Statement.{statement}
 use Rattle.reading.proofs.is_wrong_program.Tie as tie
 
-misc-number-requires : tie.Need-misc-number-requires
-misc-number-requires c κs = search needs
-
 returns : tie.Need-returns
 unfolding wrongProgram isM
 returns c = rw (c .if1 .taken) (ap (λ (n : ℕ). eqb n 99) (c .before .misc-number .ensures))
@@ -20,4 +17,4 @@ unfolding wrongProgram isM
 returns-2 c = rw (c .if1 .left) (ap (λ (n : ℕ). eqb n 2 || eqb n 30) (c .before .misc-number .ensures))
 
 pub is-wrong-program-spec : {M : Type 1} → statement M
-is-wrong-program-spec = tie.close (tie.spec misc-number-requires returns returns-2)
+is-wrong-program-spec = tie.close (tie.spec (λ c κs. search needs) returns returns-2)

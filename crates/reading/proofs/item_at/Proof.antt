@@ -6,26 +6,11 @@ use borrow.Author.Needs.{needs}
 use Rattle.reading.proofs.item_at.Statement.{statement}
 use Rattle.reading.proofs.item_at.Tie as tie
 
-shared-slice-read-b : tie.Need-shared-slice-read-b
-shared-slice-read-b c = search needs
-
-add-next : tie.Need-add-next
-add-next c = search needs
-
 returns : tie.Need-returns
 returns c = let a = c .before .before .before .args in sym (placed-blank (a .s .now) (a .i) (blank-space _ (c .if1 .taken)))
 
 returns-2 : tie.Need-returns-2
 returns-2 c = let a = c .before .before .before .before .args in sym (placed-blank (a .s .now) (a .i) (blank-tab _ (c .if2 .taken)))
-
-comment-end-requires : tie.Need-comment-end-requires
-comment-end-requires c κs = search needs
-
-enum-known-after : tie.Need-enum-known-after
-enum-known-after c = search needs
-
-enum-told : tie.Need-enum-told
-enum-told c = search needs
 
 returns-3 : tie.Need-returns-3
 returns-3 c =
@@ -44,15 +29,6 @@ returns-5 c = let a = c .before .before .before .before .before .before .args in
 
 returns-6 : tie.Need-returns-6
 returns-6 c = let a = c .before .before .before .before .before .before .before .args in sym (placed-other (a .s .now) (a .i) (blank-not _ (c .before .before .before .before .if1 .left) (c .before .before .before .if2 .left)) (c .before .before .if3 .left) (capital-high _ (c .if5 .taken)))
-
-read-number-requires : tie.Need-read-number-requires
-read-number-requires c κs = search needs
-
-enum-known-number : tie.Need-enum-known-number
-enum-known-number c = search needs
-
-enum-told-2 : tie.Need-enum-told-2
-enum-told-2 c = search needs
 
 returns-7 : tie.Need-returns-7
 returns-7 c =
@@ -80,21 +56,5 @@ returns-8 c =
 pub item-at-spec : {M : Type 1} → statement M
 item-at-spec =
     tie.close
-    (tie.spec
-    shared-slice-read-b
-    add-next
-    returns
-    returns-2
-    comment-end-requires
-    enum-known-after
-    enum-told
-    returns-3
-    returns-4
-    returns-5
-    returns-6
-    read-number-requires
-    enum-known-number
-    enum-told-2
-    returns-7
-    add-t17
-    returns-8)
+    (tie.spec (λ c. search needs) (λ c. search needs) returns returns-2 (λ c κs. search needs) (λ c. search needs) (λ c. search needs)
+    returns-3 returns-4 returns-5 returns-6 (λ c κs. search needs) (λ c. search needs) (λ c. search needs) returns-7 add-t17 returns-8)

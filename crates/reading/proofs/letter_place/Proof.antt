@@ -6,11 +6,5 @@ use Rattle.reading.proofs.letter_place.Tie as tie
 sub-result : tie.Need-sub-result
 sub-result c = from-a (c .args .b) (c .pre)
 
-cast-result : tie.Need-cast-result
-cast-result c = search needs
-
-returns : tie.Need-returns
-returns c = search needs
-
 pub letter-place-spec : {M : Type 1} → statement M
-letter-place-spec = tie.close (tie.spec sub-result cast-result returns)
+letter-place-spec = tie.close (tie.spec sub-result (λ c. search needs) (λ c. search needs))

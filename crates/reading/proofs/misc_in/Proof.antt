@@ -4,12 +4,6 @@ use borrow.Author.Needs.{needs}
 use Rattle.reading.proofs.misc_in.Statement.{statement}
 use Rattle.reading.proofs.misc_in.Tie as tie
 
-is-plain-requires : tie.Need-is-plain-requires
-is-plain-requires c κs = search needs
-
-misc-of-requires : tie.Need-misc-of-requires
-misc-of-requires c κs = search needs
-
 returns : tie.Need-returns
 unfolding miscIn
 returns c = rw (sym (c .before .before .is-plain .ensures) ∙ c .before .if1 .taken) (c .misc-of .ensures)
@@ -19,4 +13,4 @@ unfolding miscIn
 returns-2 c = rw (sym (c .before .is-plain .ensures) ∙ c .if1 .left)
 
 pub misc-in-spec : {M : Type 1} → statement M
-misc-in-spec = tie.close (tie.spec is-plain-requires misc-of-requires returns returns-2)
+misc-in-spec = tie.close (tie.spec (λ c κs. search needs) (λ c κs. search needs) returns returns-2)

@@ -6,12 +6,6 @@ use Rattle.reading.proofs.Seeing.{tells-misc-code}
 use Rattle.reading.proofs.misc_role.Statement.{statement}
 use Rattle.reading.proofs.misc_role.Tie as tie
 
-misc-in-requires : tie.Need-misc-in-requires
-misc-in-requires c κs = search needs
-
-is-bad-misc-requires : tie.Need-is-bad-misc-requires
-is-bad-misc-requires c κs = search needs
-
 returns : tie.Need-returns
 returns c groups m =
     let d = c .before .before .before in
@@ -34,4 +28,6 @@ returns-2 c groups m =
     }
 
 pub misc-role-spec : {M : Type 1} → statement M
-misc-role-spec = tie.close (tie.spec misc-in-requires is-bad-misc-requires returns returns-2)
+misc-role-spec =
+    tie.close
+    (tie.spec (λ c κs. search needs) (λ c κs. search needs) returns returns-2)

@@ -14,9 +14,6 @@ code-role-requires c κs = eq-eqb (c .before .before .args .w .letter) 71 (c .if
 returns : tie.Need-returns
 returns c = c .code-role .ensures _ _ _
 
-is-known-requires : tie.Need-is-known-requires
-is-known-requires c κs = search needs
-
 returns-2 : tie.Need-returns-2
 returns-2 c =
     let a = c .before .before .before .before .args in
@@ -50,11 +47,4 @@ returns-4 c =
 pub role-of-spec : {M : Type 1} → statement M
 role-of-spec =
     tie.close
-    (tie.spec
-    code-role-requires
-    returns
-    is-known-requires
-    returns-2
-    misc-role-requires
-    returns-3
-    returns-4)
+    (tie.spec code-role-requires returns (λ c κs. search needs) returns-2 misc-role-requires returns-3 returns-4)

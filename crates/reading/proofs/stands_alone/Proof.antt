@@ -8,12 +8,9 @@ use borrow.Author.Needs.{needs}
 use Rattle.reading.proofs.stands_alone.Statement.{statement}
 use Rattle.reading.proofs.stands_alone.Tie as tie
 
-misc-number-requires : tie.Need-misc-number-requires
-misc-number-requires c κs = search needs
-
 returns : tie.Need-returns
 unfolding standsAlone isM
 returns c = ap (λ (n : ℕ). eqb n 98 || eqb n 99) (c .misc-number .ensures)
 
 pub stands-alone-spec : {M : Type 1} → statement M
-stands-alone-spec = tie.close (tie.spec misc-number-requires returns)
+stands-alone-spec = tie.close (tie.spec (λ c κs. search needs) returns)

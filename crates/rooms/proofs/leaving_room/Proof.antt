@@ -19,20 +19,9 @@ found h p e = ap (λ (cycle : Cycle). roomOf (leaving cycle h p)) e
 pub leaving-room-spec : {M : Type 1} → statement M
 leaving-room-spec =
     tie.close
-    (tie.spec
-    (λ c. search needs)
-    (λ c. search needs)
-    (λ c. search needs)
-    (λ c κs. search needs)
-    (λ c. search needs)
-    (λ c. search needs)
-    (λ c κs. search needs)
-    (λ c. search needs)
+    (tie.spec (λ c. search needs) (λ c. search needs) (λ c. search needs) (λ c κs. search needs) (λ c. search needs) (λ c. search needs)
+    (λ c κs. search needs) (λ c. search needs)
     (λ c. (λ p. sym (found (c .before .before .args .h) p (c .enum-told .given .1) ∙ room-rapid (c .before .before .args .h) p .0), omega arith))
     (λ c. (λ p. sym (found (c .before .before .args .h) p (c .enum-told2 .given .1) ∙ room-rapid (c .before .before .args .h) p .1), omega arith))
-    (λ c.
-    let h = c .before .before .before .args .h in
-    (λ p. ap (λ (n : ℕ). 18 + n) (c .up-room .ensures .0 h p) ∙ sym (found h p (c .before .enum-told3 .given .1) ∙ room-cut h p .0), omega arith))
-    (λ c.
-    let h = c .before .before .before .args .h in
-    (λ p. ap (λ (n : ℕ). 18 + n) (c .up-room2 .ensures .0 h p) ∙ sym (found h p (c .before .enum-told4 .given .1) ∙ room-cut h p .1), omega arith)))
+    (λ c. let h = c .before .before .before .args .h in (λ p. ap (λ (n : ℕ). 18 + n) (c .up-room .ensures .0 h p) ∙ sym (found h p (c .before .enum-told3 .given .1) ∙ room-cut h p .0), omega arith))
+    (λ c. let h = c .before .before .before .args .h in (λ p. ap (λ (n : ℕ). 18 + n) (c .up-room2 .ensures .0 h p) ∙ sym (found h p (c .before .enum-told4 .given .1) ∙ room-cut h p .1), omega arith)))

@@ -5,18 +5,6 @@ use Rattle.cycles.proofs.Counts.{count-with-z, count-without-z, count-dwell, co
 use Rattle.rooms.proofs.pass_length.Statement.{statement}
 use Rattle.rooms.proofs.pass_length.Tie as tie
 
-leaving-length-requires : tie.Need-leaving-length-requires
-leaving-length-requires c κs = search needs
-
-add-result : tie.Need-add-result
-add-result c = search needs
-
-leaving-length-requires-2 : tie.Need-leaving-length-requires-2
-leaving-length-requires-2 c κs = search needs
-
-add-result-2 : tie.Need-add-result-2
-add-result-2 c = search needs
-
 returns : tie.Need-returns
 returns c =
     let h = c .before .before .before .before .before .args .h in
@@ -43,4 +31,4 @@ returns-3 c =
 pub pass-length-spec : {M : Type 1} → statement M
 pass-length-spec =
     tie.close
-    (tie.spec leaving-length-requires add-result leaving-length-requires-2 add-result-2 returns returns-2 returns-3)
+    (tie.spec (λ c κs. search needs) (λ c. search needs) (λ c κs. search needs) (λ c. search needs) returns returns-2 returns-3)

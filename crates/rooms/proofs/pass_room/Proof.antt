@@ -5,18 +5,6 @@ use Rattle.cycles.proofs.Rooms.{room-with-z, room-without-z, room-dwell, room-n
 use Rattle.rooms.proofs.pass_room.Statement.{statement}
 use Rattle.rooms.proofs.pass_room.Tie as tie
 
-leaving-room-requires : tie.Need-leaving-room-requires
-leaving-room-requires c κs = search needs
-
-add-result : tie.Need-add-result
-add-result c = search needs
-
-leaving-room-requires-2 : tie.Need-leaving-room-requires-2
-leaving-room-requires-2 c κs = search needs
-
-add-result-2 : tie.Need-add-result-2
-add-result-2 c = search needs
-
 returns : tie.Need-returns
 returns c =
     let h = c .before .before .before .before .before .args .h in
@@ -43,4 +31,4 @@ returns-3 c =
 pub pass-room-spec : {M : Type 1} → statement M
 pass-room-spec =
     tie.close
-    (tie.spec leaving-room-requires add-result leaving-room-requires-2 add-result-2 returns returns-2 returns-3)
+    (tie.spec (λ c κs. search needs) (λ c. search needs) (λ c κs. search needs) (λ c. search needs) returns returns-2 returns-3)

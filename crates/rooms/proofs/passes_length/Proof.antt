@@ -10,9 +10,6 @@ use Rattle.cycles.proofs.Counts.{passes-count}
 use Rattle.rooms.proofs.passes_length.Statement.{statement}
 use Rattle.rooms.proofs.passes_length.Tie as tie
 
-pass-length-requires : tie.Need-pass-length-requires
-pass-length-requires c κs = search needs
-
 mul-result : tie.Need-mul-result
 mul-result c = omega (arith, mul-le-mul (c .before .pre) (c .pass-length .ensures .most))
 
@@ -27,4 +24,4 @@ returns c =
     )
 
 pub passes-length-spec : {M : Type 1} → statement M
-passes-length-spec = tie.close (tie.spec pass-length-requires mul-result returns)
+passes-length-spec = tie.close (tie.spec (λ c κs. search needs) mul-result returns)

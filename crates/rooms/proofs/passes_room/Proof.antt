@@ -10,9 +10,6 @@ use Rattle.cycles.proofs.Rooms.{passes-room}
 use Rattle.rooms.proofs.passes_room.Statement.{statement}
 use Rattle.rooms.proofs.passes_room.Tie as tie
 
-pass-room-requires : tie.Need-pass-room-requires
-pass-room-requires c κs = search needs
-
 mul-result : tie.Need-mul-result
 mul-result c = omega (arith, mul-le-mul (c .before .pre) (c .pass-room .ensures .most))
 
@@ -27,4 +24,4 @@ returns c =
     )
 
 pub passes-room-spec : {M : Type 1} → statement M
-passes-room-spec = tie.close (tie.spec pass-room-requires mul-result returns)
+passes-room-spec = tie.close (tie.spec (λ c κs. search needs) mul-result returns)

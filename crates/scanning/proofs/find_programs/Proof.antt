@@ -13,14 +13,8 @@ use borrow.Author.Needs.{needs}
 use Rattle.scanning.proofs.find_programs.Statement.{statement}
 use Rattle.scanning.proofs.find_programs.Tie as tie
 
-next-block-requires : tie.Need-next-block-requires
-next-block-requires c κs = search needs
-
 begins-with-requires : tie.Need-begins-with-requires
 begins-with-requires c κs = omega (arith, c .next-block .ensures, next-inside (c .before .before .args .s .now) 0 (omega arith))
-
-only-main-requires : tie.Need-only-main-requires
-only-main-requires c κs = search needs
 
 scan-openings-requires : tie.Need-scan-openings-requires
 scan-openings-requires c κs =
@@ -47,20 +41,8 @@ add-read-opening c = let o = opened c in omega (arith, o .0)
 read-opening-requires : tie.Need-read-opening-requires
 read-opening-requires c κs = let o = opened c in omega (arith, o .0)
 
-enum-told : tie.Need-enum-told
-enum-told c = search needs
-
-only-main-requires-2 : tie.Need-only-main-requires-2
-only-main-requires-2 c κs = search needs
-
-enum-known-number : tie.Need-enum-known-number
-enum-known-number c = search needs
-
 next-block-requires-2 : tie.Need-next-block-requires-2
 next-block-requires-2 c κs = let o = opened (c .before .before .before .before) in omega (arith, o .0)
-
-only-main-requires-3 : tie.Need-only-main-requires-3
-only-main-requires-3 c κs = search needs
 
 scan-openings-requires-2 : tie.Need-scan-openings-requires-2
 scan-openings-requires-2 c κs =
@@ -97,19 +79,6 @@ returns-3 c =
 pub find-programs-spec : {M : Type 1} → statement M
 find-programs-spec =
     tie.close
-    (tie.spec
-    next-block-requires
-    begins-with-requires
-    only-main-requires
-    scan-openings-requires
-    returns
-    add-read-opening
-    read-opening-requires
-    enum-told
-    only-main-requires-2
-    enum-known-number
-    next-block-requires-2
-    only-main-requires-3
-    scan-openings-requires-2
-    returns-2
-    returns-3)
+    (tie.spec (λ c κs. search needs) begins-with-requires (λ c κs. search needs) scan-openings-requires returns add-read-opening
+    read-opening-requires (λ c. search needs) (λ c κs. search needs) (λ c. search needs) next-block-requires-2 (λ c κs. search needs)
+    scan-openings-requires-2 returns-2 returns-3)

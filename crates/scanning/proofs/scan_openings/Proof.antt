@@ -55,9 +55,6 @@ plain : (c : tie.Joined1 Inv-loop μ-loop Inv-blocks2 μ-blocks2) → Plain (c .
 plain c =
     ⊎-elim (λ w. first-plain (c .before .before .before .before .before .before .before .args .s .now) (c .before .before .before .loop .inv .0 .here (w .0 .taken)) (sym (w .1 .ensures) ∙ w .2 .left) (w .3 .left)) (λ w. c .before .before .before .loop .inv .0 .plain (w .left)) (c .if1 .came)
 
-blocks2-less : tie.Need-blocks2-less Inv-loop μ-loop Inv-blocks2 μ-blocks2
-blocks2-less c = omega arith
-
 blocks2-again : tie.Need-blocks2-again Inv-loop μ-loop Inv-blocks2 μ-blocks2
 blocks2-again c =
     let l = c .before .before .before .before .before .args .s .now in
@@ -65,32 +62,11 @@ blocks2-again c =
     let p = past-plain (c .before .loop .first) (i .0) (omega arith) in
     (passed-last (begun (c .before)) (omega arith) (p .0) (c .before .loop .at) (p .1) (omega (arith, i .0 .left, length-at-end l (c .before .loop .at) (omega arith))) (omega arith), i .1)
 
-shared-slice-read-b : tie.Need-shared-slice-read-b Inv-loop μ-loop Inv-blocks2 μ-blocks2
-shared-slice-read-b c = omega arith
-
-is-percent-requires : tie.Need-is-percent-requires Inv-loop μ-loop Inv-blocks2 μ-blocks2
-is-percent-requires c κs = omega arith
-
-add-read-opening : tie.Need-add-read-opening Inv-loop μ-loop Inv-blocks2 μ-blocks2
-add-read-opening c = omega arith
-
-read-opening-requires : tie.Need-read-opening-requires Inv-loop μ-loop Inv-blocks2 μ-blocks2
-read-opening-requires c κs = omega arith
-
 entry-of-requires : tie.Need-entry-of-requires Inv-loop μ-loop Inv-blocks2 μ-blocks2
 entry-of-requires c κs = begun (c .before .before .before .before .before .before .before) .ready
 
-enum-known-refusal : tie.Need-enum-known-refusal Inv-loop μ-loop Inv-blocks2 μ-blocks2
-enum-known-refusal c = search needs
-
-enum-known-n : tie.Need-enum-known-n Inv-loop μ-loop Inv-blocks2 μ-blocks2
-enum-known-n c = search needs
-
 add-block : tie.Need-add-block Inv-loop μ-loop Inv-blocks2 μ-blocks2
 add-block c = let h = here (c .before .before .before .before .before .before .before .before) in omega (arith, h .counted)
-
-next-block-requires : tie.Need-next-block-requires Inv-loop μ-loop Inv-blocks2 μ-blocks2
-next-block-requires c κs = omega arith
 
 with-program-requires : tie.Need-with-program-requires Inv-loop μ-loop Inv-blocks2 μ-blocks2
 with-program-requires c κs =
@@ -113,9 +89,6 @@ blocks2-again-2 c =
       c .before .before .before .before .before .before .before .before .before .before .before .before .before .loop .inv .1,
     )
 
-add-at : tie.Need-add-at Inv-loop μ-loop Inv-blocks2 μ-blocks2
-add-at c = omega arith
-
 add-block-2 : tie.Need-add-block-2 Inv-loop μ-loop Inv-blocks2 μ-blocks2
 add-block-2 c = let h = begun (c .before .before .before .before) in omega (arith, h .counted, c .before .before .before .before .loop .inv .0 .begun)
 
@@ -128,9 +101,6 @@ blocks2-again-3 c =
     let i = c .before .before .before .before .loop .inv in
     let p = plain (c .before) in
     (passed-plain (begun (c .before .before .before .before)) (omega arith) (p .0) (c .before .before .before .before .loop .at + 1) (p .1) (omega (arith, i .0 .left, length-at-lf l (c .before .before .before .before .loop .at) (omega arith) (c .if4 .taken))) (omega (arith, i .0 .begun)), i .1)
-
-loop-less : tie.Need-loop-less Inv-loop μ-loop Inv-blocks2 μ-blocks2
-loop-less c = omega arith
 
 loop-again : tie.Need-loop-again Inv-loop μ-loop Inv-blocks2 μ-blocks2
 loop-again c =
@@ -169,33 +139,7 @@ returns-3 c =
 pub scan-openings-spec : {M : Type 1} → statement M
 scan-openings-spec =
     tie.close
-    (tie.spec
-    Inv-loop
-    μ-loop
-    Inv-blocks2
-    μ-blocks2
-    blocks2-holds
-    loop-holds
-    blocks2-less
-    blocks2-again
-    shared-slice-read-b
-    is-percent-requires
-    add-read-opening
-    read-opening-requires
-    entry-of-requires
-    enum-known-refusal
-    enum-known-n
-    add-block
-    next-block-requires
-    with-program-requires
-    blocks2-less-2
-    blocks2-again-2
-    add-at
-    add-block-2
-    blocks2-less-3
-    blocks2-again-3
-    loop-less
-    loop-again
-    returns
-    returns-2
-    returns-3)
+    (tie.spec Inv-loop μ-loop Inv-blocks2 μ-blocks2 blocks2-holds loop-holds (λ c. omega arith) blocks2-again (λ c. omega arith)
+    (λ c κs. omega arith) (λ c. omega arith) (λ c κs. omega arith) entry-of-requires (λ c. search needs) (λ c. search needs) add-block
+    (λ c κs. omega arith) with-program-requires blocks2-less-2 blocks2-again-2 (λ c. omega arith) add-block-2 blocks2-less-3 blocks2-again-3
+    (λ c. omega arith) loop-again returns returns-2 returns-3)

@@ -6,9 +6,6 @@ use Rattle.settings.proofs.Near.{base-near}
 use Rattle.settings.proofs.aimed.Statement.{statement}
 use Rattle.settings.proofs.aimed.Tie as tie
 
-base-requires : tie.Need-base-requires
-base-requires c κs = search needs
-
 plus-requires : tie.Need-plus-requires
 plus-requires c κs =
     let a = c .before .before .args in
@@ -24,4 +21,4 @@ unfolding aimed
 returns-2 c = rw (c .if1 .left)
 
 pub aimed-spec : {M : Type 1} → statement M
-aimed-spec = tie.close (tie.spec base-requires plus-requires returns returns-2)
+aimed-spec = tie.close (tie.spec (λ c κs. search needs) plus-requires returns returns-2)

@@ -5,15 +5,6 @@ use Rattle.settings.proofs.Near.{target-near}
 use Rattle.settings.proofs.target_point.Statement.{statement}
 use Rattle.settings.proofs.target_point.Tie as tie
 
-aimed-requires : tie.Need-aimed-requires
-aimed-requires c κs = search needs
-
-aimed-requires-2 : tie.Need-aimed-requires-2
-aimed-requires-2 c κs = search needs
-
-aimed-requires-3 : tie.Need-aimed-requires-3
-aimed-requires-3 c κs = search needs
-
 returns : tie.Need-returns
 unfolding target
 returns c =
@@ -26,4 +17,6 @@ returns c =
     }
 
 pub target-point-spec : {M : Type 1} → statement M
-target-point-spec = tie.close (tie.spec aimed-requires aimed-requires-2 aimed-requires-3 returns)
+target-point-spec =
+    tie.close
+    (tie.spec (λ c κs. search needs) (λ c κs. search needs) (λ c κs. search needs) returns)

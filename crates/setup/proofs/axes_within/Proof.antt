@@ -4,18 +4,6 @@ use borrow.Author.Needs.{needs}
 use Rattle.setup.proofs.axes_within.Statement.{statement}
 use Rattle.setup.proofs.axes_within.Tie as tie
 
-point-of-requires : tie.Need-point-of-requires
-point-of-requires c κs = search needs
-
-is-within-requires : tie.Need-is-within-requires
-is-within-requires c κs = search needs
-
-is-within-requires-2 : tie.Need-is-within-requires-2
-is-within-requires-2 c κs = search needs
-
-is-within-requires-3 : tie.Need-is-within-requires-3
-is-within-requires-3 c κs = search needs
-
 returns : tie.Need-returns
 unfolding axesWithin
 returns c =
@@ -29,9 +17,4 @@ returns c =
 pub axes-within-spec : {M : Type 1} → statement M
 axes-within-spec =
     tie.close
-    (tie.spec
-    point-of-requires
-    is-within-requires
-    is-within-requires-2
-    is-within-requires-3
-    returns)
+    (tie.spec (λ c κs. search needs) (λ c κs. search needs) (λ c κs. search needs) (λ c κs. search needs) returns)

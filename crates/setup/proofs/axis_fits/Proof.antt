@@ -4,18 +4,6 @@ use borrow.Author.Needs.{needs}
 use Rattle.setup.proofs.axis_fits.Statement.{statement}
 use Rattle.setup.proofs.axis_fits.Tie as tie
 
-at-most-requires : tie.Need-at-most-requires
-at-most-requires c κs = search needs
-
-is-within-requires : tie.Need-is-within-requires
-is-within-requires c κs = search needs
-
-is-within-requires-2 : tie.Need-is-within-requires-2
-is-within-requires-2 c κs = search needs
-
-is-between-requires : tie.Need-is-between-requires
-is-between-requires c κs = search needs
-
 returns : tie.Need-returns
 unfolding axisFits
 returns c =
@@ -29,4 +17,4 @@ returns c =
 pub axis-fits-spec : {M : Type 1} → statement M
 axis-fits-spec =
     tie.close
-    (tie.spec at-most-requires is-within-requires is-within-requires-2 is-between-requires returns)
+    (tie.spec (λ c κs. search needs) (λ c κs. search needs) (λ c κs. search needs) (λ c κs. search needs) returns)

@@ -4,21 +4,6 @@ use borrow.Author.Needs.{needs}
 use Rattle.setup.proofs.bed_of.Statement.{statement}
 use Rattle.setup.proofs.bed_of.Tie as tie
 
-origins-of-requires : tie.Need-origins-of-requires
-origins-of-requires c κs = search needs
-
-point-of-requires : tie.Need-point-of-requires
-point-of-requires c κs = search needs
-
-travel-of-requires : tie.Need-travel-of-requires
-travel-of-requires c κs = search needs
-
-lowest-of-requires : tie.Need-lowest-of-requires
-lowest-of-requires c κs = search needs
-
-highest-of-requires : tie.Need-highest-of-requires
-highest-of-requires c κs = search needs
-
 returns : tie.Need-returns
 unfolding bedOf offset
 returns c =
@@ -33,10 +18,4 @@ returns c =
 pub bed-of-spec : {M : Type 1} → statement M
 bed-of-spec =
     tie.close
-    (tie.spec
-    origins-of-requires
-    point-of-requires
-    travel-of-requires
-    lowest-of-requires
-    highest-of-requires
-    returns)
+    (tie.spec (λ c κs. search needs) (λ c κs. search needs) (λ c κs. search needs) (λ c κs. search needs) (λ c κs. search needs) returns)

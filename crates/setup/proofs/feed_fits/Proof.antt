@@ -5,18 +5,6 @@ use borrow.Author.Needs.{needs}
 use Rattle.setup.proofs.feed_fits.Statement.{statement}
 use Rattle.setup.proofs.feed_fits.Tie as tie
 
-of-count-requires : tie.Need-of-count-requires
-of-count-requires c κs = search needs
-
-of-count-requires-2 : tie.Need-of-count-requires-2
-of-count-requires-2 c κs = search needs
-
-feed-of-requires : tie.Need-feed-of-requires
-feed-of-requires c κs = search needs
-
-is-between-requires : tie.Need-is-between-requires
-is-between-requires c κs = search needs
-
 returns : tie.Need-returns
 unfolding feedFits
 returns c =
@@ -26,4 +14,4 @@ returns c =
 pub feed-fits-spec : {M : Type 1} → statement M
 feed-fits-spec =
     tie.close
-    (tie.spec of-count-requires of-count-requires-2 feed-of-requires is-between-requires returns)
+    (tie.spec (λ c κs. search needs) (λ c κs. search needs) (λ c κs. search needs) (λ c κs. search needs) returns)

@@ -3,14 +3,8 @@ use borrow.Author.Needs.{needs}
 use Rattle.setup.proofs.is_between.Statement.{statement}
 use Rattle.setup.proofs.is_between.Tie as tie
 
-at-most-requires : tie.Need-at-most-requires
-at-most-requires c κs = search needs
-
-at-most-requires-2 : tie.Need-at-most-requires-2
-at-most-requires-2 c κs = search needs
-
 returns : tie.Need-returns
 returns c = rw (c .before .at-most .ensures, c .at-most2 .ensures)
 
 pub is-between-spec : {M : Type 1} → statement M
-is-between-spec = tie.close (tie.spec at-most-requires at-most-requires-2 returns)
+is-between-spec = tie.close (tie.spec (λ c κs. search needs) (λ c κs. search needs) returns)

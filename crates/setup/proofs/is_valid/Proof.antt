@@ -4,21 +4,6 @@ use borrow.Author.Needs.{needs}
 use Rattle.setup.proofs.is_valid.Statement.{statement}
 use Rattle.setup.proofs.is_valid.Tie as tie
 
-travel-fits-requires : tie.Need-travel-fits-requires
-travel-fits-requires c κs = search needs
-
-offsets-fit-requires : tie.Need-offsets-fit-requires
-offsets-fit-requires c κs = search needs
-
-feed-fits-requires : tie.Need-feed-fits-requires
-feed-fits-requires c κs = search needs
-
-speeds-fit-requires : tie.Need-speeds-fit-requires
-speeds-fit-requires c κs = search needs
-
-switch-fits-requires : tie.Need-switch-fits-requires
-switch-fits-requires c κs = search needs
-
 returns : tie.Need-returns
 unfolding validSetup
 returns c =
@@ -33,10 +18,4 @@ returns c =
 pub is-valid-spec : {M : Type 1} → statement M
 is-valid-spec =
     tie.close
-    (tie.spec
-    travel-fits-requires
-    offsets-fit-requires
-    feed-fits-requires
-    speeds-fit-requires
-    switch-fits-requires
-    returns)
+    (tie.spec (λ c κs. search needs) (λ c κs. search needs) (λ c κs. search needs) (λ c κs. search needs) (λ c κs. search needs) returns)

@@ -4,16 +4,10 @@ use borrow.Author.Needs.{needs}
 use Rattle.setup.proofs.is_within.Statement.{statement}
 use Rattle.setup.proofs.is_within.Tie as tie
 
-zero-requires : tie.Need-zero-requires
-zero-requires c κs = search needs
-
-apart-requires : tie.Need-apart-requires
-apart-requires c κs = search needs
-
 returns : tie.Need-returns
 returns c =
     let a = c .before .before .args in
     from-zero (a .v) (c .before .zero .result) (c .apart .result) (a .n) (c .before .zero .ensures) (c .apart .ensures)
 
 pub is-within-spec : {M : Type 1} → statement M
-is-within-spec = tie.close (tie.spec zero-requires apart-requires returns)
+is-within-spec = tie.close (tie.spec (λ c κs. search needs) (λ c κs. search needs) returns)

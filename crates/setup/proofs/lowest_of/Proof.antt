@@ -5,9 +5,6 @@ use borrow.Author.Needs.{needs}
 use Rattle.setup.proofs.lowest_of.Statement.{statement}
 use Rattle.setup.proofs.lowest_of.Tie as tie
 
-of-requires : tie.Need-of-requires
-of-requires c κs = search needs
-
 returns : tie.Need-returns
 returns c =
     let a = c .before .before in
@@ -15,4 +12,4 @@ returns c =
     of-raw (a .args .s .lowest) (c .of .result) (search needs) (c .of .ensures)
 
 pub lowest-of-spec : {M : Type 1} → statement M
-lowest-of-spec = tie.close (tie.spec of-requires returns)
+lowest-of-spec = tie.close (tie.spec (λ c κs. search needs) returns)

@@ -21,26 +21,11 @@ abbrev μ-loop : tie.MeasureT-loop
 loop-holds : tie.Need-loop-holds Inv-loop μ-loop
 loop-holds c = (omega arith, refl)
 
-mul-origin : tie.Need-mul-origin Inv-loop μ-loop
-mul-origin c = omega arith
-
-array-copy-out-origin : tie.Need-array-copy-out-origin Inv-loop μ-loop
-array-copy-out-origin c = omega arith
-
-axes-within-requires : tie.Need-axes-within-requires Inv-loop μ-loop
-axes-within-requires c κs = search needs
-
 returns : tie.Need-returns Inv-loop μ-loop
 returns c =
     let d = c .before .before .before .before in
     let l = d .before .args .t1 in
     sym (d .loop .inv .1 ∙ all-fails (axesWithin 1_000_000_000) l (d .loop .i) _ (omega arith) (sym (c .before .axes-within .ensures) ∙ not-true _ (c .if1 .taken)))
-
-add-i : tie.Need-add-i Inv-loop μ-loop
-add-i c = omega arith
-
-loop-less : tie.Need-loop-less Inv-loop μ-loop
-loop-less c = omega arith
 
 loop-again : tie.Need-loop-again Inv-loop μ-loop
 loop-again c =
@@ -56,15 +41,5 @@ returns-2 c =
 pub origins-fit-spec : {M : Type 1} → statement M
 origins-fit-spec =
     tie.close
-    (tie.spec
-    Inv-loop
-    μ-loop
-    loop-holds
-    mul-origin
-    array-copy-out-origin
-    axes-within-requires
-    returns
-    add-i
-    loop-less
-    loop-again
-    returns-2)
+    (tie.spec Inv-loop μ-loop loop-holds (λ c. omega arith) (λ c. omega arith) (λ c κs. search needs) returns (λ c. omega arith)
+    (λ c. omega arith) loop-again returns-2)

@@ -13,35 +13,8 @@ Inv-loop origins points₀ place₀ points place = Turned origins points place
 abbrev μ-loop : tie.MeasureT-loop
 μ-loop origins points₀ place₀ points place = 6 - place
 
-array-copy-out-point-of : tie.Need-array-copy-out-point-of Inv-loop μ-loop
-array-copy-out-point-of c = omega arith
-
-point-of-requires : tie.Need-point-of-requires Inv-loop μ-loop
-point-of-requires c κs = search needs
-
 loop-holds : tie.Need-loop-holds Inv-loop μ-loop
 loop-holds c = none-turned (c .before .before .args .t1) _ refl
-
-mul-origin : tie.Need-mul-origin Inv-loop μ-loop
-mul-origin c = omega arith
-
-array-copy-out-origin : tie.Need-array-copy-out-origin Inv-loop μ-loop
-array-copy-out-origin c = omega arith
-
-point-of-requires-2 : tie.Need-point-of-requires-2 Inv-loop μ-loop
-point-of-requires-2 c κs = search needs
-
-mul-points : tie.Need-mul-points Inv-loop μ-loop
-mul-points c = omega arith
-
-array-set-from-points : tie.Need-array-set-from-points Inv-loop μ-loop
-array-set-from-points c = omega arith
-
-add-place : tie.Need-add-place Inv-loop μ-loop
-add-place c = omega arith
-
-loop-less : tie.Need-loop-less Inv-loop μ-loop
-loop-less c = omega arith
 
 loop-again : tie.Need-loop-again Inv-loop μ-loop
 loop-again c =
@@ -57,18 +30,5 @@ returns c =
 pub origins-of-spec : {M : Type 1} → statement M
 origins-of-spec =
     tie.close
-    (tie.spec
-    Inv-loop
-    μ-loop
-    array-copy-out-point-of
-    point-of-requires
-    loop-holds
-    mul-origin
-    array-copy-out-origin
-    point-of-requires-2
-    mul-points
-    array-set-from-points
-    add-place
-    loop-less
-    loop-again
-    returns)
+    (tie.spec Inv-loop μ-loop (λ c. omega arith) (λ c κs. search needs) loop-holds (λ c. omega arith) (λ c. omega arith)
+    (λ c κs. search needs) (λ c. omega arith) (λ c. omega arith) (λ c. omega arith) (λ c. omega arith) loop-again returns)

@@ -4,15 +4,6 @@ use borrow.Author.Needs.{needs}
 use Rattle.setup.proofs.point_of.Statement.{statement}
 use Rattle.setup.proofs.point_of.Tie as tie
 
-of-requires : tie.Need-of-requires
-of-requires c κs = search needs
-
-of-requires-2 : tie.Need-of-requires-2
-of-requires-2 c κs = search needs
-
-of-requires-3 : tie.Need-of-requires-3
-of-requires-3 c κs = search needs
-
 returns : tie.Need-returns
 returns c =
     let a = c .before .before .before .before .before .before .args .a in
@@ -22,4 +13,6 @@ returns c =
     rw (x, y, z)
 
 pub point-of-spec : {M : Type 1} → statement M
-point-of-spec = tie.close (tie.spec of-requires of-requires-2 of-requires-3 returns)
+point-of-spec =
+    tie.close
+    (tie.spec (λ c κs. search needs) (λ c κs. search needs) (λ c κs. search needs) returns)

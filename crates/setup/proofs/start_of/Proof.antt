@@ -6,12 +6,6 @@ use borrow.Author.Needs.{needs}
 use Rattle.setup.proofs.start_of.Statement.{statement}
 use Rattle.setup.proofs.start_of.Tie as tie
 
-point-of-requires : tie.Need-point-of-requires
-point-of-requires c κs = search needs
-
-point-of-requires-2 : tie.Need-point-of-requires-2
-point-of-requires-2 c κs = search needs
-
 moved-back-requires : tie.Need-moved-back-requires
 moved-back-requires c κs =
     let a = c .before .before in
@@ -23,4 +17,5 @@ returns c = c .moved-back .ensures .is ∙ rw (c .before .before .point-of .ensu
 
 pub start-of-spec : {M : Type 1} → statement M
 start-of-spec =
-    tie.close (tie.spec point-of-requires point-of-requires-2 moved-back-requires returns)
+    tie.close
+    (tie.spec (λ c κs. search needs) (λ c κs. search needs) moved-back-requires returns)

@@ -5,9 +5,6 @@ use borrow.Author.Needs.{needs}
 use Rattle.setup.proofs.switch_of.Statement.{statement}
 use Rattle.setup.proofs.switch_of.Tie as tie
 
-of-requires : tie.Need-of-requires
-of-requires c κs = search needs
-
 returns : tie.Need-returns
 returns c =
     let a = c .before .before in
@@ -15,4 +12,4 @@ returns c =
     of-raw (a .args .s .skip) (c .of .result) (search needs) (c .of .ensures)
 
 pub switch-of-spec : {M : Type 1} → statement M
-switch-of-spec = tie.close (tie.spec of-requires returns)
+switch-of-spec = tie.close (tie.spec (λ c κs. search needs) returns)

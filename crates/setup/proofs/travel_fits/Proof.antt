@@ -4,24 +4,6 @@ use borrow.Author.Needs.{needs}
 use Rattle.setup.proofs.travel_fits.Statement.{statement}
 use Rattle.setup.proofs.travel_fits.Tie as tie
 
-point-of-requires : tie.Need-point-of-requires
-point-of-requires c κs = search needs
-
-point-of-requires-2 : tie.Need-point-of-requires-2
-point-of-requires-2 c κs = search needs
-
-point-of-requires-3 : tie.Need-point-of-requires-3
-point-of-requires-3 c κs = search needs
-
-axis-fits-requires : tie.Need-axis-fits-requires
-axis-fits-requires c κs = search needs
-
-axis-fits-requires-2 : tie.Need-axis-fits-requires-2
-axis-fits-requires-2 c κs = search needs
-
-axis-fits-requires-3 : tie.Need-axis-fits-requires-3
-axis-fits-requires-3 c κs = search needs
-
 returns : tie.Need-returns
 unfolding travelFits
 returns c =
@@ -37,11 +19,5 @@ returns c =
 pub travel-fits-spec : {M : Type 1} → statement M
 travel-fits-spec =
     tie.close
-    (tie.spec
-    point-of-requires
-    point-of-requires-2
-    point-of-requires-3
-    axis-fits-requires
-    axis-fits-requires-2
-    axis-fits-requires-3
-    returns)
+    (tie.spec (λ c κs. search needs) (λ c κs. search needs) (λ c κs. search needs) (λ c κs. search needs) (λ c κs. search needs)
+    (λ c κs. search needs) returns)

@@ -5,19 +5,10 @@ use borrow.Author.Needs.{needs}
 use Rattle.setup.proofs.travel_of.Statement.{statement}
 use Rattle.setup.proofs.travel_of.Tie as tie
 
-point-of-requires : tie.Need-point-of-requires
-point-of-requires c κs = search needs
-
-point-of-requires-2 : tie.Need-point-of-requires-2
-point-of-requires-2 c κs = search needs
-
 moved-back-requires : tie.Need-moved-back-requires
 moved-back-requires c κs =
     let a = c .before .before in
     moves (a .args .s .exofs) (a .args .s .low) (c .before .point-of .ensures) (c .point-of2 .ensures) (valid-offset (a .args .s) (a .pre)) (valid-low (a .args .s) (a .pre))
-
-point-of-requires-3 : tie.Need-point-of-requires-3
-point-of-requires-3 c κs = search needs
 
 moved-back-requires-2 : tie.Need-moved-back-requires-2
 moved-back-requires-2 c κs =
@@ -38,10 +29,4 @@ returns c =
 pub travel-of-spec : {M : Type 1} → statement M
 travel-of-spec =
     tie.close
-    (tie.spec
-    point-of-requires
-    point-of-requires-2
-    moved-back-requires
-    point-of-requires-3
-    moved-back-requires-2
-    returns)
+    (tie.spec (λ c κs. search needs) (λ c κs. search needs) moved-back-requires (λ c κs. search needs) moved-back-requires-2 returns)

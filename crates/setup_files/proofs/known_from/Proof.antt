@@ -19,4 +19,6 @@ returns-2 c =
     rw (not-false (read .before .before .before .args .whole) (left .if1 .left), c .is-read .ensures, read .read-setup .ensures)
 
 pub known-from-spec : {M : Type 1} → statement M
-known-from-spec = tie.close (tie.spec (λ c κs. search needs) returns (λ c κs. search needs) returns-2)
+known-from-spec =
+    tie.close
+    (tie.spec (λ c κs. search needs) returns (λ c κs. search needs) returns-2)

@@ -11,30 +11,6 @@ use Rattle.setups.specs.Setups.{axesOf, figureAt}
 use Rattle.setups.proofs.axes_of.Statement.{statement}
 use Rattle.setups.proofs.axes_of.Tie as tie
 
-mul-x : tie.Need-mul-x
-mul-x c = search needs
-
-array-copy-out-x : tie.Need-array-copy-out-x
-array-copy-out-x c = search needs
-
-add-y : tie.Need-add-y
-add-y c = search needs
-
-mul-y : tie.Need-mul-y
-mul-y c = search needs
-
-array-copy-out-y : tie.Need-array-copy-out-y
-array-copy-out-y c = search needs
-
-add-z : tie.Need-add-z
-add-z c = search needs
-
-mul-z : tie.Need-mul-z
-mul-z c = search needs
-
-array-copy-out-z : tie.Need-array-copy-out-z
-array-copy-out-z c = search needs
-
 returns : tie.Need-returns
 unfolding axesOf
 returns c =
@@ -47,13 +23,5 @@ returns c =
 pub axes-of-spec : {M : Type 1} → statement M
 axes-of-spec =
     tie.close
-    (tie.spec
-    mul-x
-    array-copy-out-x
-    add-y
-    mul-y
-    array-copy-out-y
-    add-z
-    mul-z
-    array-copy-out-z
-    returns)
+    (tie.spec (λ c. search needs) (λ c. search needs) (λ c. search needs) (λ c. search needs) (λ c. search needs) (λ c. search needs)
+    (λ c. search needs) (λ c. search needs) returns)

@@ -6,25 +6,10 @@ use Rattle.setups.proofs.Filling.{entry-plain, entry-named, by-passed, 
 use Rattle.setups.proofs.entry_at.Statement.{statement}
 use Rattle.setups.proofs.entry_at.Tie as tie
 
-number-at-requires : tie.Need-number-at-requires
-number-at-requires c κs = search needs
-
 returns : tie.Need-returns
 returns c =
     let a = c .before .before .before .args in
     c .number-at .ensures ∙ sym (entry-plain (a .s .now) (a .at) (a .k) (a .named) (not-true _ (c .before .if1 .taken)))
-
-name-before-requires : tie.Need-name-before-requires
-name-before-requires c κs = search needs
-
-enum-known-after : tie.Need-enum-known-after
-enum-known-after c = search needs
-
-number-at-requires-2 : tie.Need-number-at-requires-2
-number-at-requires-2 c κs = search needs
-
-enum-known-wrong : tie.Need-enum-known-wrong
-enum-known-wrong c = search needs
 
 returns-2 : tie.Need-returns-2
 returns-2 c =
@@ -41,12 +26,5 @@ returns-3 c =
 pub entry-at-spec : {M : Type 1} → statement M
 entry-at-spec =
     tie.close
-    (tie.spec
-    number-at-requires
-    returns
-    name-before-requires
-    enum-known-after
-    number-at-requires-2
-    enum-known-wrong
-    returns-2
+    (tie.spec (λ c κs. search needs) returns (λ c κs. search needs) (λ c. search needs) (λ c κs. search needs) (λ c. search needs) returns-2
     returns-3)

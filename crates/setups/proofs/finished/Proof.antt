@@ -5,21 +5,13 @@ use Rattle.setups.proofs.Filling.{more-left, nothing-left}
 use Rattle.setups.proofs.finished.Statement.{statement}
 use Rattle.setups.proofs.finished.Tie as tie
 
-next-word-requires : tie.Need-next-word-requires
-next-word-requires c κs = search needs
-
-refused-requires : tie.Need-refused-requires
-refused-requires c κs = search needs
-
 returns : tie.Need-returns
 returns c = c .refused .ensures ∙ more-left _ _ _ _ (c .before .before .next-word .ensures) (c .before .if1 .taken)
-
-setup-of-requires : tie.Need-setup-of-requires
-setup-of-requires c κs = search needs
 
 returns-2 : tie.Need-returns-2
 returns-2 c = nothing-left _ _ _ _ _ (c .before .before .next-word .ensures) (c .before .if1 .left) (c .setup-of .ensures)
 
 pub finished-spec : {M : Type 1} → statement M
 finished-spec =
-    tie.close (tie.spec next-word-requires refused-requires returns setup-of-requires returns-2)
+    tie.close
+    (tie.spec (λ c κs. search needs) (λ c κs. search needs) returns (λ c κs. search needs) returns-2)

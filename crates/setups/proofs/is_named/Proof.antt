@@ -6,16 +6,10 @@ use Rattle.setups.proofs.Filling.{no-first, first-letter}
 use Rattle.setups.proofs.is_named.Statement.{statement}
 use Rattle.setups.proofs.is_named.Tie as tie
 
-next-word-requires : tie.Need-next-word-requires
-next-word-requires c κs = search needs
-
 returns : tie.Need-returns
 returns c =
     let a = c .before .before .before .args in
     no-first (a .s .now) (c .before .next-word .result) (c .before .next-word .ensures) (c .if1 .taken)
-
-shared-slice-read-b : tie.Need-shared-slice-read-b
-shared-slice-read-b c = search needs
 
 returns-2 : tie.Need-returns-2
 returns-2 c =
@@ -23,4 +17,4 @@ returns-2 c =
     first-letter (a .s .now) (c .before .before .next-word .result) (c .before .before .next-word .ensures) (omega arith)
 
 pub is-named-spec : {M : Type 1} → statement M
-is-named-spec = tie.close (tie.spec next-word-requires returns shared-slice-read-b returns-2)
+is-named-spec = tie.close (tie.spec (λ c κs. search needs) returns (λ c. search needs) returns-2)

@@ -4,96 +4,6 @@ use Rattle.setups.proofs.Filling.{name-of, no-name}
 use Rattle.setups.proofs.name_before.Statement.{statement}
 use Rattle.setups.proofs.name_before.Tie as tie
 
-slice-aggregate-pass-name : tie.Need-slice-aggregate-pass-name
-slice-aggregate-pass-name c = search needs
-
-pass-name-requires : tie.Need-pass-name-requires
-pass-name-requires c κs = search needs
-
-slice-aggregate-pass-name-2 : tie.Need-slice-aggregate-pass-name-2
-slice-aggregate-pass-name-2 c = search needs
-
-pass-name-requires-2 : tie.Need-pass-name-requires-2
-pass-name-requires-2 c κs = search needs
-
-slice-aggregate-pass-name-3 : tie.Need-slice-aggregate-pass-name-3
-slice-aggregate-pass-name-3 c = search needs
-
-pass-name-requires-3 : tie.Need-pass-name-requires-3
-pass-name-requires-3 c κs = search needs
-
-slice-aggregate-pass-name-4 : tie.Need-slice-aggregate-pass-name-4
-slice-aggregate-pass-name-4 c = search needs
-
-pass-name-requires-4 : tie.Need-pass-name-requires-4
-pass-name-requires-4 c κs = search needs
-
-slice-aggregate-pass-name-5 : tie.Need-slice-aggregate-pass-name-5
-slice-aggregate-pass-name-5 c = search needs
-
-pass-name-requires-5 : tie.Need-pass-name-requires-5
-pass-name-requires-5 c κs = search needs
-
-slice-aggregate-pass-name-6 : tie.Need-slice-aggregate-pass-name-6
-slice-aggregate-pass-name-6 c = search needs
-
-pass-name-requires-6 : tie.Need-pass-name-requires-6
-pass-name-requires-6 c κs = search needs
-
-slice-aggregate-pass-name-7 : tie.Need-slice-aggregate-pass-name-7
-slice-aggregate-pass-name-7 c = search needs
-
-pass-name-requires-7 : tie.Need-pass-name-requires-7
-pass-name-requires-7 c κs = search needs
-
-slice-aggregate-pass-name-8 : tie.Need-slice-aggregate-pass-name-8
-slice-aggregate-pass-name-8 c = search needs
-
-pass-name-requires-8 : tie.Need-pass-name-requires-8
-pass-name-requires-8 c κs = search needs
-
-slice-aggregate-pass-name-9 : tie.Need-slice-aggregate-pass-name-9
-slice-aggregate-pass-name-9 c = search needs
-
-pass-name-requires-9 : tie.Need-pass-name-requires-9
-pass-name-requires-9 c κs = search needs
-
-slice-aggregate-pass-name-10 : tie.Need-slice-aggregate-pass-name-10
-slice-aggregate-pass-name-10 c = search needs
-
-pass-name-requires-10 : tie.Need-pass-name-requires-10
-pass-name-requires-10 c κs = search needs
-
-slice-aggregate-pass-name-11 : tie.Need-slice-aggregate-pass-name-11
-slice-aggregate-pass-name-11 c = search needs
-
-pass-name-requires-11 : tie.Need-pass-name-requires-11
-pass-name-requires-11 c κs = search needs
-
-slice-aggregate-pass-name-12 : tie.Need-slice-aggregate-pass-name-12
-slice-aggregate-pass-name-12 c = search needs
-
-pass-name-requires-12 : tie.Need-pass-name-requires-12
-pass-name-requires-12 c κs = search needs
-
-slice-aggregate-pass-name-13 : tie.Need-slice-aggregate-pass-name-13
-slice-aggregate-pass-name-13 c = search needs
-
-pass-name-requires-13 : tie.Need-pass-name-requires-13
-pass-name-requires-13 c κs = search needs
-
-slice-aggregate-pass-name-14 : tie.Need-slice-aggregate-pass-name-14
-slice-aggregate-pass-name-14 c = search needs
-
-pass-name-requires-14 : tie.Need-pass-name-requires-14
-pass-name-requires-14 c κs = search needs
-
-slice-aggregate-pass-name-15 : tie.Need-slice-aggregate-pass-name-15
-slice-aggregate-pass-name-15 c = search needs
-
-pass-name-requires-15 : tie.Need-pass-name-requires-15
-pass-name-requires-15 c κs = search needs
-
 returns : tie.Need-returns
 returns c =
     name-of _ _ 0 (c .before .before .match .keys1) (c .pass-name .ensures)
@@ -161,50 +71,10 @@ returns-16 c =
 pub name-before-spec : {M : Type 1} → statement M
 name-before-spec =
     tie.close
-    (tie.spec
-    slice-aggregate-pass-name
-    pass-name-requires
-    slice-aggregate-pass-name-2
-    pass-name-requires-2
-    slice-aggregate-pass-name-3
-    pass-name-requires-3
-    slice-aggregate-pass-name-4
-    pass-name-requires-4
-    slice-aggregate-pass-name-5
-    pass-name-requires-5
-    slice-aggregate-pass-name-6
-    pass-name-requires-6
-    slice-aggregate-pass-name-7
-    pass-name-requires-7
-    slice-aggregate-pass-name-8
-    pass-name-requires-8
-    slice-aggregate-pass-name-9
-    pass-name-requires-9
-    slice-aggregate-pass-name-10
-    pass-name-requires-10
-    slice-aggregate-pass-name-11
-    pass-name-requires-11
-    slice-aggregate-pass-name-12
-    pass-name-requires-12
-    slice-aggregate-pass-name-13
-    pass-name-requires-13
-    slice-aggregate-pass-name-14
-    pass-name-requires-14
-    slice-aggregate-pass-name-15
-    pass-name-requires-15
-    returns
-    returns-2
-    returns-3
-    returns-4
-    returns-5
-    returns-6
-    returns-7
-    returns-8
-    returns-9
-    returns-10
-    returns-11
-    returns-12
-    returns-13
-    returns-14
-    returns-15
-    returns-16)
+    (tie.spec (λ c. search needs) (λ c κs. search needs) (λ c. search needs) (λ c κs. search needs) (λ c. search needs)
+    (λ c κs. search needs) (λ c. search needs) (λ c κs. search needs) (λ c. search needs) (λ c κs. search needs) (λ c. search needs)
+    (λ c κs. search needs) (λ c. search needs) (λ c κs. search needs) (λ c. search needs) (λ c κs. search needs) (λ c. search needs)
+    (λ c κs. search needs) (λ c. search needs) (λ c κs. search needs) (λ c. search needs) (λ c κs. search needs) (λ c. search needs)
+    (λ c κs. search needs) (λ c. search needs) (λ c κs. search needs) (λ c. search needs) (λ c κs. search needs) (λ c. search needs)
+    (λ c κs. search needs) returns returns-2 returns-3 returns-4 returns-5 returns-6 returns-7 returns-8 returns-9 returns-10 returns-11
+    returns-12 returns-13 returns-14 returns-15 returns-16)

@@ -6,12 +6,6 @@ use Rattle.setups.proofs.Filling.{number-missing, number-fits, number-u
 use Rattle.setups.proofs.number_at.Statement.{statement}
 use Rattle.setups.proofs.number_at.Tie as tie
 
-next-word-requires : tie.Need-next-word-requires
-next-word-requires c κs = search needs
-
-word-end-requires : tie.Need-word-end-requires
-word-end-requires c κs = search needs
-
 returns : tie.Need-returns
 returns c =
     let w = c .before in
@@ -23,12 +17,6 @@ worth-at-requires c κs =
     let w = c .before in
     let word = standing (w .before .before .before .args .s .now) (w .before .next-word .result) (w .word-end .result) (w .word-end .ensures) (c .if1 .left) in
     (word .some, word .within)
-
-enum-known-z : tie.Need-enum-known-z
-enum-known-z c = search needs
-
-enum-known-wrong : tie.Need-enum-known-wrong
-enum-known-wrong c = search needs
 
 returns-2 : tie.Need-returns-2
 returns-2 c =
@@ -45,12 +33,5 @@ returns-3 c =
 pub number-at-spec : {M : Type 1} → statement M
 number-at-spec =
     tie.close
-    (tie.spec
-    next-word-requires
-    word-end-requires
-    returns
-    worth-at-requires
-    enum-known-z
-    enum-known-wrong
-    returns-2
+    (tie.spec (λ c κs. search needs) (λ c κs. search needs) returns worth-at-requires (λ c. search needs) (λ c. search needs) returns-2
     returns-3)

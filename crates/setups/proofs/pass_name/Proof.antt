@@ -7,12 +7,6 @@ use Rattle.setups.proofs.Filling.{name-missing, name-passed, name-other
 use Rattle.setups.proofs.pass_name.Statement.{statement}
 use Rattle.setups.proofs.pass_name.Tie as tie
 
-next-word-requires : tie.Need-next-word-requires
-next-word-requires c κs = search needs
-
-word-end-requires : tie.Need-word-end-requires
-word-end-requires c κs = search needs
-
 returns : tie.Need-returns
 returns c =
     let w = c .before in
@@ -40,4 +34,4 @@ returns-3 c =
 pub pass-name-spec : {M : Type 1} → statement M
 pass-name-spec =
     tie.close
-    (tie.spec next-word-requires word-end-requires returns is-word-requires returns-2 returns-3)
+    (tie.spec (λ c κs. search needs) (λ c κs. search needs) returns is-word-requires returns-2 returns-3)

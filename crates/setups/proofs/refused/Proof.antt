@@ -4,15 +4,9 @@ use Rattle.setups.specs.Setups.{axesOf, setupOf, refused}
 use Rattle.setups.proofs.refused.Statement.{statement}
 use Rattle.setups.proofs.refused.Tie as tie
 
-zero-requires : tie.Need-zero-requires
-zero-requires c κs = search needs
-
-setup-of-requires : tie.Need-setup-of-requires
-setup-of-requires c κs = search needs
-
 returns : tie.Need-returns
 unfolding axesOf setupOf refused
 returns c = rw (c .setup-of .ensures, c .before .zero .ensures .is)
 
 pub refused-spec : {M : Type 1} → statement M
-refused-spec = tie.close (tie.spec zero-requires setup-of-requires returns)
+refused-spec = tie.close (tie.spec (λ c κs. search needs) (λ c κs. search needs) returns)

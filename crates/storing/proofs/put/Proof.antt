@@ -7,9 +7,6 @@ use Rattle.records.proofs.Written.{wrote-record}
 use Rattle.storing.proofs.put.Statement.{statement}
 use Rattle.storing.proofs.put.Tie as tie
 
-kind-of-requires : tie.Need-kind-of-requires
-kind-of-requires c κs = search needs
-
 put-mark-requires : tie.Need-put-mark-requires
 put-mark-requires c κs = omega (arith, mark-room (kindOf (c .before .before .before .args .r)))
 
@@ -17,9 +14,6 @@ put-body-requires : tie.Need-put-body-requires
 put-body-requires c κs =
     let mark = c .before .before .before in
     (omega (arith, mark-length (mark .before .kind-of .result)), mark .before .before .before .before .pre .1)
-
-same-length : tie.Need-same-length
-same-length c = search needs
 
 returns : tie.Need-returns
 returns c =
@@ -29,4 +23,5 @@ returns c =
 
 pub put-spec : {M : Type 1} → statement M
 put-spec =
-    tie.close (tie.spec kind-of-requires put-mark-requires put-body-requires same-length returns)
+    tie.close
+    (tie.spec (λ c κs. search needs) put-mark-requires put-body-requires (λ c. search needs) returns)

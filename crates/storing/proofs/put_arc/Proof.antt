@@ -7,15 +7,6 @@ use Rattle.records.proofs.Written.{wrote-then, wrote-cons, wrote-length}
 use Rattle.storing.proofs.put_arc.Statement.{statement}
 use Rattle.storing.proofs.put_arc.Tie as tie
 
-plane-byte-requires : tie.Need-plane-byte-requires
-plane-byte-requires c κs = search needs
-
-slice-write-list : tie.Need-slice-write-list
-slice-write-list c = search needs
-
-add-put-point : tie.Need-add-put-point
-add-put-point c = search needs
-
 put-point-requires : tie.Need-put-point-requires
 put-point-requires c κs =
     let s = c .before .before .before .before .pre .1 in
@@ -69,13 +60,5 @@ same-length c = wrote-length (returns c)
 pub put-arc-spec : {M : Type 1} → statement M
 put-arc-spec =
     tie.close
-    (tie.spec
-    plane-byte-requires
-    slice-write-list
-    add-put-point
-    put-point-requires
-    put-number-requires
-    put-number-requires-2
-    put-number-requires-3
-    same-length
-    returns)
+    (tie.spec (λ c κs. search needs) (λ c. search needs) (λ c. search needs) put-point-requires put-number-requires put-number-requires-2
+    put-number-requires-3 same-length returns)

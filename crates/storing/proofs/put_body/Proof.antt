@@ -6,15 +6,9 @@ use Rattle.records.proofs.Written.{wrote-then, wrote-none}
 use Rattle.storing.proofs.put_body.Statement.{statement}
 use Rattle.storing.proofs.put_body.Tie as tie
 
-enum-known-r : tie.Need-enum-known-r
-enum-known-r c = search needs
-
 put-point-requires : tie.Need-put-point-requires
 unfolding numbersOf
 put-point-requires c κs = let h = rw (c .before .before .r .given .1) at (c .before .before .before .before .before .pre) in (omega (arith, h .0), h .1)
-
-enum-known-r-2 : tie.Need-enum-known-r-2
-enum-known-r-2 c = search needs
 
 put-point-requires-2 : tie.Need-put-point-requires-2
 unfolding numbersOf
@@ -29,52 +23,25 @@ put-number-requires c κs =
     let h = rw (told .r2 .given .1) at (told .before .before .before .pre) in
     (omega (arith, h .0), h .1 .1 .1 .1 .0)
 
-enum-known-r-3 : tie.Need-enum-known-r-3
-enum-known-r-3 c = search needs
-
 put-arc-requires : tie.Need-put-arc-requires
 unfolding numbersOf
 put-arc-requires c κs = let h = rw (c .before .before .r3 .given .1) at (c .before .before .before .before .before .pre) in (omega (arith, h .0), h .1)
-
-enum-known-r-4 : tie.Need-enum-known-r-4
-enum-known-r-4 c = search needs
 
 put-arc-requires-2 : tie.Need-put-arc-requires-2
 unfolding numbersOf
 put-arc-requires-2 c κs = let h = rw (c .before .before .r4 .given .1) at (c .before .before .before .before .before .pre) in (omega (arith, h .0), h .1)
 
-enum-known-r-5 : tie.Need-enum-known-r-5
-enum-known-r-5 c = search needs
-
 put-number-requires-2 : tie.Need-put-number-requires-2
 unfolding numbersOf
 put-number-requires-2 c κs = let h = rw (c .before .before .r5 .given .1) at (c .before .before .before .before .before .pre) in (omega (arith, h .0), h .1 .0)
-
-enum-known-r-6 : tie.Need-enum-known-r-6
-enum-known-r-6 c = search needs
 
 put-number-requires-3 : tie.Need-put-number-requires-3
 unfolding numbersOf
 put-number-requires-3 c κs = let h = rw (c .before .before .r6 .given .1) at (c .before .before .before .before .before .pre) in (omega (arith, h .0), h .1 .0)
 
-enum-told : tie.Need-enum-told
-enum-told c = search needs
-
-enum-told-2 : tie.Need-enum-told-2
-enum-told-2 c = search needs
-
-enum-told-3 : tie.Need-enum-told-3
-enum-told-3 c = search needs
-
-same-length : tie.Need-same-length
-same-length c = search needs
-
 returns : tie.Need-returns
 unfolding planeBytes numbersOf numberBytes planeOf
 returns c = rw (c .before .before .before .before .before .r .given .1) (c .before .before .put-point .ensures)
-
-same-length-2 : tie.Need-same-length-2
-same-length-2 c = search needs
 
 returns-2 : tie.Need-returns-2
 unfolding planeBytes numbersOf numberBytes planeOf
@@ -82,29 +49,17 @@ returns-2 c =
     let point = c .before .before .before .before .before .before in
     rw (point .before .before .before .r2 .given .1) (wrote-then (point .put-point2 .ensures) (c .before .before .put-number .ensures))
 
-same-length-3 : tie.Need-same-length-3
-same-length-3 c = search needs
-
 returns-3 : tie.Need-returns-3
 unfolding planeBytes numbersOf numberBytes planeOf
 returns-3 c = rw (c .before .before .before .before .before .r3 .given .1) (c .before .before .put-arc .ensures)
-
-same-length-4 : tie.Need-same-length-4
-same-length-4 c = search needs
 
 returns-4 : tie.Need-returns-4
 unfolding planeBytes numbersOf numberBytes planeOf
 returns-4 c = rw (c .before .before .before .before .before .r4 .given .1) (c .before .before .put-arc2 .ensures)
 
-same-length-5 : tie.Need-same-length-5
-same-length-5 c = search needs
-
 returns-5 : tie.Need-returns-5
 unfolding planeBytes numbersOf numberBytes planeOf
 returns-5 c = rw (c .before .before .before .before .before .r5 .given .1) (c .before .before .put-number2 .ensures)
-
-same-length-6 : tie.Need-same-length-6
-same-length-6 c = search needs
 
 returns-6 : tie.Need-returns-6
 unfolding planeBytes numbersOf numberBytes planeOf
@@ -125,35 +80,8 @@ returns-9 c = rw (c .enum-told3 .given .1) (wrote-none (c .before .before .befor
 pub put-body-spec : {M : Type 1} → statement M
 put-body-spec =
     tie.close
-    (tie.spec
-    enum-known-r
-    put-point-requires
-    enum-known-r-2
-    put-point-requires-2
-    put-number-requires
-    enum-known-r-3
-    put-arc-requires
-    enum-known-r-4
-    put-arc-requires-2
-    enum-known-r-5
-    put-number-requires-2
-    enum-known-r-6
-    put-number-requires-3
-    enum-told
-    enum-told-2
-    enum-told-3
-    same-length
-    returns
-    same-length-2
-    returns-2
-    same-length-3
-    returns-3
-    same-length-4
-    returns-4
-    same-length-5
-    returns-5
-    same-length-6
-    returns-6
-    returns-7
-    returns-8
-    returns-9)
+    (tie.spec (λ c. search needs) put-point-requires (λ c. search needs) put-point-requires-2 put-number-requires (λ c. search needs)
+    put-arc-requires (λ c. search needs) put-arc-requires-2 (λ c. search needs) put-number-requires-2 (λ c. search needs)
+    put-number-requires-3 (λ c. search needs) (λ c. search needs) (λ c. search needs) (λ c. search needs) returns (λ c. search needs)
+    returns-2 (λ c. search needs) returns-3 (λ c. search needs) returns-4 (λ c. search needs) returns-5 (λ c. search needs) returns-6
+    returns-7 returns-8 returns-9)

@@ -6,9 +6,6 @@ use Rattle.records.proofs.Written.{wrote-then}
 use Rattle.storing.proofs.put_point.Statement.{statement}
 use Rattle.storing.proofs.put_point.Tie as tie
 
-put-number-requires : tie.Need-put-number-requires
-put-number-requires c κs = search needs
-
 put-number-requires-2 : tie.Need-put-number-requires-2
 unfolding numberBytes
 put-number-requires-2 c κs = (omega arith, c .before .before .before .before .before .before .pre .1 .1 .0)
@@ -18,9 +15,6 @@ unfolding numberBytes
 put-number-requires-3 c κs =
     let x = c .before .before .before .before .before .before .before in
     (omega arith, x .before .before .before .pre .1 .1 .1 .0)
-
-same-length : tie.Need-same-length
-same-length c = search needs
 
 returns : tie.Need-returns
 unfolding numberBytes
@@ -33,4 +27,4 @@ returns c =
 pub put-point-spec : {M : Type 1} → statement M
 put-point-spec =
     tie.close
-    (tie.spec put-number-requires put-number-requires-2 put-number-requires-3 same-length returns)
+    (tie.spec (λ c κs. search needs) put-number-requires-2 put-number-requires-3 (λ c. search needs) returns)

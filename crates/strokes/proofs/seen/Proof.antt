@@ -4,12 +4,6 @@ use Rattle.strokes.specs.Strokes.{seenFrom}
 use Rattle.strokes.proofs.seen.Statement.{statement}
 use Rattle.strokes.proofs.seen.Tie as tie
 
-enum-told : tie.Need-enum-told
-enum-told c = search needs
-
-enum-told-2 : tie.Need-enum-told-2
-enum-told-2 c = search needs
-
 returns : tie.Need-returns
 unfolding seenFrom
 returns c =
@@ -21,4 +15,4 @@ returns-2 c =
     rw (c .enum-told2 .given .1)
 
 pub seen-spec : {M : Type 1} → statement M
-seen-spec = tie.close (tie.spec enum-told enum-told-2 returns returns-2)
+seen-spec = tie.close (tie.spec (λ c. search needs) (λ c. search needs) returns returns-2)

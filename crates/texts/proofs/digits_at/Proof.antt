@@ -17,9 +17,6 @@ returns c =
     let a = c .before in
     no-digits (a .args .s .now) (a .args .from) (a .args .end) (a .pre .1) (c .if1 .taken)
 
-sub-if2 : tie.Need-sub-if2 Inv-loop μ-loop
-sub-if2 c = search needs
-
 returns-2 : tie.Need-returns-2 Inv-loop μ-loop
 returns-2 c =
     let a = c .before .before in
@@ -29,9 +26,6 @@ loop-holds : tie.Need-loop-holds Inv-loop μ-loop
 loop-holds c =
     let a = c .before .before in
     none-counted (a .args .s .now) (a .args .from) (a .args .end) (a .pre .1) (a .pre .0) (c .before .if1 .left) (omega arith)
-
-shared-slice-read-b : tie.Need-shared-slice-read-b Inv-loop μ-loop
-shared-slice-read-b c = search needs
 
 returns-3 : tie.Need-returns-3 Inv-loop μ-loop
 returns-3 c =
@@ -51,20 +45,11 @@ mul-value c =
     let a = d .before .before .before in
     omega (arith, small (a .args .s .now) (a .args .from) (a .args .end) (a .pre .1) (d .loop .value) (d .loop .i) (d .loop .inv) (omega arith) (omega arith))
 
-cast-value : tie.Need-cast-value Inv-loop μ-loop
-cast-value c = search needs
-
 add-value : tie.Need-add-value Inv-loop μ-loop
 add-value c =
     let d = c .before .before .before .before in
     let a = d .before .before .before in
     omega (arith, small (a .args .s .now) (a .args .from) (a .args .end) (a .pre .1) (d .loop .value) (d .loop .i) (d .loop .inv) (omega arith) (omega arith))
-
-add-i : tie.Need-add-i Inv-loop μ-loop
-add-i c = search needs
-
-loop-less : tie.Need-loop-less Inv-loop μ-loop
-loop-less c = search needs
 
 loop-again : tie.Need-loop-again Inv-loop μ-loop
 loop-again c =
@@ -81,20 +66,5 @@ returns-5 c =
 pub digits-at-spec : {M : Type 1} → statement M
 digits-at-spec =
     tie.close
-    (tie.spec
-    Inv-loop
-    μ-loop
-    returns
-    sub-if2
-    returns-2
-    loop-holds
-    shared-slice-read-b
-    returns-3
-    returns-4
-    mul-value
-    cast-value
-    add-value
-    add-i
-    loop-less
-    loop-again
-    returns-5)
+    (tie.spec Inv-loop μ-loop returns (λ c. search needs) returns-2 loop-holds (λ c. search needs) returns-3 returns-4 mul-value
+    (λ c. search needs) add-value (λ c. search needs) (λ c. search needs) loop-again returns-5)

@@ -3,11 +3,8 @@ use borrow.Author.Needs.{needs}
 use Rattle.texts.proofs.in_word.Statement.{statement}
 use Rattle.texts.proofs.in_word.Tie as tie
 
-is-blank-requires : tie.Need-is-blank-requires
-is-blank-requires c κs = search needs
-
 returns : tie.Need-returns
 returns c = rw (c .is-blank .ensures)
 
 pub in-word-spec : {M : Type 1} → statement M
-in-word-spec = tie.close (tie.spec is-blank-requires returns)
+in-word-spec = tie.close (tie.spec (λ c κs. search needs) returns)

@@ -9,19 +9,10 @@ use Rattle.texts.specs.declared.Worth.the-variants.{Fit}
 use Rattle.texts.proofs.negative.Statement.{statement}
 use Rattle.texts.proofs.negative.Tie as tie
 
-of-count-requires : tie.Need-of-count-requires
-of-count-requires c κs = search needs
-
-negated-requires : tie.Need-negated-requires
-negated-requires c κs = search needs
-
 returns : tie.Need-returns
 unfolding fitted largest signed
 returns c =
     rw (le-leb (c .before .before .before .args .n) 9223372036854775808 (omega arith)) (ap Fit (c .negated .ensures .is ∙ rw (c .before .of-count .ensures .is)))
-
-of-requires : tie.Need-of-requires
-of-requires c κs = search needs
 
 returns-2 : tie.Need-returns-2
 unfolding fitted largest signed
@@ -35,4 +26,5 @@ returns-3 c =
 
 pub negative-spec : {M : Type 1} → statement M
 negative-spec =
-    tie.close (tie.spec of-count-requires negated-requires returns of-requires returns-2 returns-3)
+    tie.close
+    (tie.spec (λ c κs. search needs) (λ c κs. search needs) returns (λ c κs. search needs) returns-2 returns-3)

@@ -19,28 +19,10 @@ loop-holds : tie.Need-loop-holds Inv-loop μ-loop
 unfolding next
 loop-holds c = refl
 
-shared-slice-read-space-of : tie.Need-shared-slice-read-space-of Inv-loop μ-loop
-shared-slice-read-space-of c = search needs
-
-space-of-requires : tie.Need-space-of-requires Inv-loop μ-loop
-space-of-requires c κs = search needs
-
-enum-known-after : tie.Need-enum-known-after Inv-loop μ-loop
-enum-known-after c = search needs
-
-enum-told : tie.Need-enum-told Inv-loop μ-loop
-enum-told c = search needs
-
 returns : tie.Need-returns Inv-loop μ-loop
 returns c =
     let d = c .before .before .before .before .before in
     omega (arith, d .loop .inv, gap-over (d .before .before .args .s .now) (d .loop .inside) (d .loop .i) (omega arith) (sym (c .before .before .space-of .ensures) ∙ c .enum-told .given .1))
-
-add-i : tie.Need-add-i Inv-loop μ-loop
-add-i c = search needs
-
-loop-less : tie.Need-loop-less Inv-loop μ-loop
-loop-less c = search needs
 
 loop-again : tie.Need-loop-again Inv-loop μ-loop
 loop-again c =
@@ -55,16 +37,5 @@ returns-2 c =
 pub next-word-spec : {M : Type 1} → statement M
 next-word-spec =
     tie.close
-    (tie.spec
-    Inv-loop
-    μ-loop
-    loop-holds
-    shared-slice-read-space-of
-    space-of-requires
-    enum-known-after
-    enum-told
-    returns
-    add-i
-    loop-less
-    loop-again
-    returns-2)
+    (tie.spec Inv-loop μ-loop loop-holds (λ c. search needs) (λ c κs. search needs) (λ c. search needs) (λ c. search needs) returns
+    (λ c. search needs) (λ c. search needs) loop-again returns-2)

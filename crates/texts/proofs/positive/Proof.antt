@@ -9,9 +9,6 @@ use Rattle.texts.specs.declared.Worth.the-variants.{Fit}
 use Rattle.texts.proofs.positive.Statement.{statement}
 use Rattle.texts.proofs.positive.Tie as tie
 
-of-count-requires : tie.Need-of-count-requires
-of-count-requires c κs = search needs
-
 returns : tie.Need-returns
 unfolding fitted largest signed
 returns c =
@@ -23,4 +20,4 @@ returns-2 c =
     rw (lt-leb (c .before .args .n) 9223372036854775807 (c .if1 .left))
 
 pub positive-spec : {M : Type 1} → statement M
-positive-spec = tie.close (tie.spec of-count-requires returns returns-2)
+positive-spec = tie.close (tie.spec (λ c κs. search needs) returns returns-2)

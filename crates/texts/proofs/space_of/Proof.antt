@@ -14,9 +14,6 @@ returns-2 : tie.Need-returns-2
 unfolding spaceOf
 returns-2 c = rw (c .before .if1 .left, c .if2 .taken)
 
-is-blank-requires : tie.Need-is-blank-requires
-is-blank-requires c κs = search needs
-
 returns-3 : tie.Need-returns-3
 unfolding spaceOf
 returns-3 c =
@@ -30,4 +27,4 @@ returns-4 c =
     rw (c .before .before .before .if1 .left, ne-eqb _ 35 h, sym (c .before .is-blank .ensures) ∙ c .if3 .left)
 
 pub space-of-spec : {M : Type 1} → statement M
-space-of-spec = tie.close (tie.spec returns returns-2 is-blank-requires returns-3 returns-4)
+space-of-spec = tie.close (tie.spec returns returns-2 (λ c κs. search needs) returns-3 returns-4)

@@ -20,24 +20,12 @@ abbrev μ-loop : tie.MeasureT-loop
 loop-holds : tie.Need-loop-holds Inv-loop μ-loop
 loop-holds c = refl
 
-shared-slice-read-in-word : tie.Need-shared-slice-read-in-word Inv-loop μ-loop
-shared-slice-read-in-word c = search needs
-
-in-word-requires : tie.Need-in-word-requires Inv-loop μ-loop
-in-word-requires c κs = search needs
-
 returns : tie.Need-returns Inv-loop μ-loop
 returns c =
     let d = c .before .before .before .before in
     let s = d .before .before .args .s .now in
     let e : inWord (getD s (d .loop .i) 0) ≡ false = sym (c .before .in-word .ensures) ∙ not-true _ (c .if1 .taken) in
     omega (arith, d .loop .inv, word-over s (d .loop .i) (omega arith) e)
-
-add-i : tie.Need-add-i Inv-loop μ-loop
-add-i c = search needs
-
-loop-less : tie.Need-loop-less Inv-loop μ-loop
-loop-less c = search needs
 
 loop-again : tie.Need-loop-again Inv-loop μ-loop
 loop-again c =
@@ -54,14 +42,5 @@ returns-2 c =
 pub word-end-spec : {M : Type 1} → statement M
 word-end-spec =
     tie.close
-    (tie.spec
-    Inv-loop
-    μ-loop
-    loop-holds
-    shared-slice-read-in-word
-    in-word-requires
-    returns
-    add-i
-    loop-less
-    loop-again
-    returns-2)
+    (tie.spec Inv-loop μ-loop loop-holds (λ c. search needs) (λ c κs. search needs) returns (λ c. search needs) (λ c. search needs)
+    loop-again returns-2)

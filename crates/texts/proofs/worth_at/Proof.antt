@@ -47,15 +47,6 @@ by-parts c =
     (c .before .sign-length .ensures)
     (c .digits-at .ensures)
 
-shared-slice-read-sign-of : tie.Need-shared-slice-read-sign-of
-shared-slice-read-sign-of c = search needs
-
-sign-of-requires : tie.Need-sign-of-requires
-sign-of-requires c κs = search needs
-
-sign-length-requires : tie.Need-sign-length-requires
-sign-length-requires c κs = search needs
-
 add-digits-at : tie.Need-add-digits-at
 add-digits-at c = omega (arith, sign-most (c .before .sign-of .result))
 
@@ -63,34 +54,10 @@ digits-at-requires : tie.Need-digits-at-requires
 digits-at-requires c κs =
     (omega (arith, sign-most (c .before .sign-of .result)), c .before .before .before .before .pre .1)
 
-enum-known-n : tie.Need-enum-known-n
-enum-known-n c = search needs
-
-enum-told : tie.Need-enum-told
-enum-told c = search needs
-
 returns : tie.Need-returns
 returns c =
     let d = c .before .before in
     worth-none (d .before .before .sign-of .result) (d .digits-at .result) (c .enum-told .given .1) ∙ by-parts d
-
-enum-told-2 : tie.Need-enum-told-2
-enum-told-2 c = search needs
-
-positive-requires : tie.Need-positive-requires
-positive-requires c κs = search needs
-
-enum-told-3 : tie.Need-enum-told-3
-enum-told-3 c = search needs
-
-positive-requires-2 : tie.Need-positive-requires-2
-positive-requires-2 c κs = search needs
-
-enum-told-4 : tie.Need-enum-told-4
-enum-told-4 c = search needs
-
-negative-requires : tie.Need-negative-requires
-negative-requires c κs = search needs
 
 returns-2 : tie.Need-returns-2
 returns-2 c =
@@ -110,21 +77,6 @@ returns-4 c =
 pub worth-at-spec : {M : Type 1} → statement M
 worth-at-spec =
     tie.close
-    (tie.spec
-    shared-slice-read-sign-of
-    sign-of-requires
-    sign-length-requires
-    add-digits-at
-    digits-at-requires
-    enum-known-n
-    enum-told
-    returns
-    enum-told-2
-    positive-requires
-    enum-told-3
-    positive-requires-2
-    enum-told-4
-    negative-requires
-    returns-2
-    returns-3
-    returns-4)
+    (tie.spec (λ c. search needs) (λ c κs. search needs) (λ c κs. search needs) add-digits-at digits-at-requires (λ c. search needs)
+    (λ c. search needs) returns (λ c. search needs) (λ c κs. search needs) (λ c. search needs) (λ c κs. search needs) (λ c. search needs)
+    (λ c κs. search needs) returns-2 returns-3 returns-4)

@@ -4,13 +4,10 @@ use Rattle.turning.specs.Turns.{near}
 use Rattle.turning.proofs.is_near.Statement.{statement}
 use Rattle.turning.proofs.is_near.Tie as tie
 
-apart-requires : tie.Need-apart-requires
-apart-requires c κs = search needs
-
 returns : tie.Need-returns
 unfolding near
 returns c =
     rw (c .apart .ensures .is)
 
 pub is-near-spec : {M : Type 1} → statement M
-is-near-spec = tie.close (tie.spec apart-requires returns)
+is-near-spec = tie.close (tie.spec (λ c κs. search needs) returns)

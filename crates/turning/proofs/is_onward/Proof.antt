@@ -4,16 +4,10 @@ use Rattle.turning.specs.Turns.{onward}
 use Rattle.turning.proofs.is_onward.Statement.{statement}
 use Rattle.turning.proofs.is_onward.Tie as tie
 
-is-left-requires : tie.Need-is-left-requires
-is-left-requires c κs = search needs
-
 returns : tie.Need-returns
 unfolding onward
 returns c =
     rw (c .before .if1 .taken, c .is-left .ensures)
-
-is-left-requires-2 : tie.Need-is-left-requires-2
-is-left-requires-2 c κs = search needs
 
 returns-2 : tie.Need-returns-2
 unfolding onward
@@ -21,4 +15,6 @@ returns-2 c =
     rw (c .before .if1 .left, c .is-left2 .ensures)
 
 pub is-onward-spec : {M : Type 1} → statement M
-is-onward-spec = tie.close (tie.spec is-left-requires returns is-left-requires-2 returns-2)
+is-onward-spec =
+    tie.close
+    (tie.spec (λ c κs. search needs) returns (λ c κs. search needs) returns-2)

@@ -4,15 +4,6 @@ use Rattle.turning.specs.Turns.{soon}
 use Rattle.turning.proofs.is_soon.Statement.{statement}
 use Rattle.turning.proofs.is_soon.Tie as tie
 
-is-onward-requires : tie.Need-is-onward-requires
-is-onward-requires c κs = search needs
-
-quarter-on-requires : tie.Need-quarter-on-requires
-quarter-on-requires c κs = search needs
-
-is-onward-requires-2 : tie.Need-is-onward-requires-2
-is-onward-requires-2 c κs = search needs
-
 returns : tie.Need-returns
 unfolding soon
 returns c =
@@ -20,4 +11,5 @@ returns c =
 
 pub is-soon-spec : {M : Type 1} → statement M
 is-soon-spec =
-    tie.close (tie.spec is-onward-requires quarter-on-requires is-onward-requires-2 returns)
+    tie.close
+    (tie.spec (λ c κs. search needs) (λ c κs. search needs) (λ c κs. search needs) returns)

@@ -4,21 +4,6 @@ use Rattle.turning.specs.Turns.{lifted, pointOn}
 use Rattle.turning.proofs.point_on.Statement.{statement}
 use Rattle.turning.proofs.point_on.Tie as tie
 
-plus-requires : tie.Need-plus-requires
-plus-requires c κs = search needs
-
-plus-requires-2 : tie.Need-plus-requires-2
-plus-requires-2 c κs = search needs
-
-enum-told : tie.Need-enum-told
-enum-told c = search needs
-
-enum-told-2 : tie.Need-enum-told-2
-enum-told-2 c = search needs
-
-enum-told-3 : tie.Need-enum-told-3
-enum-told-3 c = search needs
-
 returns : tie.Need-returns
 unfolding lifted pointOn
 returns c =
@@ -37,12 +22,5 @@ returns-3 c =
 pub point-on-spec : {M : Type 1} → statement M
 point-on-spec =
     tie.close
-    (tie.spec
-    plus-requires
-    plus-requires-2
-    enum-told
-    enum-told-2
-    enum-told-3
-    returns
-    returns-2
+    (tie.spec (λ c κs. search needs) (λ c κs. search needs) (λ c. search needs) (λ c. search needs) (λ c. search needs) returns returns-2
     returns-3)

@@ -5,16 +5,10 @@ use Rattle.turning.specs.Turns.{quarterOn}
 use Rattle.turning.proofs.quarter_on.Statement.{statement}
 use Rattle.turning.proofs.quarter_on.Tie as tie
 
-negated-requires : tie.Need-negated-requires
-negated-requires c κs = search needs
-
 returns : tie.Need-returns
 unfolding quarterOn
 returns c =
     (rw (c .before .if1 .taken, c .negated .ensures .is), record { first = omega arith; second = omega arith })
-
-negated-requires-2 : tie.Need-negated-requires-2
-negated-requires-2 c κs = search needs
 
 returns-2 : tie.Need-returns-2
 unfolding quarterOn
@@ -22,4 +16,6 @@ returns-2 c =
     (rw (c .before .if1 .left, c .negated2 .ensures .is), record { first = omega arith; second = omega arith })
 
 pub quarter-on-spec : {M : Type 1} → statement M
-quarter-on-spec = tie.close (tie.spec negated-requires returns negated-requires-2 returns-2)
+quarter-on-spec =
+    tie.close
+    (tie.spec (λ c κs. search needs) returns (λ c κs. search needs) returns-2)

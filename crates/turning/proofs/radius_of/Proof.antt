@@ -8,18 +8,9 @@ use Rattle.turning.proofs.Turned.{radius-most}
 use Rattle.turning.proofs.radius_of.Statement.{statement}
 use Rattle.turning.proofs.radius_of.Tie as tie
 
-centre-of-requires : tie.Need-centre-of-requires
-centre-of-requires c κs = search needs
-
-in-plane-requires : tie.Need-in-plane-requires
-in-plane-requires c κs = search needs
-
 squared-distance-requires : tie.Need-squared-distance-requires
 squared-distance-requires c κs =
     rw (c .in-plane .ensures, c .before .centre-of .ensures) (omega arith)
-
-root-of-requires : tie.Need-root-of-requires
-root-of-requires c κs = search needs
 
 returns : tie.Need-returns
 unfolding radiusOf radius²
@@ -31,9 +22,4 @@ returns c =
 pub radius-of-spec : {M : Type 1} → statement M
 radius-of-spec =
     tie.close
-    (tie.spec
-    centre-of-requires
-    in-plane-requires
-    squared-distance-requires
-    root-of-requires
-    returns)
+    (tie.spec (λ c κs. search needs) (λ c κs. search needs) squared-distance-requires (λ c κs. search needs) returns)

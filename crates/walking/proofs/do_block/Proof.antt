@@ -41,12 +41,5 @@ returns-2 c =
 pub do-block-spec : {M : Type 1} → statement M
 do-block-spec =
     tie.close
-    (tie.spec
-    (λ c κs. search needs)
-    (λ c κs. search needs)
-    (λ c κs. search needs)
-    returns
-    (λ c. search needs)
-    execute-requires
-    (λ c. search needs)
-    returns-2)
+    (tie.spec (λ c κs. search needs) (λ c κs. search needs) (λ c κs. search needs) returns (λ c. search needs) execute-requires
+    (λ c. search needs) returns-2)

@@ -53,13 +53,5 @@ returns-2 c =
 pub execute-spec : {M : Type 1} → statement M
 execute-spec =
     tie.close
-    (tie.spec
-    exec-requires
-    (λ c. search needs)
-    (λ c. search needs)
-    progress-by-requires
-    turn-requires
-    (λ c. search needs)
-    returns
-    (λ c. search needs)
-    returns-2)
+    (tie.spec exec-requires (λ c. search needs) (λ c. search needs) progress-by-requires turn-requires (λ c. search needs) returns
+    (λ c. search needs) returns-2)

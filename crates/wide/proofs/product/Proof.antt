@@ -31,27 +31,10 @@ add-high c = omega (arith, bounds c)
 add-high-2 : tie.Need-add-high-2
 add-high-2 c = omega (arith, bounds c)
 
-mul-low : tie.Need-mul-low
-mul-low c = omega arith
-
-add-low : tie.Need-add-low
-add-low c = omega arith
-
 returns : tie.Need-returns
 returns c = omega (arith, four-products (c .args .a) (c .args .b))
 
 pub product-spec : {M : Type 1} → statement M
 product-spec =
     tie.close
-    (tie.spec
-    mul-first
-    mul-second
-    add-second
-    mul-third
-    add-third
-    mul-high
-    add-high
-    add-high-2
-    mul-low
-    add-low
-    returns)
+    (tie.spec mul-first mul-second add-second mul-third add-third mul-high add-high add-high-2 (λ c. omega arith) (λ c. omega arith) returns)

@@ -5,8 +5,4 @@ use Rattle.words.proofs.checked.Tie as tie
 
 pub checked-spec : {M : Type 1} → statement M
 unfolding checked
-checked-spec =
-    tie.close
-    (tie.spec
-    (λ c. rw (c .if1 .taken))
-    (λ c. rw (c .if1 .left)))
+checked-spec = tie.close (tie.spec (λ c. rw (c .if1 .taken)) (λ c. rw (c .if1 .left)))

@@ -6,8 +6,5 @@ use Rattle.words.proofs.label_value.Tie as tie
 pub label-value-spec : {M : Type 1} → statement M
 label-value-spec =
     tie.close
-    (tie.spec
-    (λ c κs. search needs)
-    (λ c κs. search needs)
-    (λ c κs. search needs)
+    (tie.spec (λ c κs. search needs) (λ c κs. search needs) (λ c κs. search needs)
     (λ c. rw (c .checked .ensures, c .before .of-count .ensures .is, c .before .before .is-plain .ensures)))

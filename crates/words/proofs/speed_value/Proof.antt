@@ -6,18 +6,5 @@ use Rattle.words.proofs.speed_value.Tie as tie
 pub speed-value-spec : {M : Type 1} → statement M
 speed-value-spec =
     tie.close
-    (tie.spec
-    (λ c κs. search needs)
-    (λ c κs. search needs)
-    (λ c κs. search needs)
-    (λ c κs. search needs)
-    (λ c κs. search needs)
-    (λ c.
-    let plain = c .before .before .before in
-    rw (
-      c .checked .ensures,
-      c .before .at-most2 .ensures,
-      c .before .before .at-most .ensures,
-      plain .is-plain .ensures,
-      plain .before .of-count .ensures .is,
-    )))
+    (tie.spec (λ c κs. search needs) (λ c κs. search needs) (λ c κs. search needs) (λ c κs. search needs) (λ c κs. search needs)
+    (λ c. let plain = c .before .before .before in rw (c .checked .ensures, c .before .at-most2 .ensures, c .before .before .at-most .ensures, plain .is-plain .ensures, plain .before .of-count .ensures .is)))

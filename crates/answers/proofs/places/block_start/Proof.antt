@@ -15,19 +15,10 @@ abbrev μ-loop : tie.MeasureT-loop
 loop-holds : tie.Need-loop-holds Inv-loop μ-loop
 loop-holds c = (search needs, none-yet (c .args .s .now) (c .args .at))
 
-sub-before : tie.Need-sub-before Inv-loop μ-loop
-sub-before c = search needs
-
-shared-slice-read-if1 : tie.Need-shared-slice-read-if1 Inv-loop μ-loop
-shared-slice-read-if1 c = search needs
-
 returns : tie.Need-returns Inv-loop μ-loop
 returns c =
     let d = c .before .before .before in
     at-lf (d .before .args .s .now) (d .before .args .at) (d .loop .from) (d .loop .from - 1) (omega arith) (omega arith) (d .loop .inv .1) (c .if1 .taken)
-
-loop-less : tie.Need-loop-less Inv-loop μ-loop
-loop-less c = search needs
 
 loop-again : tie.Need-loop-again Inv-loop μ-loop
 loop-again c =
@@ -42,13 +33,4 @@ returns-2 c =
 pub block-start-spec : {M : Type 1} → statement M
 block-start-spec =
     tie.close
-    (tie.spec
-    Inv-loop
-    μ-loop
-    loop-holds
-    sub-before
-    shared-slice-read-if1
-    returns
-    loop-less
-    loop-again
-    returns-2)
+    (tie.spec Inv-loop μ-loop loop-holds (λ c. search needs) (λ c. search needs) returns (λ c. search needs) loop-again returns-2)

@@ -16,12 +16,6 @@ Inv-loop s from i₀ i = (i ≤ length s) × (from + length (textFrom (drop from
 abbrev μ-loop : tie.MeasureT-loop
 μ-loop s from i₀ i = length s - i
 
-loop-holds : tie.Need-loop-holds Inv-loop μ-loop
-loop-holds c = search needs
-
-text-ends-requires : tie.Need-text-ends-requires Inv-loop μ-loop
-text-ends-requires c κs = search needs
-
 add-i : tie.Need-add-i Inv-loop μ-loop
 add-i c =
     let d = c .before .before in
@@ -47,4 +41,4 @@ returns c =
 pub text-end-spec : {M : Type 1} → statement M
 text-end-spec =
     tie.close
-    (tie.spec Inv-loop μ-loop loop-holds text-ends-requires add-i loop-less loop-again returns)
+    (tie.spec Inv-loop μ-loop (λ c. search needs) (λ c κs. search needs) add-i loop-less loop-again returns)

@@ -14,8 +14,4 @@ returns-2 c = c .no-options2 .ensures ∙ first-unlisted (c .before .before .arg
 pub first-options-spec : {M : Type 1} → statement M
 first-options-spec =
     tie.close
-    (tie.spec
-    (λ c κs. search needs)
-    returns
-    (λ c κs. search needs)
-    returns-2)
+    (tie.spec (λ c κs. search needs) returns (λ c κs. search needs) returns-2)

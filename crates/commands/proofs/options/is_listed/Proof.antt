@@ -24,10 +24,4 @@ returns-3 c =
 pub is-listed-spec : {M : Type 1} → statement M
 is-listed-spec =
     tie.close
-    (tie.spec
-    returns
-    (λ c κs. search needs)
-    returns-2
-    (λ c. search needs)
-    (λ c κs. search needs)
-    returns-3)
+    (tie.spec returns (λ c κs. search needs) returns-2 (λ c. search needs) (λ c κs. search needs) returns-3)

@@ -37,11 +37,5 @@ returns c =
 pub options-of-spec : {M : Type 1} → statement M
 options-of-spec =
     tie.close
-    (tie.spec
-    (λ c κs. search needs)
-    (λ c κs. search needs)
-    with-next-requires
-    with-next-requires-2
-    with-next-requires-3
-    (λ c κs. search needs)
-    returns)
+    (tie.spec (λ c κs. search needs) (λ c κs. search needs) with-next-requires with-next-requires-2 with-next-requires-3
+    (λ c κs. search needs) returns)

@@ -23,10 +23,4 @@ returns-3 c =
 pub with-no-more-spec : {M : Type 1} → statement M
 with-no-more-spec =
     tie.close
-    (tie.spec
-    returns
-    returns-2
-    (λ c κs. search needs)
-    (λ c. search needs)
-    (λ c κs. search needs)
-    returns-3)
+    (tie.spec returns returns-2 (λ c κs. search needs) (λ c. search needs) (λ c κs. search needs) returns-3)

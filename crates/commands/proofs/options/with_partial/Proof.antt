@@ -15,10 +15,4 @@ returns-2 c = partial-once (c .before .before .args .options) (c .before .if1 .l
 pub with-partial-spec : {M : Type 1} → statement M
 with-partial-spec =
     tie.close
-    (tie.spec
-    (λ c. search needs)
-    (λ c. search needs)
-    (λ c κs. search needs)
-    returns
-    (λ c. search needs)
-    returns-2)
+    (tie.spec (λ c. search needs) (λ c. search needs) (λ c κs. search needs) returns (λ c. search needs) returns-2)

@@ -6,15 +6,6 @@ use Rattle.lengths.proofs.Laws.{abs-sum, diff-bal}
 use Rattle.lengths.proofs.Len.apart.Statement.{statement}
 use Rattle.lengths.proofs.Len.apart.Tie as tie
 
-key-requires : tie.Need-key-requires
-key-requires c κs = search needs
-
-key-requires-2 : tie.Need-key-requires-2
-key-requires-2 c κs = search needs
-
-sub-result : tie.Need-sub-result
-sub-result c = search needs
-
 returns : tie.Need-returns
 returns c =
     let a = c .before .before .before .args .self .v in
@@ -28,4 +19,6 @@ returns-2 c =
     omega (arith, abs-sum (a -ℤ b), diff-bal a b)
 
 pub apart-spec : {M : Type 1} → statement M
-apart-spec = tie.close (tie.spec key-requires key-requires-2 sub-result returns returns-2)
+apart-spec =
+    tie.close
+    (tie.spec (λ c κs. search needs) (λ c κs. search needs) (λ c. search needs) returns returns-2)

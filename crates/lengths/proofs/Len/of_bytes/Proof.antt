@@ -12,30 +12,6 @@ use Rattle.lengths.proofs.Four.{word, of-low, of-high, four-read}
 use Rattle.lengths.proofs.Len.of_bytes.Statement.{statement}
 use Rattle.lengths.proofs.Len.of_bytes.Tie as tie
 
-mul-n : tie.Need-mul-n
-mul-n c = search needs
-
-add-n : tie.Need-add-n
-add-n c = search needs
-
-mul-n-2 : tie.Need-mul-n-2
-mul-n-2 c = search needs
-
-add-n-2 : tie.Need-add-n-2
-add-n-2 c = search needs
-
-mul-n-3 : tie.Need-mul-n-3
-mul-n-3 c = search needs
-
-add-n-3 : tie.Need-add-n-3
-add-n-3 c = search needs
-
-cast-t17 : tie.Need-cast-t17
-cast-t17 c = search needs
-
-cast-t18 : tie.Need-cast-t18
-cast-t18 c = search needs
-
 sub-t19 : tie.Need-sub-t19
 sub-t19 c =
     let x = c .before .args in
@@ -61,15 +37,5 @@ returns-2 c =
 pub of-bytes-spec : {M : Type 1} → statement M
 of-bytes-spec =
     tie.close
-    (tie.spec
-    mul-n
-    add-n
-    mul-n-2
-    add-n-2
-    mul-n-3
-    add-n-3
-    cast-t17
-    cast-t18
-    sub-t19
-    returns
-    returns-2)
+    (tie.spec (λ c. search needs) (λ c. search needs) (λ c. search needs) (λ c. search needs) (λ c. search needs) (λ c. search needs)
+    (λ c. search needs) (λ c. search needs) sub-t19 returns returns-2)

@@ -9,12 +9,6 @@ use Rattle.lengths.proofs.Laws.{abs-sum}
 use Rattle.lengths.proofs.Len.square.Statement.{statement}
 use Rattle.lengths.proofs.Len.square.Tie as tie
 
-zero-requires : tie.Need-zero-requires
-zero-requires c κs = search needs
-
-apart-requires : tie.Need-apart-requires
-apart-requires c κs = search needs
-
 mul-result : tie.Need-mul-result
 mul-result c =
     let h : c .apart .result ≤ 4294967295 = omega arith in
@@ -26,4 +20,4 @@ returns c =
     rw e
 
 pub square-spec : {M : Type 1} → statement M
-square-spec = tie.close (tie.spec zero-requires apart-requires mul-result returns)
+square-spec = tie.close (tie.spec (λ c κs. search needs) (λ c κs. search needs) mul-result returns)

@@ -12,4 +12,7 @@ returns c =
     spelt (b .before .before .args .path .now) (b .buffer .result) (sym (b .buffer .ensures)) (b .before .before .pre) (p .put .ensures)
 
 pub spelt-spec : {M : Type 1} → statement M
-spelt-spec = tie.close (tie.spec (λ c κs. search needs) (λ c. search needs) (λ c κs. search needs) (λ c. search needs) (λ c. search needs) (λ c. search needs) returns)
+spelt-spec =
+    tie.close
+    (tie.spec (λ c κs. search needs) (λ c. search needs) (λ c κs. search needs) (λ c. search needs) (λ c. search needs) (λ c. search needs)
+    returns)

@@ -7,29 +7,17 @@ use Rattle.records.proofs.Still.{still-ones}
 use Rattle.records.proofs.displacing.displaced.Statement.{statement}
 use Rattle.records.proofs.displacing.displaced.Tie as tie
 
-enum-known-r : tie.Need-enum-known-r
-enum-known-r c = search needs
-
 moved-requires : tie.Need-moved-requires
 unfolding pathOf
 moved-requires c κs = (c .before .before .before .pre .0, (rw (c .before .r .given .1) at (c .before .before .before .pre .1)))
-
-enum-known-r-2 : tie.Need-enum-known-r-2
-enum-known-r-2 c = search needs
 
 moved-requires-2 : tie.Need-moved-requires-2
 unfolding pathOf
 moved-requires-2 c κs = (c .before .before .before .pre .0, (rw (c .before .r2 .given .1) at (c .before .before .before .pre .1)))
 
-enum-known-r-3 : tie.Need-enum-known-r-3
-enum-known-r-3 c = search needs
-
 displaced-arc-requires : tie.Need-displaced-arc-requires
 unfolding pathOf
 displaced-arc-requires c κs = (c .before .before .before .pre .0, (rw (c .before .r3 .given .1) at (c .before .before .before .pre .1)))
-
-enum-known-r-4 : tie.Need-enum-known-r-4
-enum-known-r-4 c = search needs
 
 displaced-arc-requires-2 : tie.Need-displaced-arc-requires-2
 unfolding pathOf
@@ -58,17 +46,5 @@ returns-5 c = still-ones (λ (r : Record). r ≡ recordMoved (c .before .args .b
 pub displaced-spec : {M : Type 1} → statement M
 displaced-spec =
     tie.close
-    (tie.spec
-    enum-known-r
-    moved-requires
-    enum-known-r-2
-    moved-requires-2
-    enum-known-r-3
-    displaced-arc-requires
-    enum-known-r-4
-    displaced-arc-requires-2
-    returns
-    returns-2
-    returns-3
-    returns-4
-    returns-5)
+    (tie.spec (λ c. search needs) moved-requires (λ c. search needs) moved-requires-2 (λ c. search needs) displaced-arc-requires
+    (λ c. search needs) displaced-arc-requires-2 returns returns-2 returns-3 returns-4 returns-5)

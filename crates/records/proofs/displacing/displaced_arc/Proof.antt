@@ -13,12 +13,6 @@ step-near c =
     let s = c .before .before .before in
     rw (c .in-plane .ensures) (flat-near (s .args .a .plane) (s .args .by) (s .pre .0))
 
-in-plane-requires : tie.Need-in-plane-requires
-in-plane-requires c κs = search needs
-
-moved-requires : tie.Need-moved-requires
-moved-requires c κs = search needs
-
 plus-requires : tie.Need-plus-requires
 plus-requires c κs = omega (arith, step-near (c .before))
 
@@ -32,4 +26,5 @@ returns c =
 
 pub displaced-arc-spec : {M : Type 1} → statement M
 displaced-arc-spec =
-    tie.close (tie.spec in-plane-requires moved-requires plus-requires plus-requires-2 returns)
+    tie.close
+    (tie.spec (λ c κs. search needs) (λ c κs. search needs) plus-requires plus-requires-2 returns)

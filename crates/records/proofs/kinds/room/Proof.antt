@@ -5,14 +5,8 @@ use Rattle.records.specs.Layout.{kindLength}
 use Rattle.records.proofs.kinds.room.Statement.{statement}
 use Rattle.records.proofs.kinds.room.Tie as tie
 
-kind-of-requires : tie.Need-kind-of-requires
-kind-of-requires c κs = search needs
-
-kind-length-requires : tie.Need-kind-length-requires
-kind-length-requires c κs = search needs
-
 returns : tie.Need-returns
 returns c = c .kind-length .ensures ∙ ap kindLength (c .before .kind-of .ensures)
 
 pub room-spec : {M : Type 1} → statement M
-room-spec = tie.close (tie.spec kind-of-requires kind-length-requires returns)
+room-spec = tie.close (tie.spec (λ c κs. search needs) (λ c κs. search needs) returns)

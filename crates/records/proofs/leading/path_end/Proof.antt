@@ -7,18 +7,6 @@ use Rattle.records.proofs.Still.{still-ones}
 use Rattle.records.proofs.leading.path_end.Statement.{statement}
 use Rattle.records.proofs.leading.path_end.Tie as tie
 
-enum-known-r : tie.Need-enum-known-r
-enum-known-r c = search needs
-
-enum-known-r-2 : tie.Need-enum-known-r-2
-enum-known-r-2 c = search needs
-
-enum-known-r-3 : tie.Need-enum-known-r-3
-enum-known-r-3 c = search needs
-
-enum-known-r-4 : tie.Need-enum-known-r-4
-enum-known-r-4 c = search needs
-
 returns : tie.Need-returns
 unfolding pathOf pathEnd
 returns c = rw (c .before .r .given .1)
@@ -42,13 +30,5 @@ returns-5 c = still-ones (λ (r : Record). c .before .args .from ≡ pathEnd (c 
 pub path-end-spec : {M : Type 1} → statement M
 path-end-spec =
     tie.close
-    (tie.spec
-    enum-known-r
-    enum-known-r-2
-    enum-known-r-3
-    enum-known-r-4
-    returns
-    returns-2
-    returns-3
-    returns-4
+    (tie.spec (λ c. search needs) (λ c. search needs) (λ c. search needs) (λ c. search needs) returns returns-2 returns-3 returns-4
     returns-5)

@@ -7,14 +7,8 @@ use borrow.Author.Needs.{needs}
 use Rattle.steps.proofs.effects.called.Statement.{statement}
 use Rattle.steps.proofs.effects.called.Tie as tie
 
-zero-requires : tie.Need-zero-requires
-zero-requires c κs = search needs
-
-apart-requires : tie.Need-apart-requires
-apart-requires c κs = search needs
-
 returns : tie.Need-returns
 returns c = omega (arith, abs-sum (c .before .before .args .p .v .v))
 
 pub called-spec : {M : Type 1} → statement M
-called-spec = tie.close (tie.spec zero-requires apart-requires returns)
+called-spec = tie.close (tie.spec (λ c κs. search needs) (λ c κs. search needs) returns)

@@ -6,12 +6,6 @@ use borrow.Author.Needs.{needs}
 use Rattle.steps.proofs.effects.control_of.Statement.{statement}
 use Rattle.steps.proofs.effects.control_of.Tie as tie
 
-misc-number-requires : tie.Need-misc-number-requires
-misc-number-requires c κs = search needs
-
-called-requires : tie.Need-called-requires
-called-requires c κs = search needs
-
 returns : tie.Need-returns
 unfolding controlOf isM
 returns c = rw (← (c .before .before .misc-number .ensures), eq-eqb _ _ (c .before .if1 .taken), c .called .ensures)
@@ -30,4 +24,5 @@ returns-4 c = rw (← (c .before .before .before .misc-number .ensures), ne-eqb 
 
 pub control-of-spec : {M : Type 1} → statement M
 control-of-spec =
-    tie.close (tie.spec misc-number-requires called-requires returns returns-2 returns-3 returns-4)
+    tie.close
+    (tie.spec (λ c κs. search needs) (λ c κs. search needs) returns returns-2 returns-3 returns-4)

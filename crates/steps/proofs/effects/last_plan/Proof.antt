@@ -5,9 +5,6 @@ use borrow.Author.Needs.{needs}
 use Rattle.steps.proofs.effects.last_plan.Statement.{statement}
 use Rattle.steps.proofs.effects.last_plan.Tie as tie
 
-misc-number-requires : tie.Need-misc-number-requires
-misc-number-requires c κs = search needs
-
 returns : tie.Need-returns
 returns c = last-off (c .before .before .args .misc) (c .before .misc-number .ensures) (eq-eqb _ _ (c .if1 .taken))
 
@@ -21,4 +18,4 @@ returns-4 : tie.Need-returns-4
 returns-4 c = last-none (c .before .before .before .before .args .misc) (c .before .before .before .misc-number .ensures) (ne-eqb _ _ (c .before .before .if1 .left)) (ne-eqb _ _ (c .before .if2 .left)) (c .if3 .left)
 
 pub last-plan-spec : {M : Type 1} → statement M
-last-plan-spec = tie.close (tie.spec misc-number-requires returns returns-2 returns-3 returns-4)
+last-plan-spec = tie.close (tie.spec (λ c κs. search needs) returns returns-2 returns-3 returns-4)

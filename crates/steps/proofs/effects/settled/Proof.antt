@@ -5,12 +5,9 @@ use borrow.Author.Needs.{needs}
 use Rattle.steps.proofs.effects.settled.Statement.{statement}
 use Rattle.steps.proofs.effects.settled.Tie as tie
 
-misc-number-requires : tie.Need-misc-number-requires
-misc-number-requires c κs = search needs
-
 returns : tie.Need-returns
 unfolding settledAt isM
 returns c = rw (c .before .misc-number .ensures)
 
 pub settled-spec : {M : Type 1} → statement M
-settled-spec = tie.close (tie.spec misc-number-requires returns)
+settled-spec = tie.close (tie.spec (λ c κs. search needs) returns)

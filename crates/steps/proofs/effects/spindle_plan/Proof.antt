@@ -4,9 +4,6 @@ use borrow.Author.Needs.{needs}
 use Rattle.steps.proofs.effects.spindle_plan.Statement.{statement}
 use Rattle.steps.proofs.effects.spindle_plan.Tie as tie
 
-misc-number-requires : tie.Need-misc-number-requires
-misc-number-requires c κs = search needs
-
 returns : tie.Need-returns
 returns c =
     let s = c .before .before .before .before .before .before in
@@ -18,4 +15,4 @@ returns-2 c =
     spindle-none (s .args .s) (s .args .b) (c .before .misc-number .ensures) (c .if1 .left)
 
 pub spindle-plan-spec : {M : Type 1} → statement M
-spindle-plan-spec = tie.close (tie.spec misc-number-requires returns returns-2)
+spindle-plan-spec = tie.close (tie.spec (λ c κs. search needs) returns returns-2)

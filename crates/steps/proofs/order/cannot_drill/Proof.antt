@@ -4,15 +4,9 @@ use borrow.Author.Needs.{needs}
 use Rattle.steps.proofs.order.cannot_drill.Statement.{statement}
 use Rattle.steps.proofs.order.cannot_drill.Tie as tie
 
-drills-requires : tie.Need-drills-requires
-drills-requires c κs = search needs
-
-is-g17-requires : tie.Need-is-g17-requires
-is-g17-requires c κs = search needs
-
 returns : tie.Need-returns
 unfolding cannotDrill
 returns c = λ s e. rw (e, c .before .drills .ensures, c .is-g17 .ensures)
 
 pub cannot-drill-spec : {M : Type 1} → statement M
-cannot-drill-spec = tie.close (tie.spec drills-requires is-g17-requires returns)
+cannot-drill-spec = tie.close (tie.spec (λ c κs. search needs) (λ c κs. search needs) returns)

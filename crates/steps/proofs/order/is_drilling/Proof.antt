@@ -5,9 +5,6 @@ use borrow.Author.Needs.{needs}
 use Rattle.steps.proofs.order.is_drilling.Statement.{statement}
 use Rattle.steps.proofs.order.is_drilling.Tie as tie
 
-enum-told : tie.Need-enum-told
-enum-told c = search needs
-
 returns : tie.Need-returns
 unfolding drills
 returns c = λ named v. rw (c .enum-told .given .1)
@@ -16,4 +13,4 @@ returns-2 : tie.Need-returns-2
 returns-2 c = λ named v. no-cycle (c .before .args .motion) named v (c .match .keys2)
 
 pub is-drilling-spec : {M : Type 1} → statement M
-is-drilling-spec = tie.close (tie.spec enum-told returns returns-2)
+is-drilling-spec = tie.close (tie.spec (λ c. search needs) returns returns-2)

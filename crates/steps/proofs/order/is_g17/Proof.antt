@@ -6,9 +6,6 @@ use borrow.Author.Needs.{needs}
 use Rattle.steps.proofs.order.is_g17.Statement.{statement}
 use Rattle.steps.proofs.order.is_g17.Tie as tie
 
-enum-told : tie.Need-enum-told
-enum-told c = search needs
-
 returns : tie.Need-returns
 unfolding isG17
 returns c = rw (c .enum-told .given .1)
@@ -17,4 +14,4 @@ returns-2 : tie.Need-returns-2
 returns-2 c = sym (not-g17 (c .before .args .plane) (c .match .keys2))
 
 pub is-g17-spec : {M : Type 1} → statement M
-is-g17-spec = tie.close (tie.spec enum-told returns returns-2)
+is-g17-spec = tie.close (tie.spec (λ c. search needs) returns returns-2)

@@ -6,9 +6,6 @@ use borrow.Author.Needs.{needs}
 use Rattle.steps.proofs.order.is_too_deep.Statement.{statement}
 use Rattle.steps.proofs.order.is_too_deep.Tie as tie
 
-enum-told : tie.Need-enum-told
-enum-told c = search needs
-
 returns : tie.Need-returns
 unfolding callsIn callTo tooDeep
 returns c = λ programs. rw (c .enum-told .given .1)
@@ -18,4 +15,4 @@ unfolding callsIn tooDeep
 returns-2 c = λ programs. rw (no-call (c .before .args .control) (c .match .keys2))
 
 pub is-too-deep-spec : {M : Type 1} → statement M
-is-too-deep-spec = tie.close (tie.spec enum-told returns returns-2)
+is-too-deep-spec = tie.close (tie.spec (λ c. search needs) returns returns-2)

@@ -6,21 +6,9 @@ use borrow.Author.Needs.{needs}
 use Rattle.steps.proofs.order.is_unknown_call.Statement.{statement}
 use Rattle.steps.proofs.order.is_unknown_call.Tie as tie
 
-enum-known-control : tie.Need-enum-known-control
-enum-known-control c = search needs
-
 returns : tie.Need-returns
 unfolding callsIn unknownCall
 returns c = λ left. rw (no-call (c .before .args .control) (c .match .keys2))
-
-find-requires : tie.Need-find-requires
-find-requires c κs = search needs
-
-enum-told : tie.Need-enum-told
-enum-told c = search needs
-
-enum-told-2 : tie.Need-enum-told-2
-enum-told-2 c = search needs
 
 returns-2 : tie.Need-returns-2
 returns-2 c = λ left. call-known (c .before .before .before .before .control .given .1) (subsOf (c .before .before .before .before .before .before .args .t)) (c .before .before .find .ensures) left _ (c .enum-told .given .1)
@@ -31,4 +19,4 @@ returns-3 c = λ left. call-unknown (c .before .before .before .before .control 
 pub is-unknown-call-spec : {M : Type 1} → statement M
 is-unknown-call-spec =
     tie.close
-    (tie.spec enum-known-control returns find-requires enum-told enum-told-2 returns-2 returns-3)
+    (tie.spec (λ c. search needs) returns (λ c κs. search needs) (λ c. search needs) (λ c. search needs) returns-2 returns-3)

@@ -6,24 +6,6 @@ use borrow.Author.Needs.{needs}
 use Rattle.steps.proofs.order.lacks_centre.Statement.{statement}
 use Rattle.steps.proofs.order.lacks_centre.Tie as tie
 
-enum-told : tie.Need-enum-told
-enum-told c = search needs
-
-end-stands-requires : tie.Need-end-stands-requires
-end-stands-requires c κs = search needs
-
-centre-given-requires : tie.Need-centre-given-requires
-centre-given-requires c κs = search needs
-
-enum-told-2 : tie.Need-enum-told-2
-enum-told-2 c = search needs
-
-end-stands-requires-2 : tie.Need-end-stands-requires-2
-end-stands-requires-2 c κs = search needs
-
-centre-given-requires-2 : tie.Need-centre-given-requires-2
-centre-given-requires-2 c κs = search needs
-
 returns : tie.Need-returns
 unfolding lacksCentre
 returns c = rw (c .before .before .enum-told .given .1, c .before .end-stands .ensures, c .centre-given .ensures)
@@ -38,13 +20,5 @@ returns-3 c = sym (no-centre (c .before .args .motion) (c .before .args .v) (c .
 pub lacks-centre-spec : {M : Type 1} → statement M
 lacks-centre-spec =
     tie.close
-    (tie.spec
-    enum-told
-    end-stands-requires
-    centre-given-requires
-    enum-told-2
-    end-stands-requires-2
-    centre-given-requires-2
-    returns
-    returns-2
-    returns-3)
+    (tie.spec (λ c. search needs) (λ c κs. search needs) (λ c κs. search needs) (λ c. search needs) (λ c κs. search needs)
+    (λ c κs. search needs) returns returns-2 returns-3)
