@@ -1,5 +1,5 @@
 -- "Arcs as arcs": an arc as SVG text, in units, seen from above or from the side.
-use Prim.Native.Nat.{ℕ, zero, suc}
+use Prim.Native.Nat.{ℕ, zero, suc, _≤_}
 use mathlib.Core.Bool.{Bool, true, false, not}
 use mathlib.Core.List.{List, []}
 use lib.IntN.{pos}
@@ -10,13 +10,15 @@ use Rattle.points.specs.declared.Point.{Point}
 use Rattle.points.specs.declared.Flat.{Flat}
 use Rattle.points.specs.Points.{flat}
 use Rattle.records.specs.declared.Arc.{Arc}
-use Rattle.arcs.specs.Turning.{direction}
-use Rattle.arcs.specs.Arcs.{centreOf, towards, leftWay, rightWay}
+use Rattle.arcs.specs.Turning.{direction, onLeftWay}
+use Rattle.arcs.specs.Arcs.{centreOf, towards}
+use Rattle.arcs.specs.Bounds.{Small}
 use Rattle.strokes.specs.declared.View.{View}
 use Rattle.strokes.specs.declared.View.the-variants.{Above, Side}
 use Rattle.strokes.specs.Text.{_⧺_, decimal}
 use Rattle.strokes.specs.Strokes.{seenFrom, pair, begun, done, line}
-use Rattle.turning.specs.Turns.{quarterOn, soon, pointOn, radiusOf, drawable}
+use Rattle.turning.specs.Turns.{quarterOn, soon, pointOn, radiusOf, drawable, Drawable}
+use Rattle.bends.specs.declared.SeenArc.{SeenArc}
 
 -- an arc is seen round from above in G17, and from the side in G18
 unfoldable pub isRound : View → Plane → Bool
@@ -38,38 +40,68 @@ unfoldable pub piece : ℕ → Bool → Flat → List ℕ
 piece r sweep to =
     bytes "A" ⧺ decimal r ⧺ bytes " " ⧺ decimal r ⧺ (if sweep then bytes " 0 0 1 " else bytes " 0 0 0 ") ⧺ pair to
 
-module _ (view : View) (from : Point) (a : Arc) where
+-- an arc as it is seen, with the directions from its centre to its two ends
+unfoldable pub seenArc : View → Point → Arc → SeenArc
+seenArc view from a =
+    record {
+      view = view;
+      from = from;
+      arc = a;
+      start = direction (centreOf a) (flat (a .plane) from);
+      end = direction (centreOf a) (flat (a .plane) (a .end));
+      radius = radiusOf from a;
+    }
+
+-- its numbers leave room for what is worked out of them
+pub record Ready (s : SeenArc) : Type 0 where
+  pub drawable : Drawable (s .from) (s .arc)
+  pub start : Small (s .start)
+  pub end : Small (s .end)
+  pub radius : s .radius ≤ 2_147_483_647
+
+module _ (s : SeenArc) where
+  -- where a direction from the centre leads, as it is seen
+  unfoldable pub seenOn : Flat → Flat
+  seenOn d = seenFrom (s .view) (pointOn (s .from) (s .arc) d)
+
+  unfoldable pub seenEnd : Flat
+  seenEnd = seenFrom (s .view) (s .arc .end)
+
+  unfoldable pub started : List ℕ
+  started = begun ⧺ pair (seenFrom (s .view) (s .from))
+
   -- From quarter to quarter of a turn, until the end is at most a quarter on: three at most. In pieces as short as that, an end
   -- that is off the circle by what the rules allow does not bend the others.
-  unfoldable pub quarters : Bool → ℕ → Flat → ℕ → Flat → List ℕ
-  quarters turn r w zero d = []
-  quarters turn r w (suc n) d =
-      if soon turn d w then []
-      else
-      piece r (turnSeen view turn) (seenFrom view (pointOn from a (quarterOn turn d))) ⧺ quarters turn r w n (quarterOn turn d)
+  unfoldable pub quarters : Bool → ℕ → Flat → List ℕ
+  quarters turn zero d = []
+  quarters turn (suc n) d =
+      if soon turn d (s .end) then []
+      else piece (s .radius) (turnSeen (s .view) turn) (seenOn (quarterOn turn d)) ⧺ quarters turn n (quarterOn turn d)
 
-  unfoldable pub rounded : Bool → ℕ → Flat → Flat → List ℕ
-  rounded turn r u w =
-      begun ⧺ pair (seenFrom view from) ⧺ quarters turn r w 3 u ⧺ piece r (turnSeen view turn) (seenFrom view (a .end)) ⧺ done
+  unfoldable pub rounded : Bool → List ℕ
+  rounded turn =
+      started ⧺ quarters turn 3 (s .start) ⧺ piece (s .radius) (turnSeen (s .view) turn) seenEnd ⧺ done
 
-  -- Seen from its edge, an arc is a straight line out to those of its four axis extremes that it passes: `on` tells the
-  -- directions.
-  unfoldable pub extreme : (Flat → Bool) → Flat → List ℕ
-  extreme on e = if on e then bytes "L" ⧺ pair (seenFrom view (pointOn from a e)) else []
+  -- the directions that the path passes: to the left from its start to its end, or to the right
+  unfoldable pub passes : Bool → Flat → Bool
+  passes turn d = if turn then onLeftWay (s .start) (s .end) d else onLeftWay (s .end) (s .start) d
 
-  unfoldable pub extremes : (Flat → Bool) → ℕ → Flat → List ℕ
-  extremes on zero e = []
-  extremes on (suc n) e = extreme on e ⧺ extremes on n (quarterOn true e)
+  -- Seen from its edge, an arc is a straight line out to those of its four axis extremes that it passes.
+  unfoldable pub extreme : Bool → Flat → List ℕ
+  extreme turn e = if passes turn e then bytes "L" ⧺ pair (seenOn e) else []
 
-  unfoldable pub edge : ℕ → (Flat → Bool) → List ℕ
-  edge r on =
-      begun ⧺ pair (seenFrom view from) ⧺ extremes on 4 (towards (pos r) (pos 0)) ⧺ bytes "L" ⧺ pair (seenFrom view (a .end)) ⧺ done
+  unfoldable pub extremes : Bool → ℕ → Flat → List ℕ
+  extremes turn zero e = []
+  extremes turn (suc n) e = extreme turn e ⧺ extremes turn n (quarterOn true e)
 
-  -- an arc of another list, whose numbers leave no room, is drawn as the straight line between its ends
-  unfoldable pub arc : Bool → List ℕ
-  arc turn =
-      if drawable from a then
-      (if isRound view (a .plane) then
-      rounded turn (radiusOf from a) (direction (centreOf a) (flat (a .plane) from)) (direction (centreOf a) (flat (a .plane) (a .end)))
-      else edge (radiusOf from a) (if turn then leftWay from a else rightWay from a))
-      else line (seenFrom view from) (seenFrom view (a .end))
+  unfoldable pub edge : Bool → List ℕ
+  edge turn =
+      started ⧺ extremes turn 4 (towards (pos (s .radius)) (pos 0)) ⧺ bytes "L" ⧺ pair seenEnd ⧺ done
+
+  unfoldable pub bend : Bool → List ℕ
+  bend turn = if isRound (s .view) (s .arc .plane) then rounded turn else edge turn
+
+-- an arc of another list, whose numbers leave no room, is drawn as the straight line between its ends
+unfoldable pub arc : View → Point → Arc → Bool → List ℕ
+arc view from a turn =
+    if drawable from a then bend (seenArc view from a) turn else line (seenFrom view from) (seenFrom view (a .end))

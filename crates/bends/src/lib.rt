@@ -1,14 +1,12 @@
 // An arc as SVG text: round where its plane is seen from the front, and from its edge as the straight line that it is from there.
 
-ghost use Prim.Native.Nat.{_≤_};
 ghost use mathlib.Core.Path.{_≡_};
 ghost use lib.IntN.{pos};
 ghost use Rattle.arcs.specs.Arcs.{towards};
-ghost use Rattle.arcs.specs.Turning.{onLeftWay};
 ghost use Rattle.arcs.specs.Bounds.{Small};
 ghost use Rattle.strokes.specs.Text.{Fills};
 ghost use Rattle.turning.specs.Turns.{Drawable};
-ghost use Rattle.bends.specs.Bends.{isRound, turnSeen, piece, quarters, extreme, extremes, rounded, edge, arc};
+ghost use Rattle.bends.specs.Bends.{Ready, isRound, turnSeen, piece, seenArc, seenOn, seenEnd, started, quarters, rounded, passes, extreme, extremes, edge, bend, arc};
 use codes::Plane;
 use lengths::Len;
 use points::Flat;
@@ -20,6 +18,17 @@ use turning::is_soon;
 use turning::point_on;
 use turning::quarter_on;
 use turning::radius_of;
+
+// An arc as it is seen: from where, the point at which it begins, the directions from its centre to its start and to its end, and
+// its radius.
+pub struct SeenArc {
+    pub view: View,
+    pub from: Point,
+    pub arc: Arc,
+    pub start: Flat,
+    pub end: Flat,
+    pub radius: u64,
+}
 
 fn is_round(view: View, plane: Plane) -> bool
     ensures { λ r. ⌜ r ≡ isRound view plane ⌝ }
@@ -58,152 +67,145 @@ fn put_piece(out: &mut [u8], at: usize, r: u64, sweep: bool, to: Flat) -> usize
     strokes::put_pair(out, high, b" 0 0 0 ", to)
 }
 
-// From quarter to quarter, until the end is at most a quarter on.
-fn put_quarters(
-    out: &mut [u8],
-    at: usize,
-    view: View,
-    from: Point,
-    a: Arc,
-    turn: bool,
-    u: Flat,
-    w: Flat,
-    r: u64,
-) -> usize
-    requires { ⌜ (Drawable from a) × (Small u) × (Small w) ⌝ }
-    ensures { λ next. ⌜ Fills (now (out .entry)) at (quarters view from a turn r w 3 u) (now (out .exit)) next ⌝ }
+fn seen_arc(view: View, from: Point, a: Arc) -> SeenArc
+    requires { ⌜ Drawable from a ⌝ }
+    ensures { λ r. ⌜ (r ≡ seenArc view from a) × Ready r ⌝ }
 {
+    let end = a.end;
+    SeenArc {
+        view,
+        from,
+        arc: a,
+        start: paths::from_centre(a, from),
+        end: paths::from_centre(a, end),
+        radius: radius_of(from, a),
+    }
+}
+
+// Where a direction from the centre leads, as it is seen.
+fn seen_on(s: SeenArc, d: Flat) -> Flat
+    requires { ⌜ (Ready s) × (Small d) ⌝ }
+    ensures { λ r. ⌜ r ≡ seenOn s d ⌝ }
+{
+    let view = s.view;
+    strokes::seen(view, point_on(s.from, s.arc, d))
+}
+
+// From quarter to quarter, until the end is at most a quarter on.
+fn put_quarters(out: &mut [u8], at: usize, s: SeenArc, turn: bool) -> usize
+    requires { ⌜ Ready s ⌝ }
+    ensures { λ next. ⌜ Fills (now (out .entry)) at (quarters s turn 3 (s .start)) (now (out .exit)) next ⌝ }
+{
+    let view = s.view;
     let sweep = turn_seen(view, turn);
     let mut next = at;
-    let mut d = u;
+    let mut d = s.start;
     let mut left: u32 = 3;
     while 0 < left {
-        if is_soon(turn, d, w) {
+        if is_soon(turn, d, s.end) {
             return next;
         }
         d = quarter_on(turn, d);
-        next = put_piece(
-            out,
-            next,
-            r,
-            sweep,
-            strokes::seen(view, point_on(from, a, d)),
-        );
+        next = put_piece(out, next, s.radius, sweep, seen_on(s, d));
         left -= 1;
     }
     next
 }
 
-fn put_round(
-    out: &mut [u8],
-    at: usize,
-    view: View,
-    from: Point,
-    a: Arc,
-    turn: bool,
-    u: Flat,
-    w: Flat,
-    r: u64,
-) -> usize
-    requires { ⌜ (Drawable from a) × (Small u) × (Small w) ⌝ }
-    ensures { λ next. ⌜ Fills (now (out .entry)) at (rounded view from a turn r u w) (now (out .exit)) next ⌝ }
+fn put_start(out: &mut [u8], at: usize, s: SeenArc) -> usize
+    ensures { λ next. ⌜ Fills (now (out .entry)) at (started s) (now (out .exit)) next ⌝ }
 {
-    let end = a.end;
-    let start = strokes::put_pair(out, at, b"<path d=\"M", strokes::seen(view, from));
-    let turned = put_quarters(out, start, view, from, a, turn, u, w, r);
-    let last = put_piece(
-        out,
-        turned,
-        r,
-        turn_seen(view, turn),
-        strokes::seen(view, end),
-    );
+    let view = s.view;
+    strokes::put_pair(out, at, b"<path d=\"M", strokes::seen(view, s.from))
+}
+
+fn seen_end(s: SeenArc) -> Flat
+    ensures { λ r. ⌜ r ≡ seenEnd s ⌝ }
+{
+    let view = s.view;
+    let arc = s.arc;
+    strokes::seen(view, arc.end)
+}
+
+fn put_round(out: &mut [u8], at: usize, s: SeenArc, turn: bool) -> usize
+    requires { ⌜ Ready s ⌝ }
+    ensures { λ next. ⌜ Fills (now (out .entry)) at (rounded s turn) (now (out .exit)) next ⌝ }
+{
+    let view = s.view;
+    let start = put_start(out, at, s);
+    let turned = put_quarters(out, start, s, turn);
+    let last = put_piece(out, turned, s.radius, turn_seen(view, turn), seen_end(s));
     strokes::put_text(out, last, b"\"/>\n")
 }
 
-fn put_extreme(
-    out: &mut [u8],
-    at: usize,
-    view: View,
-    from: Point,
-    a: Arc,
-    u: Flat,
-    w: Flat,
-    e: Flat,
-) -> usize
-    requires { ⌜ (Drawable from a) × (Small u) × (Small w) × (Small e) ⌝ }
-    ensures { λ next. ⌜ Fills (now (out .entry)) at (extreme view from a (onLeftWay u w) e) (now (out .exit)) next ⌝ }
+// Whether the path, which turns left where `turn` is true, passes a direction.
+fn is_passed(s: SeenArc, turn: bool, e: Flat) -> bool
+    requires { ⌜ (Ready s) × (Small e) ⌝ }
+    ensures { λ r. ⌜ r ≡ passes s turn e ⌝ }
 {
-    if !paths::is_on_left_way(u, w, e.first, e.second) {
-        return at;
+    if turn {
+        return paths::is_on_left_way(s.start, s.end, e.first, e.second);
     }
-    strokes::put_pair(out, at, b"L", strokes::seen(view, point_on(from, a, e)))
+    paths::is_on_left_way(s.end, s.start, e.first, e.second)
 }
 
-fn put_extremes(
-    out: &mut [u8],
-    at: usize,
-    view: View,
-    from: Point,
-    a: Arc,
-    u: Flat,
-    w: Flat,
-    r: u64,
-) -> usize
-    requires { ⌜ (Drawable from a) × (Small u) × (Small w) × (r ≤ 2_147_483_647) ⌝ }
-    ensures { λ next. ⌜ Fills (now (out .entry)) at (extremes view from a (onLeftWay u w) 4 (towards (pos r) (pos 0))) (now (out .exit)) next ⌝ }
+fn put_extreme(out: &mut [u8], at: usize, s: SeenArc, turn: bool, e: Flat) -> usize
+    requires { ⌜ (Ready s) × (Small e) ⌝ }
+    ensures { λ next. ⌜ Fills (now (out .entry)) at (extreme s turn e) (now (out .exit)) next ⌝ }
+{
+    if !is_passed(s, turn, e) {
+        return at;
+    }
+    strokes::put_pair(out, at, b"L", seen_on(s, e))
+}
+
+fn put_extremes(out: &mut [u8], at: usize, s: SeenArc, turn: bool) -> usize
+    requires { ⌜ Ready s ⌝ }
+    ensures { λ next. ⌜ Fills (now (out .entry)) at (extremes s turn 4 (towards (pos (s .radius)) (pos 0))) (now (out .exit)) next ⌝ }
 {
     let mut next = at;
     let mut e = Flat {
-        first: Len::of_count(r),
+        first: Len::of_count(s.radius),
         second: Len::zero(),
     };
     let mut left: u32 = 4;
     while 0 < left {
-        next = put_extreme(out, next, view, from, a, u, w, e);
+        next = put_extreme(out, next, s, turn, e);
         e = quarter_on(true, e);
         left -= 1;
     }
     next
 }
 
-// Where the path turns left from the direction u to the direction w.
-fn put_edge(
-    out: &mut [u8],
-    at: usize,
-    view: View,
-    from: Point,
-    a: Arc,
-    u: Flat,
-    w: Flat,
-    r: u64,
-) -> usize
-    requires { ⌜ (Drawable from a) × (Small u) × (Small w) × (r ≤ 2_147_483_647) ⌝ }
-    ensures { λ next. ⌜ Fills (now (out .entry)) at (edge view from a r (onLeftWay u w)) (now (out .exit)) next ⌝ }
+fn put_edge(out: &mut [u8], at: usize, s: SeenArc, turn: bool) -> usize
+    requires { ⌜ Ready s ⌝ }
+    ensures { λ next. ⌜ Fills (now (out .entry)) at (edge s turn) (now (out .exit)) next ⌝ }
 {
-    let end = a.end;
-    let start = strokes::put_pair(out, at, b"<path d=\"M", strokes::seen(view, from));
-    let reached = put_extremes(out, start, view, from, a, u, w, r);
-    let last = strokes::put_pair(out, reached, b"L", strokes::seen(view, end));
+    let start = put_start(out, at, s);
+    let reached = put_extremes(out, start, s, turn);
+    let last = strokes::put_pair(out, reached, b"L", seen_end(s));
     strokes::put_text(out, last, b"\"/>\n")
+}
+
+fn put_bend(out: &mut [u8], at: usize, s: SeenArc, turn: bool) -> usize
+    requires { ⌜ Ready s ⌝ }
+    ensures { λ next. ⌜ Fills (now (out .entry)) at (bend s turn) (now (out .exit)) next ⌝ }
+{
+    let view = s.view;
+    let arc = s.arc;
+    let plane = arc.plane;
+    if is_round(view, plane) {
+        return put_round(out, at, s, turn);
+    }
+    put_edge(out, at, s, turn)
 }
 
 pub fn put_arc(out: &mut [u8], at: usize, view: View, from: Point, a: Arc, turn: bool) -> usize
     ensures { λ next. ⌜ Fills (now (out .entry)) at (arc view from a turn) (now (out .exit)) next ⌝ }
 {
-    let plane = a.plane;
     let end = a.end;
-    if !is_drawable(from, a) {
-        return strokes::put_line(out, at, strokes::seen(view, from), strokes::seen(view, end));
+    if is_drawable(from, a) {
+        return put_bend(out, at, seen_arc(view, from, a), turn);
     }
-    let u = paths::from_centre(a, from);
-    let w = paths::from_centre(a, end);
-    let r = radius_of(from, a);
-    if is_round(view, plane) {
-        return put_round(out, at, view, from, a, turn, u, w, r);
-    }
-    if turn {
-        return put_edge(out, at, view, from, a, u, w, r);
-    }
-    put_edge(out, at, view, from, a, w, u, r)
+    strokes::put_line(out, at, strokes::seen(view, from), strokes::seen(view, end))
 }

@@ -1,7 +1,6 @@
 -- `bends::put_edge` meets its contract: its parts, one after the other. Assumes nothing.
 use borrow.Author.Needs.{needs}
 use Rattle.strokes.proofs.Filled.{fills-then, fills-next}
-use Rattle.strokes.specs.Strokes.{begun}
 use Rattle.terms.specs.Terms.{bytes}
 use Rattle.bends.specs.Bends.{edge}
 use Rattle.bends.proofs.put_edge.Statement.{statement}
@@ -10,13 +9,11 @@ use Rattle.bends.proofs.put_edge.Tie as tie
 returns : tie.Need-returns
 unfolding edge
 returns c =
-    rw (← c .before .before .before .before .before .before .before .before .before .before .before .before .before .before .before .before .before .before .seen .ensures, ← c .before .before .before .before .before .before .before .before .seen2 .ensures)
-    (fills-next begun _ (c .before .before .before .before .before .before .before .before .before .before .before .before .before .before .before .before .before .put-pair .ensures)
-    (fills-then (c .before .before .before .before .before .before .before .before .before .before .before .before .before .put-extremes .ensures)
-    (fills-next (bytes "L") _ (c .before .before .before .before .before .before .before .put-pair2 .ensures) (c .before .before .put-text .ensures))))
+    rw (← c .before .before .before .before .before .before .before .before .seen-end .ensures)
+    (fills-then (c .before .before .before .before .before .before .before .before .before .before .before .before .before .before .before .before .before .put-start .ensures)
+    (fills-then (c .before .before .before .before .before .before .before .before .before .before .before .before .before .put-extremes .ensures) (fills-next (bytes "L") _ (c .before .before .before .before .before .before .before .put-pair .ensures) (c .before .before .put-text .ensures))))
 
 pub put-edge-spec : {M : Type 1} → statement M
 put-edge-spec =
     tie.close
-    (tie.spec (λ c. search needs) (λ c κs. search needs) (λ c κs. search needs) (λ c κs. search needs) (λ c. search needs)
-    (λ c κs. search needs) (λ c κs. search needs) (λ c. search needs) (λ c κs. search needs) (λ c. search needs) returns)
+    (tie.spec (λ c κs. search needs) (λ c κs. search needs) (λ c. search needs) (λ c κs. search needs) (λ c κs. search needs) (λ c. search needs) (λ c κs. search needs) (λ c. search needs) returns)

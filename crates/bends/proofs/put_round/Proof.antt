@@ -1,7 +1,6 @@
 -- `bends::put_round` meets its contract: its parts, one after the other. Assumes nothing.
 use borrow.Author.Needs.{needs}
-use Rattle.strokes.proofs.Filled.{fills-then, fills-next}
-use Rattle.strokes.specs.Strokes.{begun}
+use Rattle.strokes.proofs.Filled.{fills-then}
 use Rattle.bends.specs.Bends.{rounded}
 use Rattle.bends.proofs.put_round.Statement.{statement}
 use Rattle.bends.proofs.put_round.Tie as tie
@@ -9,13 +8,11 @@ use Rattle.bends.proofs.put_round.Tie as tie
 returns : tie.Need-returns
 unfolding rounded
 returns c =
-    rw (← c .before .before .before .before .before .before .before .before .before .before .before .before .before .before .before .before .before .before .seen .ensures, ← c .before .before .before .before .before .before .before .before .seen2 .ensures, ← c .before .before .before .before .before .before .before .before .before .turn-seen .ensures)
-    (fills-next begun _ (c .before .before .before .before .before .before .before .before .before .before .before .before .before .before .before .before .before .put-pair .ensures)
-    (fills-then (c .before .before .before .before .before .before .before .before .before .before .before .before .before .put-quarters .ensures)
-    (fills-then (c .before .before .before .before .before .before .before .put-piece .ensures) (c .before .before .put-text .ensures))))
+    rw (← c .before .before .before .before .before .before .before .before .seen-end .ensures, ← c .before .before .before .before .before .before .before .before .before .turn-seen .ensures)
+    (fills-then (c .before .before .before .before .before .before .before .before .before .before .before .before .before .before .before .before .before .put-start .ensures)
+    (fills-then (c .before .before .before .before .before .before .before .before .before .before .before .before .before .put-quarters .ensures) (fills-then (c .before .before .before .before .before .before .before .put-piece .ensures) (c .before .before .put-text .ensures))))
 
 pub put-round-spec : {M : Type 1} → statement M
 put-round-spec =
     tie.close
-    (tie.spec (λ c. search needs) (λ c κs. search needs) (λ c κs. search needs) (λ c κs. search needs) (λ c κs. search needs)
-    (λ c κs. search needs) (λ c κs. search needs) (λ c. search needs) (λ c κs. search needs) (λ c. search needs) returns)
+    (tie.spec (λ c κs. search needs) (λ c κs. search needs) (λ c κs. search needs) (λ c κs. search needs) (λ c κs. search needs) (λ c. search needs) (λ c κs. search needs) (λ c. search needs) returns)
