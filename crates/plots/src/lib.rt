@@ -2,9 +2,9 @@
 use buffers::list_room;
 use buffers::picture_room;
 use commands::word;
+use drawing::Drawn;
 use files::Spot;
 use files::spot_for;
-use pictures::Drawn;
 use setup::Setup;
 use setup_files::setup_in;
 use telling::complain;
@@ -37,7 +37,7 @@ fn plot_file(setup: Setup, line: &[u8], spot: Spot, err: i32) {
 
 fn plot_list(setup: Setup, list: &[u8], line: &[u8], spot: Spot, err: i32) {
     let mut picture = picture_room();
-    let drawn = pictures::draw(list, setup, &mut picture);
+    let drawn = drawing::draw(list, setup, &mut picture);
     match drawn {
         Drawn::Is(n) => {
             files::write_whole(word(line, 3), &picture[..n], spot, err);

@@ -3,7 +3,7 @@ use borrow.Author.Needs.{needs}
 use mathlib.Core.Path.{sym}
 use native.Mathlib.Omega.{arith}
 use lib.Seq.{length-take-le}
-use Rattle.pictures.proofs.Drawing.{draws-inside}
+use Rattle.drawing.proofs.Fitting.{draws-inside}
 use Rattle.plots.proofs.plot_list.Statement.{statement}
 use Rattle.plots.proofs.plot_list.Tie as tie
 
