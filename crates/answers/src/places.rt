@@ -49,7 +49,7 @@ pub fn show_place(s: &[u8], byte: usize) -> bool {
     let at = inside(s, byte);
     let from = block_start(s, at);
     let end = text_end(s, from);
-    telling::show_text(STDOUT_FILENO, &s[from..end], 126)
+    files::show_text(STDOUT_FILENO, &s[from..end], 126)
         && io::write_all(STDOUT_FILENO, b"\n")
         && show_blanks(at - from)
         && io::write_all(STDOUT_FILENO, b"^\n")

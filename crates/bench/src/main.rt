@@ -20,7 +20,7 @@ fn main() {
 }
 
 fn measure(times: u64, bytes: &[u8]) {
-    let mut list = buffers::list_room();
+    let mut list = files::list_room();
     let records = run_times(times, bytes, &mut list);
     let blocks = least(enough(bytes, &mut list), bytes, &mut list);
     io::print_decimal(STDOUT_FILENO, times);

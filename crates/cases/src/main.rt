@@ -12,7 +12,7 @@ use setup::Setup;
 use texts::Digits;
 
 fn main() {
-    let mut input = buffers::list_room();
+    let mut input = files::list_room();
     let n = io::read_full(STDIN_FILENO, &mut input);
     if n == 1048576 {
         io::write_all(STDOUT_FILENO, b"too long\n");

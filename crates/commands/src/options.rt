@@ -6,7 +6,7 @@ ghost use Rattle.commands.specs.Words.{wordOf};
 ghost use Rattle.commands.specs.Options.{noOptions, wrongOptions, withBlocks, withRoom, withPartial, withOption, withNext, withNoMore, isListed, firstOptions, optionsOf};
 use crate::is;
 use crate::word;
-use telling::complain;
+use files::complain;
 use texts::Digits;
 use texts::is_word;
 

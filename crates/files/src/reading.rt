@@ -1,11 +1,11 @@
 // A file's bytes. An error is told from the file's end, so that a folder, or a file that breaks off, is not taken for a short
 // file.
+use crate::messages::begin_line;
+use crate::messages::complain_why;
 ghost use mathlib.Core.Path.{_≡_};
 ghost use Prim.Native.Nat.{_+_, _≤_};
 ghost use lib.ListN.{length};
 ghost use Rattle.io.specs.Counts.{Counts};
-use telling::begin_line;
-use telling::complain_why;
 
 // How many bytes were read to the start of the buffer, and whether all went well.
 pub struct Got {

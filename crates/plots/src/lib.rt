@@ -1,14 +1,14 @@
 // A list drawn as a picture, from files to a file.
-use buffers::list_room;
-use buffers::picture_room;
 use commands::word;
 use drawing::Drawn;
 use files::Spot;
+use files::complain;
+use files::complain_record;
+use files::list_room;
+use files::picture_room;
 use files::spot_for;
 use setup::Setup;
 use setup_files::setup_in;
-use telling::complain;
-use telling::complain_record;
 
 pub fn plot(line: &[u8], count: usize, err: i32) {
     if count != 4 {

@@ -1,9 +1,9 @@
 // Setups in files: one is read, or a line says what is wrong with it; and which limit one breaks, in plain words.
 mod limits;
 
+use files::begin_line;
 pub use limits::show_fault;
 use setup::Setup;
-use telling::begin_line;
 use texts::Wrong;
 use texts::none_wrong;
 ghost use mathlib.Core.Path.{_≡_};

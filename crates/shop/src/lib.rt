@@ -5,15 +5,15 @@ use commands::count_of;
 use commands::is;
 use commands::word;
 use faults::Fault;
+use files::complain;
+use files::complain_record;
+use files::complain_why;
 use libc::STDOUT_FILENO;
 use plots::plot;
 use printing::Shown;
 use printing::show_list;
 use running::run;
 use setup_files::setup_in;
-use telling::complain;
-use telling::complain_record;
-use telling::complain_why;
 ghost use mathlib.Core.Path.{_≡_};
 ghost use Rattle.shop.specs.Asking.{askedBy};
 
@@ -92,7 +92,7 @@ fn show(line: &[u8], count: usize, err: i32) -> bool {
         complain(err, b"show", b"wants LIST");
         return true;
     }
-    let mut list = buffers::list_room();
+    let mut list = files::list_room();
     let got = files::read_whole(word(line, 1), &mut list, err);
     if !got.fine {
         return true;
