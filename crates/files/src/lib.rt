@@ -4,9 +4,9 @@ mod messages;
 mod names;
 mod part_names;
 mod placing;
-mod reading;
+mod read_files;
 mod status;
-mod writing;
+mod write_files;
 
 pub use buffers::list_room;
 pub use buffers::picture_room;
@@ -17,10 +17,10 @@ pub use messages::complain_why;
 pub use messages::show_text;
 pub use placing::Spot;
 pub use placing::spot_for;
-pub use reading::Got;
-pub use reading::read_start;
-pub use reading::read_whole;
-pub use writing::write_whole;
+pub use read_files::Got;
+pub use read_files::read_start;
+pub use read_files::read_whole;
+pub use write_files::write_whole;
 
 // What the system says of a name. Device, number and mode are those of the file that the name leads to, links followed, and
 // mean something only where one is there.

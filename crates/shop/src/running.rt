@@ -1,5 +1,5 @@
 // The run of a data set under a setup, from files to a file.
-ghost use Prim.Native.Nat.{_≤_};
+use crate::setup_files::setup_in;
 use answers::show_answer;
 use answers::show_standing;
 use commands::Options;
@@ -15,7 +15,7 @@ use lists::Made;
 use lists::is_written;
 use lists::make_list;
 use setup::Setup;
-use setup_files::setup_in;
+ghost use Prim.Native.Nat.{_≤_};
 
 // Answers whether standard output took what there was to print.
 pub fn run(line: &[u8], count: usize, err: i32) -> bool {

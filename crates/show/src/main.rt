@@ -11,5 +11,5 @@ fn main() {
         io::write_all(STDOUT_FILENO, b"too long\n");
         return;
     }
-    printing::show_list(&buffer[..n]);
+    answers::show_list(&buffer[..n]);
 }
