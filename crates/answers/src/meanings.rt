@@ -1,10 +1,12 @@
 // What each refusal means, in plain words.
-use crate::listings::say;
+use files::write_line;
+use libc::STDOUT_FILENO;
 use refusals::Refusal;
 
 // A line for each refusal, in the order of their numbers.
 pub fn show_meaning(refusal: Refusal) -> bool {
-    show_line(
+    write_line(
+        STDOUT_FILENO,
         b"bad parameter: a value, its form, a radius, the order of levels or a program number\n\
           address undefined: the block's code does not use this word\n\
           parameter undefined: a P, or an arc's centre or radius, is missing\n\
@@ -23,16 +25,4 @@ pub fn show_meaning(refusal: Refusal) -> bool {
           the arc's centre does not fit four bytes\n",
         refusals::number(refusal),
     )
-}
-
-// A line of a text by its number, the first being 1.
-fn show_line(text: &[u8], number: u64) -> bool {
-    let mut at: usize = 0;
-    let mut left = number;
-    while 1 < left {
-        at = lines::next_block(text, at);
-        left -= 1;
-    }
-    let end = lines::next_block(text, at);
-    say(&text[at..end])
 }

@@ -15,6 +15,7 @@ pub use messages::complain;
 pub use messages::complain_record;
 pub use messages::complain_why;
 pub use messages::show_text;
+pub use messages::write_line;
 pub use placing::Spot;
 pub use placing::spot_for;
 pub use read_files::Got;

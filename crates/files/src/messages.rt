@@ -38,8 +38,8 @@ pub fn complain_why(err: i32, name: &[u8], what: &[u8]) {
 pub fn complain_error(err: i32, name: &[u8], what: &[u8], error: i32) {
     begin_line(err, name);
     io::write_all(err, what);
+    io::write_all(err, b": ");
     show_reason(err, error);
-    io::write_all(err, b"\n");
 }
 
 // A list that breaks off, or is none, by the place where no record can be read.
@@ -52,57 +52,66 @@ pub fn complain_record(err: i32, name: &[u8], place: usize) {
 
 // The reasons that somebody at the machine can do something about in plain words, the others by their number.
 fn show_reason(err: i32, error: i32) {
-    io::write_all(err, b": ");
-    if shows_path(err, error) {
+    let reason = reason_of(error);
+    if reason == 0 {
+        io::write_all(err, b"the system's error ");
+        io::print_decimal(err, number_of(error));
+        io::write_all(err, b"\n");
         return;
     }
-    if shows_limit(err, error) {
-        return;
-    }
-    io::write_all(err, b"the system's error ");
-    io::print_decimal(err, number_of(error));
+    write_line(
+        err,
+        b"no such file or folder\n\
+          a file stands where a folder should\n\
+          it is a folder\n\
+          not allowed\n\
+          no space left\n\
+          the file would be too large\n\
+          the name is too long\n\
+          links lead in a circle\n",
+        reason,
+    );
 }
 
-// Whether the path, or who may use it, is the reason; then it is shown.
-fn shows_path(err: i32, error: i32) -> bool {
+// The line above that tells a reason, or 0.
+fn reason_of(error: i32) -> u64 {
     if error == ENOENT {
-        io::write_all(err, b"no such file or folder");
-        return true;
+        return 1;
     }
     if error == ENOTDIR {
-        io::write_all(err, b"a file stands where a folder should");
-        return true;
+        return 2;
     }
     if error == EISDIR {
-        io::write_all(err, b"it is a folder");
-        return true;
+        return 3;
     }
     if (error == EACCES) | (error == EPERM) | (error == EROFS) {
-        io::write_all(err, b"not allowed");
-        return true;
+        return 4;
     }
-    false
-}
-
-// Whether something is too much for the system; then it is shown.
-fn shows_limit(err: i32, error: i32) -> bool {
     if error == ENOSPC {
-        io::write_all(err, b"no space left");
-        return true;
+        return 5;
     }
     if error == EFBIG {
-        io::write_all(err, b"the file would be too large");
-        return true;
+        return 6;
     }
     if error == ENAMETOOLONG {
-        io::write_all(err, b"the name is too long");
-        return true;
+        return 7;
     }
     if error == ELOOP {
-        io::write_all(err, b"links lead in a circle");
-        return true;
+        return 8;
     }
-    false
+    0
+}
+
+// A line of a text by its number, the first being 1; whether all of it was written.
+pub fn write_line(fd: i32, text: &[u8], number: u64) -> bool {
+    let mut at: usize = 0;
+    let mut left = number;
+    while 1 < left {
+        at = lines::next_block(text, at);
+        left -= 1;
+    }
+    let end = lines::next_block(text, at);
+    io::write_all(fd, &text[at..end])
 }
 
 // The number of an error, which is none below 0.
