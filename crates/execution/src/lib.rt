@@ -3,32 +3,42 @@ use blocks::Executed;
 use blocks::Said;
 use letters::Judged;
 use letters::Speeds;
-use programs::Programs;
 use reading::Reading;
 use reading::Status;
 use refusals::Refusal;
 use settings::State;
 use setup::Bed;
 ghost use mathlib.Core.List.{List};
-ghost use Prim.Native.Nat.{_-_, _≤_, _+_};
+ghost use Prim.Native.Nat.{ℕ, _-_, _≤_, _+_};
 ghost use lib.ListN.{length, drop};
 ghost use Rattle.words.specs.declared.Word.{Word};
-ghost use Rattle.programs.specs.Found.{WellFound, subsOf};
 ghost use Rattle.blocks.specs.Machine.{machineOf};
 ghost use Rattle.blocks.specs.Reach.{Steady, Reachable};
-ghost use Rattle.blocks.specs.Exec.{callsIn, working, saidBy, exec};
+ghost use Rattle.blocks.specs.Exec.{working, saidBy, exec};
+ghost use Rattle.blocks.specs.Calling.{freely};
 ghost use Rattle.blocks.specs.Doing.{Does};
 ghost use Rattle.steps.specs.Steps.{judgedFrom, Heard, Says};
 ghost use Rattle.lines.specs.Blocks.{textFrom, lengthFrom};
 ghost use Rattle.setup.specs.Fair.{Fair};
 
-// What a block says is tested in the order of refusals: 3, 5, 6, 4 for a cycle, and then its path.
+// What a block stands on: the bed, and the levels left for calls.
+pub struct Ground {
+    pub bed: Bed,
+    pub left: usize,
+}
+
+// Where a block stands in the data: its first byte, and the byte where its words begin.
+pub struct Spot {
+    pub start: usize,
+    pub from: usize,
+}
+
+// What a block says is tested in the order of refusals: 3, 4 for a cycle, and then its path. 5 and 6 are tested where its call is
+// followed: a block that calls is refused by nothing after them.
 fn obey(
     list: &mut [u8],
     at: usize,
     bed: Bed,
-    programs: Programs,
-    left: usize,
     start: usize,
     after: usize,
     s: State,
@@ -36,8 +46,7 @@ fn obey(
 ) -> Executed
     requires { ⌜ at ≤ length (now list) ⌝ }
     requires { ⌜ Steady bed s b ⌝ }
-    requires { ⌜ WellFound programs ⌝ }
-    ensures { λ r. ⌜ ((ws : List Word) → Does (bed .offset) (judgedFrom 3 (machineOf bed) (callsIn (subsOf programs) left) (length (now (list .entry)) - at) s start ws b) (now (list .entry)) at after (now (list .exit)) r) ⌝ }
+    ensures { λ r. ⌜ ((left : ℕ) (ws : List Word) → Does (bed .offset) (judgedFrom 3 (machineOf bed) (freely left) (length (now (list .entry)) - at) s start ws b) (now (list .entry)) at after (now (list .exit)) r) ⌝ }
 {
     let code = b.code;
     let modes = b.modes;
@@ -46,12 +55,6 @@ fn obey(
         return Executed::Refused(Refusal::ParameterUndefined, start);
     }
     let control = steps::control_of(b);
-    if steps::is_unknown_call(programs, control) {
-        return Executed::Refused(Refusal::NumberNotFound, start);
-    }
-    if steps::is_too_deep(left, control) {
-        return Executed::Refused(Refusal::NestOver, start);
-    }
     let w = steps::working(s, b);
     if steps::cannot_drill(b, w.turning) {
         return Executed::Refused(Refusal::CannotExecute, start);
@@ -68,16 +71,14 @@ fn hear(
     list: &mut [u8],
     at: usize,
     bed: Bed,
-    programs: Programs,
-    left: usize,
     start: usize,
     after: usize,
     state: State,
     read: Reading,
 ) -> Executed
     requires { ⌜ at ≤ length (now list) ⌝ }
-    requires { ⌜ Heard bed state programs read ⌝ }
-    ensures { λ r. ⌜ ((ws : List Word) → Says (state .modes) ws read → Does (bed .offset) (judgedFrom 1 (machineOf bed) (callsIn (subsOf programs) left) (length (now (list .entry)) - at) state start ws (saidBy (machineOf bed) (state .modes) ws)) (now (list .entry)) at after (now (list .exit)) r) ⌝ }
+    requires { ⌜ Heard bed state read ⌝ }
+    ensures { λ r. ⌜ ((left : ℕ) (ws : List Word) → Says (state .modes) ws read → Does (bed .offset) (judgedFrom 1 (machineOf bed) (freely left) (length (now (list .entry)) - at) state start ws (saidBy (machineOf bed) (state .modes) ws)) (now (list .entry)) at after (now (list .exit)) r) ⌝ }
 {
     let seen = read.seen;
     let modes = seen.modes;
@@ -103,39 +104,36 @@ fn hear(
                 named: groups[1],
                 values,
             };
-            obey(list, at, bed, programs, left, start, after, state, said)
+            obey(list, at, bed, start, after, state, said)
         }
     }
 }
 
-// Executes the block at a place of the data: `start` is its first byte, `from` the byte where its words begin. Its records go
-// to the place `at` of the list. A block that is refused leaves the list as it was.
+// Executes the block at a place of the data, but for its call: a number that no subprogram has, and a call where no level is left, are
+// refused where the call is followed. Its records go to the place `at` of the list. A block that is refused leaves the list as it was.
 pub fn exec(
     s: &[u8],
     list: &mut [u8],
     at: usize,
-    bed: Bed,
-    programs: Programs,
-    left: usize,
-    start: usize,
-    from: usize,
+    ground: Ground,
+    spot: Spot,
     state: State,
 ) -> Executed
-    requires { ⌜ from ≤ length (now s) ⌝ }
+    requires { ⌜ spot .from ≤ length (now s) ⌝ }
     requires { ⌜ at ≤ length (now list) ⌝ }
-    requires { ⌜ Fair bed ⌝ }
-    requires { ⌜ Reachable bed state ⌝ }
-    requires { ⌜ WellFound programs ⌝ }
-    ensures { λ r. ⌜ Does (bed .offset) (exec (machineOf bed) (callsIn (subsOf programs) left) (length (now (list .entry)) - at) state start from (textFrom (drop from (now (s .entry))))) (now (list .entry)) at (from + lengthFrom (drop from (now (s .entry)))) (now (list .exit)) r ⌝ }
+    requires { ⌜ Fair (ground .bed) ⌝ }
+    requires { ⌜ Reachable (ground .bed) state ⌝ }
+    ensures { λ r. ⌜ Does (ground .bed .offset) (exec (machineOf (ground .bed)) (freely (ground .left)) (length (now (list .entry)) - at) state (spot .start) (spot .from) (textFrom (drop (spot .from) (now (s .entry))))) (now (list .entry)) at (spot .from + lengthFrom (drop (spot .from) (now (s .entry)))) (now (list .exit)) r ⌝ }
 {
     let modes = state.modes;
-    let read = gathering::read_words(s, from, left == 4, modes);
+    let read = gathering::read_words(s, spot.from, ground.left == 4, modes);
     let status = read.status;
     match status {
         Status::Refused(refusal, byte) => Executed::Refused(refusal, byte),
         Status::Fine => {
             let after = lines::next_block(s, read.end);
-            hear(list, at, bed, programs, left, start, after, state, read)
+            let bed = ground.bed;
+            hear(list, at, bed, spot.start, after, state, read)
         }
     }
 }

@@ -20,8 +20,6 @@ use Rattle.settings.specs.declared.Modes.{Modes}
 use Rattle.letters.specs.Judging.{Stored, valued}
 use Rattle.reading.specs.declared.Reading.{Reading}
 use Rattle.reading.specs.Seen.{Sums}
-use Rattle.programs.specs.declared.Programs.{Programs}
-use Rattle.programs.specs.Found.{WellFound}
 use Rattle.moves.specs.declared.Plan.{Plan}
 use Rattle.moves.specs.Plans.{planRecords, briefRecords, Plans}
 use Rattle.moves.specs.Needs.{PlanCounts, PlanPuts}
@@ -44,10 +42,9 @@ pub record Says (m : Modes) (ws : List Word) (read : Reading) : Type 0 where
   pub words : take (read .count) (read .words) ≡ valued ws
 
 -- what is known of a block all of whose words may stand
-pub record Heard (bed : Bed) (s : State) (programs : Programs) (read : Reading) : Type 0 where
+pub record Heard (bed : Bed) (s : State) (read : Reading) : Type 0 where
   pub fair : Fair bed
   pub state : Reachable bed s
-  pub ready : WellFound programs
   pub stored : Stored (read .words) (read .count)
   pub heard : List Word
   pub says : Says (s .modes) heard read
