@@ -65,7 +65,6 @@ use Rattle.blocks.specs.Exec.{
   Calls,
   inMain,
   Verdict,
-  refused,
   accepted,
   saidBy,
   spindleRecords,

@@ -20,10 +20,10 @@ use Rattle.cycles.proofs.Written.{moved-room, put-then}
 use Rattle.refusals.specs.declared.Place.{Place}
 use Rattle.blocks.specs.Reach.{Reachable}
 use Rattle.runs.specs.Walk.{Going, How, ended, returned, unfinished, refusedAt, Outcome, nowhere, just, spentAt, after, goingOn, thenRest}
-use Rattle.progress.specs.Progressing.{goingOf, progressOn, endingBy, nextBy, Comes, Ran, Fits}
-use Rattle.progress.specs.declared.Progress.{Progress}
-use Rattle.progress.specs.declared.Ending.{Ending}
-use Rattle.progress.specs.declared.Ending.the-variants.{Returned}
+use Rattle.interpreter.specs.Progressing.{goingOf, progressOn, endingBy, nextBy, Comes, Ran, Fits}
+use Rattle.interpreter.specs.declared.Progress.{Progress}
+use Rattle.interpreter.specs.declared.Ending.{Ending}
+use Rattle.interpreter.specs.declared.Ending.the-variants.{Returned}
 
 -- a record takes a byte at least
 pub count-room : (rs : List Record) → length rs ≤ roomOf rs

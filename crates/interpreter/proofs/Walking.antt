@@ -1,24 +1,29 @@
 -- The walk at a place of the data: what the block there leads to. Assumes nothing.
 use Prim.Native.Nat.{ℕ, _+_, _≤_, _<_}
 use mathlib.Core.Path.{_≡_, refl, sym, _∙_, ap}
-use mathlib.Core.Bool.{Bool, true, false, _||_}
+use mathlib.Core.Bool.{Bool, true, false, _&&_, _||_}
 use mathlib.Core.List.{List, [], _∷_}
 use native.Mathlib.Omega.{arith}
 use native.Mathlib.Decide.{decLt}
 use lib.ListN.{length, drop, drop-of-length-le}
-use Rattle.terms.specs.Terms.{if_then_else_}
+use Rattle.terms.specs.Terms.{if_then_else_, firstOf}
 use Rattle.refusals.specs.declared.Refusal.the-variants.{NoEnd}
 use Rattle.refusals.specs.declared.Place.{Place}
-use Rattle.lines.specs.Blocks.{Block, blockFrom, lengthFrom, beginsWith, isPercent, textFrom, opens, closes}
+use Rattle.lines.specs.Blocks.{Block, blockFrom, lengthFrom, beginsWith, isPercent, isSlashed, textFrom, opens, closes}
 use Rattle.lines.specs.Serving.{blocksFrom}
 use Rattle.lines.proofs.Lines.{at-place, blocks-step, blocks-end}
 use Rattle.programs.specs.Places.{Begins}
-use Rattle.blocks.specs.Exec.{accepted}
+use Rattle.programs.specs.Found.{subsOf}
+use Rattle.settings.specs.declared.State.{State}
+use Rattle.blocks.specs.Machine.{machineOf}
+use Rattle.blocks.specs.Exec.{Calls, callsIn, callTo, unknownCall, tooDeep, atStart, Verdict, accepted, unless, exec}
+use Rattle.blocks.specs.Calling.{freely, called}
+use Rattle.blocks.proofs.Calling.{exec-called}
 use Rattle.blocks.specs.declared.Control.the-variants.{On}
-use Rattle.runs.specs.Walk.{Job, Going, Outcome, refusedAt, just, spentAt, after, isSpent, isSkipped, follow, obey, verdictOn, runBlock, reached, walk}
-use Rattle.progress.specs.Progressing.{jobOf, programEnds, verdictAt}
-use Rattle.progress.specs.declared.Task.{Task}
-use Rattle.progress.proofs.Places.{begins-end}
+use Rattle.runs.specs.Walk.{Job, Going, Outcome, refusedAt, just, spentAt, after, isSpent, isSkipped, slashLength, follow, obey, verdictOn, runBlock, reached, walk}
+use Rattle.interpreter.specs.Progressing.{jobOf, programEnds, verdictAt}
+use Rattle.interpreter.specs.declared.Task.{Task}
+use Rattle.interpreter.proofs.Places.{begins-end}
 
 -- a program ends at the data's end, at an opening and at `%` alone
 pub ends-past : (l : List ℕ) (at : ℕ) → length l ≤ at → programEnds (drop at l) ≡ true
@@ -71,15 +76,35 @@ module _ (job : Job) (left : ℕ) (callee : ℕ → Going → Outcome) (g : Goin
     unfolding walk reached
     walk-open f = rw (e, f)
 
-  -- a skipped block is one that is accepted and does nothing
-  skipped-as : (t : Bool) (b : Block) (rest : Going → Outcome) → runBlock t job left callee b rest g ≡ obey (if t then accepted (g .state) On [] else verdictOn job left b g) b callee rest g
-  unfolding runBlock obey after follow
-  skipped-as true b rest = refl
-  skipped-as false b rest = refl
+-- the verdict on a block of a task, but for its call
+abbrev pub freeVerdict : Task → ℕ → Block → ℕ → State → Verdict
+freeVerdict task left b room s = verdictAt (record { bed = task .bed; left = left }) (task .skips) b room s
 
-  pub run-as : (b : Block) (rest : Going → Outcome) → runBlock (isSkipped job b) job left callee b rest g ≡ obey (verdictAt job left b g) b callee rest g
-  unfolding verdictAt
-  run-as b rest = skipped-as (isSkipped job b) b rest
+module _ (l : List ℕ) (task : Task) (left : ℕ) (callee : ℕ → Going → Outcome) (g : Going) (b : Block) (rest : Going → Outcome) where
+  abbrev calls : Calls
+  calls = callsIn (subsOf (task .programs)) left
+
+  abbrev free : Verdict
+  free =
+      exec (machineOf (task .bed)) (freely left) (g .room) (g .state) (b .start) (b .start + slashLength b)
+      (drop (slashLength b) (b .text))
+
+  -- a skipped block is one that is accepted and does nothing, and an executed one is asked for its call last
+  skipped-as :
+      (t : Bool)
+      → runBlock t (jobOf l task) left callee b rest g
+      ≡ obey (called calls (b .start) (if t then accepted (g .state) On [] else free)) b callee rest g
+  unfolding runBlock obey after follow called unless firstOf atStart callTo unknownCall tooDeep verdictOn jobOf callsIn
+  skipped-as true = refl
+  skipped-as false =
+      ap (λ (v : Verdict). obey v b callee rest g)
+      (exec-called (machineOf (task .bed)) calls (g .room) (g .state) (b .start) (b .start + slashLength b) (drop (slashLength b) (b .text)))
+
+  pub run-as :
+      runBlock (isSkipped (jobOf l task) b) (jobOf l task) left callee b rest g
+      ≡ obey (called calls (b .start) (freeVerdict task left b (g .room) (g .state))) b callee rest g
+  unfolding verdictAt isSkipped jobOf
+  run-as = skipped-as (isSlashed b && task .skips)
 
 module _ (l : List ℕ) (task : Task) (left : ℕ) (callee : ℕ → Going → Outcome) (g : Going) (n at : ℕ) where
   pub walk-spent :
@@ -115,7 +140,8 @@ module _ (l : List ℕ) (task : Task) (left : ℕ) (callee : ℕ → Going → O
   pub walk-goes :
       isSpent (g .budget) ≡ false → programEnds (drop at l) ≡ false
       → walk (jobOf l task) left callee (blocksFrom l n at) g
-      ≡ obey (verdictAt (jobOf l task) left (blockFrom n at (drop at l)) g) (blockFrom n at (drop at l)) callee
+      ≡ obey (called (callsIn (subsOf (task .programs)) left) at (freeVerdict task left (blockFrom n at (drop at l)) (g .room) (g .state)))
+      (blockFrom n at (drop at l)) callee
       (walk (jobOf l task) left callee (blocksFrom l (n + 1) (at + lengthFrom (drop at l)))) g
   walk-goes e f =
       let h = goes-inside l at f in
@@ -123,4 +149,4 @@ module _ (l : List ℕ) (task : Task) (left : ℕ) (callee : ℕ → Going → O
       let bs = blocksFrom l (n + 1) (at + lengthFrom (drop at l)) in
       rw (blocks-step l n at h)
       (walk-open (jobOf l task) left callee g b bs e (sym (ends-at l at h) ∙ f)
-      ∙ run-as (jobOf l task) left callee g b (walk (jobOf l task) left callee bs))
+      ∙ run-as l task left callee g b (walk (jobOf l task) left callee bs))

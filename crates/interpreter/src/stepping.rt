@@ -1,55 +1,17 @@
-// What changes from block to block, and where a block leads.
+// From block to block: the budget, where a program ends, the progress after a block and where the block leads.
+use crate::Ending;
+use crate::Progress;
+use crate::Way;
+use blocks::Control;
+use blocks::Done;
+use runs::Budget;
 ghost use mathlib.Core.Path.{_≡_};
 ghost use mathlib.Core.Bool.{false};
 ghost use mathlib.Core.List.{[]};
-ghost use Prim.Native.Nat.{_+_, _-_, _≤_, _<_, _^_};
+ghost use Prim.Native.Nat.{_+_, _≤_, _<_, _^_};
 ghost use lib.ListN.{length, drop};
-ghost use Rattle.programs.specs.Found.{subsOf, WellFound};
 ghost use Rattle.runs.specs.Walk.{isSpent, oneLess};
-ghost use Rattle.progress.specs.Progressing.{programEnds, progressOn, progressBy, turned};
-use blocks::Control;
-use blocks::Done;
-use programs::Found;
-use programs::Program;
-use programs::Programs;
-use refusals::Place;
-use refusals::Refusal;
-use runs::Budget;
-use settings::State;
-use setup::Bed;
-
-// What stays as it is while a data set runs.
-pub struct Task {
-    pub bed: Bed,
-    pub programs: Programs,
-    pub skips: bool,
-}
-
-// What changes from block to block: the settings, the place in the list after the records, their count, and the blocks that
-// may still be executed.
-pub struct Progress {
-    pub state: State,
-    pub next: usize,
-    pub count: usize,
-    pub budget: Budget,
-}
-
-// How the walk through a program ends: at the program's end, by a return with what goes on, by the budget's end before the
-// block at a place, or by a refusal with its place. Each tells the settings and the count of the records.
-pub enum Ending {
-    Ended(State, usize),
-    Returned(Progress),
-    Unfinished(State, Place, usize),
-    Refused(Refusal, Place, State, usize),
-}
-
-// What a block leads to: the next block, at its byte; a subprogram, with the byte of the block to come back to; or the
-// walk's ending.
-pub enum Act {
-    Goes(Progress, usize),
-    Enters(Program, Progress, usize),
-    Halts(Ending),
-}
+ghost use Rattle.interpreter.specs.Progressing.{programEnds, progressOn, progressBy, wayAfter};
 
 pub fn is_spent(p: Progress) -> bool
     ensures { λ r. ⌜ r ≡ isSpent (p .budget) ⌝ }
@@ -87,7 +49,7 @@ pub fn program_ends(s: &[u8], at: usize) -> bool
 }
 
 // The progress after an accepted block.
-pub fn progress_by(p: Progress, done: Done) -> Progress
+pub fn progress_after(p: Progress, done: Done) -> Progress
     requires { ⌜ isSpent (p .budget) ≡ false ⌝ }
     requires { ⌜ p .count + done .count < 2 ^ 64 ⌝ }
     ensures { λ r. ⌜ r ≡ progressBy p done ⌝ }
@@ -118,23 +80,16 @@ pub fn progress_past(p: Progress) -> Progress
 }
 
 // Where an accepted block leads, whose next block begins at the byte `after`.
-pub fn turn(t: Programs, here: Place, control: Control, after: usize, p: Progress) -> Act
-    requires { ⌜ WellFound t ⌝ }
-    ensures { λ r. ⌜ r ≡ turned control (subsOf t) here after p ⌝ }
+pub fn way_after(control: Control, after: usize, p: Progress) -> Way
+    ensures { λ r. ⌜ r ≡ wayAfter control after p ⌝ }
 {
     match control {
-        Control::On => Act::Goes(p, after),
-        Control::Back => Act::Halts(Ending::Returned(p)),
+        Control::On => Way::Next(p, after),
+        Control::Call(n) => Way::Calls(n, p, after),
+        Control::Back => Way::Ends(Ending::Returned(p)),
         Control::Stop => {
             let state = p.state;
-            Act::Halts(Ending::Ended(state, p.count))
-        }
-        Control::Call(n) => {
-            let Found::At(program) = scanning::find(t, n) else {
-                let state = p.state;
-                return Act::Halts(Ending::Refused(Refusal::NumberNotFound, here, state, p.count));
-            };
-            Act::Enters(program, p, after)
+            Way::Ends(Ending::Ended(state, p.count))
         }
     }
 }

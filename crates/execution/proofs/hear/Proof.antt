@@ -1,11 +1,8 @@
 -- `execution::hear` meets its contract. Assumes nothing.
-use mathlib.Core.Path.{sym, _∙_, ap}
-use native.Mathlib.Omega.{arith}
+use mathlib.Core.Path.{sym, _∙_}
 use Rattle.refusals.specs.declared.Refusal.the-variants.{AddressUndefined, BadParameter}
 use Rattle.blocks.specs.Machine.{machineOf}
-use Rattle.blocks.specs.Exec.{saidBy}
 use Rattle.blocks.specs.Calling.{freely}
-use Rattle.steps.specs.Steps.{judgedFrom}
 use Rattle.steps.proofs.Verdicts.{does-refused, does-as, values-past, unused-stops, bad-stops}
 use Rattle.steps.proofs.Hearing.{judged-is, said-is, steady}
 use borrow.Author.Needs.{needs}

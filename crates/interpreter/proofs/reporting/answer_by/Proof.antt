@@ -1,9 +1,9 @@
--- `interpreter::answer_by` meets its contract, ending by ending. Assumes nothing.
+-- `interpreter::reporting::answer_by` meets its contract, ending by ending. Assumes nothing.
 use mathlib.Core.Path.{sym, ap}
 use borrow.Author.Needs.{needs}
 use Rattle.interpreter.specs.Serving.{answerFor}
-use Rattle.interpreter.proofs.answer_by.Statement.{statement}
-use Rattle.interpreter.proofs.answer_by.Tie as tie
+use Rattle.interpreter.proofs.reporting.answer_by.Statement.{statement}
+use Rattle.interpreter.proofs.reporting.answer_by.Tie as tie
 
 pub answer-by-spec : {M : Type 1} → statement M
 unfolding answerFor

@@ -1,8 +1,8 @@
--- `interpreter::first_standing` meets its contract. Assumes nothing.
+-- `interpreter::reporting::first_standing` meets its contract. Assumes nothing.
 use borrow.Author.Needs.{needs}
 use Rattle.interpreter.proofs.Starting.{stands-at-start}
-use Rattle.interpreter.proofs.first_standing.Statement.{statement}
-use Rattle.interpreter.proofs.first_standing.Tie as tie
+use Rattle.interpreter.proofs.reporting.first_standing.Statement.{statement}
+use Rattle.interpreter.proofs.reporting.first_standing.Tie as tie
 
 returns : tie.Need-returns
 returns c =

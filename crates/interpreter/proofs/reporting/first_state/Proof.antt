@@ -1,9 +1,9 @@
--- `interpreter::first_state` meets its contract. Assumes nothing.
+-- `interpreter::reporting::first_state` meets its contract. Assumes nothing.
 use mathlib.Core.Path.{_∙_}
 use borrow.Author.Needs.{needs}
 use Rattle.runs.specs.Run.{firstOf}
-use Rattle.interpreter.proofs.first_state.Statement.{statement}
-use Rattle.interpreter.proofs.first_state.Tie as tie
+use Rattle.interpreter.proofs.reporting.first_state.Statement.{statement}
+use Rattle.interpreter.proofs.reporting.first_state.Tie as tie
 
 returns : tie.Need-returns
 unfolding firstOf

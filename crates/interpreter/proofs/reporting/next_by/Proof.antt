@@ -1,9 +1,9 @@
--- `interpreter::next_by` meets its contract, ending by ending. Assumes nothing.
+-- `interpreter::reporting::next_by` meets its contract, ending by ending. Assumes nothing.
 use mathlib.Core.Path.{sym, ap}
 use borrow.Author.Needs.{needs}
 use Rattle.interpreter.specs.Serving.{nextFor}
-use Rattle.interpreter.proofs.next_by.Statement.{statement}
-use Rattle.interpreter.proofs.next_by.Tie as tie
+use Rattle.interpreter.proofs.reporting.next_by.Statement.{statement}
+use Rattle.interpreter.proofs.reporting.next_by.Tie as tie
 
 pub next-by-spec : {M : Type 1} → statement M
 unfolding nextFor

@@ -1,9 +1,9 @@
--- `interpreter::refused` meets its contract. Assumes nothing.
+-- `interpreter::reporting::refused` meets its contract. Assumes nothing.
 use borrow.Author.Needs.{needs}
 use Rattle.runs.specs.Run.{answerBy}
 use Rattle.interpreter.specs.Serving.{reportBy}
-use Rattle.interpreter.proofs.refused.Statement.{statement}
-use Rattle.interpreter.proofs.refused.Tie as tie
+use Rattle.interpreter.proofs.reporting.refused.Statement.{statement}
+use Rattle.interpreter.proofs.reporting.refused.Tie as tie
 
 returns : tie.Need-returns
 unfolding reportBy answerBy

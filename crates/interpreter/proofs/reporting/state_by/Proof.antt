@@ -1,9 +1,9 @@
--- `interpreter::state_by` meets its contract, ending by ending. Assumes nothing.
+-- `interpreter::reporting::state_by` meets its contract, ending by ending. Assumes nothing.
 use mathlib.Core.Path.{sym, ap}
 use borrow.Author.Needs.{needs}
 use Rattle.interpreter.specs.Serving.{stateFor}
-use Rattle.interpreter.proofs.state_by.Statement.{statement}
-use Rattle.interpreter.proofs.state_by.Tie as tie
+use Rattle.interpreter.proofs.reporting.state_by.Statement.{statement}
+use Rattle.interpreter.proofs.reporting.state_by.Tie as tie
 
 pub state-by-spec : {M : Type 1} → statement M
 unfolding stateFor

@@ -1,8 +1,8 @@
--- `interpreter::state_moved` meets its contract. Assumes nothing.
+-- `interpreter::reporting::state_moved` meets its contract. Assumes nothing.
 use borrow.Author.Needs.{needs}
 use Rattle.settings.specs.Settings.{stateMoved}
-use Rattle.interpreter.proofs.state_moved.Statement.{statement}
-use Rattle.interpreter.proofs.state_moved.Tie as tie
+use Rattle.interpreter.proofs.reporting.state_moved.Statement.{statement}
+use Rattle.interpreter.proofs.reporting.state_moved.Tie as tie
 
 returns : tie.Need-returns
 unfolding stateMoved

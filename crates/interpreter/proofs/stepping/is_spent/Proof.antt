@@ -1,9 +1,9 @@
--- `progress::is_spent` meets its contract, budget by budget. Assumes nothing.
+-- `interpreter::stepping::is_spent` meets its contract, budget by budget. Assumes nothing.
 use mathlib.Core.Path.{sym, ap}
 use borrow.Author.Needs.{needs}
 use Rattle.runs.specs.Walk.{isSpent}
-use Rattle.progress.proofs.is_spent.Statement.{statement}
-use Rattle.progress.proofs.is_spent.Tie as tie
+use Rattle.interpreter.proofs.stepping.is_spent.Statement.{statement}
+use Rattle.interpreter.proofs.stepping.is_spent.Tie as tie
 
 pub is-spent-spec : {M : Type 1} → statement M
 unfolding isSpent

@@ -1,11 +1,11 @@
--- `progress::one_less` meets its contract, budget by budget. Assumes nothing.
+-- `interpreter::stepping::one_less` meets its contract, budget by budget. Assumes nothing.
 use mathlib.Core.Path.{sym, ap, _∙_}
 use native.Mathlib.Omega.{arith}
 use borrow.Author.Needs.{needs}
 use borrow.Author.Tests.{eqb-false}
 use Rattle.runs.specs.Walk.{isSpent, oneLess}
-use Rattle.progress.proofs.one_less.Statement.{statement}
-use Rattle.progress.proofs.one_less.Tie as tie
+use Rattle.interpreter.proofs.stepping.one_less.Statement.{statement}
+use Rattle.interpreter.proofs.stepping.one_less.Tie as tie
 
 sub-t4 : tie.Need-sub-t4
 unfolding isSpent

@@ -1,10 +1,10 @@
--- `progress::program_ends` meets its contract. Assumes nothing.
+-- `interpreter::stepping::program_ends` meets its contract. Assumes nothing.
 use mathlib.Core.Path.{sym, _∙_}
 use native.Mathlib.Omega.{arith}
 use borrow.Author.Needs.{needs}
-use Rattle.progress.proofs.Walking.{ends-past, ends-opening, ends-percent}
-use Rattle.progress.proofs.program_ends.Statement.{statement}
-use Rattle.progress.proofs.program_ends.Tie as tie
+use Rattle.interpreter.proofs.Walking.{ends-past, ends-opening, ends-percent}
+use Rattle.interpreter.proofs.stepping.program_ends.Statement.{statement}
+use Rattle.interpreter.proofs.stepping.program_ends.Tie as tie
 
 returns : tie.Need-returns
 returns c = sym (ends-past (c .before .before .args .s .now) (c .before .before .args .at) (omega arith))

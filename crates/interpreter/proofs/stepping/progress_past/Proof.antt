@@ -1,8 +1,8 @@
--- `progress::progress_past` meets its contract. Assumes nothing.
+-- `interpreter::stepping::progress_past` meets its contract. Assumes nothing.
 use borrow.Author.Needs.{needs}
-use Rattle.progress.proofs.Executing.{past-is}
-use Rattle.progress.proofs.progress_past.Statement.{statement}
-use Rattle.progress.proofs.progress_past.Tie as tie
+use Rattle.interpreter.proofs.Executing.{past-is}
+use Rattle.interpreter.proofs.stepping.progress_past.Statement.{statement}
+use Rattle.interpreter.proofs.stepping.progress_past.Tie as tie
 
 returns : tie.Need-returns
 returns c = past-is (c .before .before .args .p) (c .one-less .ensures)

@@ -1,22 +1,22 @@
--- `walking::do_block` meets its contract. Assumes nothing.
+-- `interpreter::walk::do_block` meets its contract. Assumes nothing.
 use mathlib.Core.Path.{sym, _∙_}
 use mathlib.Core.Logic.{⊎-elim}
 use native.Mathlib.Omega.{arith}
 use borrow.Author.Needs.{needs}
 use lib.ListN.{length}
 use Rattle.terms.proofs.Laws.{both-left, both-right}
-use Rattle.progress.proofs.Executing.{acts-plain, acts-slashed, acts-skipped}
-use Rattle.walking.proofs.do_block.Statement.{statement}
-use Rattle.walking.proofs.do_block.Tie as tie
+use Rattle.interpreter.proofs.Executing.{leads-plain, leads-slashed, leads-skipped}
+use Rattle.interpreter.proofs.walk.do_block.Statement.{statement}
+use Rattle.interpreter.proofs.walk.do_block.Tie as tie
 
 returns : tie.Need-returns
 returns c =
-    let start = c .before .before .before .before in
+    let start = c .before .before .before in
     let a = start .before .before .before .args in
     let slash = start .begins-with .result in
     let both = c .before .before .if1 .taken in
-    acts-skipped (a .s .now) (a .task) (a .left) (length (a .list .now)) (a .here .block) (a .here .byte) (a .p) (a .here) (a .list .now)
-    (sym (start .begins-with .ensures) ∙ both-left slash (a .task .skips) both) (both-right slash (a .task .skips) both)
+    leads-skipped (a .s .now) (a .ground) (a .skips) (length (a .list .now)) (a .here .block) (a .here .byte) (a .p) (a .here) (a .list .now)
+    (sym (start .begins-with .ensures) ∙ both-left slash (a .skips) both) (both-right slash (a .skips) both)
     (c .before .progress-past .ensures) (c .next-block .ensures)
 
 execute-requires : tie.Need-execute-requires
@@ -26,15 +26,15 @@ returns-2 : tie.Need-returns-2
 returns-2 c =
     let run = c .before .before in
     let fork = run .before .before in
-    let start = fork .before .before .before in
+    let start = fork .before .before in
     let a = start .before .before .before .args in
     let slash = sym (start .begins-with .ensures) in
     ⊎-elim
     (λ w.
-    acts-slashed (a .s .now) (a .task) (a .left) (length (a .list .now)) (a .here .block) (a .here .byte) (a .p) (a .here)
+    leads-slashed (a .s .now) (a .ground) (a .skips) (length (a .list .now)) (a .here .block) (a .here .byte) (a .p) (a .here)
     (slash ∙ w .0 .taken) (rw (w .0 .taken) at (fork .before .if1 .left)) (rw (w .1) at (run .execute .ensures)))
     (λ w.
-    acts-plain (a .s .now) (a .task) (a .left) (length (a .list .now)) (a .here .block) (a .here .byte) (a .p) (a .here)
+    leads-plain (a .s .now) (a .ground) (a .skips) (length (a .list .now)) (a .here .block) (a .here .byte) (a .p) (a .here)
     (slash ∙ w .0 .left) (rw (w .1) at (run .execute .ensures)))
     (fork .if2 .came)
 

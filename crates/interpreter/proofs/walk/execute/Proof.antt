@@ -1,57 +1,47 @@
--- `walking::execute` meets its contract. Assumes nothing.
+-- `interpreter::walk::execute` meets its contract. Assumes nothing.
 use Prim.Native.Nat.{_-_}
 use native.Mathlib.Omega.{arith}
 use borrow.Author.Needs.{needs}
 use lib.ListN.{length, drop}
 use Rattle.lines.specs.Blocks.{textFrom}
-use Rattle.programs.specs.Found.{subsOf}
-use Rattle.progress.proofs.Executing.{acts-refused, acts-accepted, acts-counts}
-use Rattle.progress.proofs.Keeping.{exec-kept}
-use Rattle.walking.proofs.execute.Statement.{statement}
-use Rattle.walking.proofs.execute.Tie as tie
+use Rattle.blocks.specs.Calling.{freely}
+use Rattle.interpreter.proofs.Executing.{leads-refused, leads-accepted, leads-counts}
+use Rattle.interpreter.proofs.Keeping.{exec-kept}
+use Rattle.interpreter.proofs.walk.execute.Statement.{statement}
+use Rattle.interpreter.proofs.walk.execute.Tie as tie
 
 exec-requires : tie.Need-exec-requires
 exec-requires c κs =
-    let s = c .before .before .before .before .before .before in
-    (omega (arith, s .pre .0), (s .pre .1 .1 .0 .next, (s .pre .1 .0 .fair, (s .pre .1 .1 .0 .state, s .pre .1 .0 .ready))))
+    let s = c .before .before .before .before in
+    (omega (arith, s .pre .0), (s .pre .1 .1 .0 .next, (s .pre .1 .0, s .pre .1 .1 .0 .state)))
 
-progress-by-requires : tie.Need-progress-by-requires
-progress-by-requires c κs =
-    let s = c .before .before .before .before .before .before .before .before .before .before .before .before in
+progress-after-requires : tie.Need-progress-after-requires
+progress-after-requires c κs =
+    let exec = c .before .before .before .before .before in
+    let s = exec .before .before .before .before .before in
     let a = s .args in
-    let programs = subsOf (a .task .programs) in
     let fits = s .pre .1 .1 .0 in
     let kept =
-    exec-kept (a .task .bed) programs (a .left) (length (a .list .now) - a .p .next) (a .p .state) (a .here .byte) (s .pre .1 .0 .fair) (fits .state) (a .from)
+    exec-kept (a .ground .bed) (freely (a .ground .left)) (length (a .list .now) - a .p .next) (a .p .state) (a .here .byte) (s .pre .1 .0) (fits .state) (a .from)
     (textFrom (drop (a .from) (a .s .now)))
-    in (
-      s .pre .1 .1 .1,
-      omega (
-        arith,
-        acts-counts programs (a .here) _ (a .p) (a .task .bed) (c .before .before .before .before .before .exec .ensures) (a .left)
-            (c .before .done .given .1) fits kept,
-      ),
-    )
-
-turn-requires : tie.Need-turn-requires
-turn-requires c κs =
-    let s = c .before .before .before .before .before .before .before .before .before .before .before .before .before in
-    s .pre .1 .0 .ready
+    in
+    (s .pre .1 .1 .1, omega (arith, leads-counts (a .here) _ (a .p) (a .ground .bed) (exec .exec .ensures) (c .before .done .given .1) fits kept))
 
 returns : tie.Need-returns
 returns c =
-    let a = c .before .before .before .before .before .before .before .before .before .before .before .before .args in
-    acts-refused (subsOf (a .task .programs)) (a .here) _ (a .p) (a .task .bed) (c .before .before .before .before .before .exec .ensures) (c .before .refusal .given .1)
+    let exec = c .before .before .before .before .before in
+    let a = exec .before .before .before .before .before .args in
+    leads-refused (a .here) _ (a .p) (a .ground .bed) (exec .exec .ensures) (c .before .refusal .given .1)
 
 returns-2 : tie.Need-returns-2
 returns-2 c =
     let exec = c .before .before .before .before .before .before .before in
-    let a = exec .before .before .before .before .before .before .before .args in
-    acts-accepted (subsOf (a .task .programs)) (a .here) _ (a .p) (a .task .bed) (exec .exec .ensures) (c .before .before .before .done .given .1)
-    (c .before .progress-by .ensures) (c .turn .ensures)
+    let a = exec .before .before .before .before .before .args in
+    leads-accepted (a .here) _ (a .p) (a .ground .bed) (exec .exec .ensures) (c .before .before .before .done .given .1)
+    (c .before .progress-after .ensures) (c .way-after .ensures)
 
 pub execute-spec : {M : Type 1} → statement M
 execute-spec =
     tie.close
-    (tie.spec exec-requires (λ c. search needs) (λ c. search needs) progress-by-requires turn-requires (λ c. search needs) returns
-    (λ c. search needs) returns-2)
+    (tie.spec exec-requires (λ c. search needs) (λ c. search needs) progress-after-requires (λ c κs. search needs) (λ c. search needs)
+    returns (λ c. search needs) returns-2)
