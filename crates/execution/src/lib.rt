@@ -13,6 +13,7 @@ ghost use mathlib.Core.List.{List};
 ghost use Prim.Native.Nat.{_-_, _≤_, _+_};
 ghost use lib.ListN.{length, drop};
 ghost use Rattle.words.specs.declared.Word.{Word};
+ghost use Rattle.words.specs.Packed.{wordsIn};
 ghost use Rattle.programs.specs.Found.{WellFound, subsOf};
 ghost use Rattle.blocks.specs.Machine.{machineOf};
 ghost use Rattle.blocks.specs.Reach.{Steady, Reachable};
@@ -74,10 +75,12 @@ fn hear(
     after: usize,
     state: State,
     read: Reading,
+    words: &[u64; 13],
+    places: &[usize; 13],
 ) -> Executed
     requires { ⌜ at ≤ length (now list) ⌝ }
-    requires { ⌜ Heard bed state programs read ⌝ }
-    ensures { λ r. ⌜ ((ws : List Word) → Says (state .modes) ws read → Does (bed .offset) (judgedFrom 1 (machineOf bed) (callsIn (subsOf programs) left) (length (now (list .entry)) - at) state start ws (saidBy (machineOf bed) (state .modes) ws)) (now (list .entry)) at after (now (list .exit)) r) ⌝ }
+    requires { ⌜ Heard bed state programs (wordsIn (now words) (now places)) read ⌝ }
+    ensures { λ r. ⌜ ((ws : List Word) → Says (state .modes) ws (wordsIn (now (words .entry)) (now (places .entry))) read → Does (bed .offset) (judgedFrom 1 (machineOf bed) (callsIn (subsOf programs) left) (length (now (list .entry)) - at) state start ws (saidBy (machineOf bed) (state .modes) ws)) (now (list .entry)) at after (now (list .exit)) r) ⌝ }
 {
     let seen = read.seen;
     let modes = seen.modes;
@@ -88,11 +91,10 @@ fn hear(
     let lowest = bed.lowest;
     let highest = bed.highest;
     let speeds = Speeds { lowest, highest };
-    let words = read.words;
     let stood = seen.letters;
     let plane = modes.plane;
     let centred = letters::has_centre(code, plane, stood[8], stood[9], stood[10]);
-    match judging::judge(speeds, modes, code, centred, words, read.count) {
+    match judging::judge(speeds, modes, code, centred, words, places, read.count) {
         Judged::Unused(byte) => Executed::Refused(Refusal::AddressUndefined, byte),
         Judged::Bad(byte) => Executed::Refused(Refusal::BadParameter, byte),
         Judged::Fine(values) => {
@@ -129,13 +131,27 @@ pub fn exec(
     ensures { λ r. ⌜ Does (bed .offset) (exec (machineOf bed) (callsIn (subsOf programs) left) (length (now (list .entry)) - at) state start from (textFrom (drop from (now (s .entry))))) (now (list .entry)) at (from + lengthFrom (drop from (now (s .entry)))) (now (list .exit)) r ⌝ }
 {
     let modes = state.modes;
-    let read = gathering::read_words(s, from, left == 4, modes);
+    let mut words = [0u64; 13];
+    let mut places = [0usize; 13];
+    let read = gathering::read_words(s, from, left == 4, modes, &mut words, &mut places);
     let status = read.status;
     match status {
         Status::Refused(refusal, byte) => Executed::Refused(refusal, byte),
         Status::Fine => {
             let after = lines::next_block(s, read.end);
-            hear(list, at, bed, programs, left, start, after, state, read)
+            hear(
+                list,
+                at,
+                bed,
+                programs,
+                left,
+                start,
+                after,
+                state,
+                read,
+                &words,
+                &places,
+            )
         }
     }
 }

@@ -7,39 +7,27 @@ use reading::Seen;
 use reading::Status;
 use refusals::Refusal;
 use settings::Modes;
-use words::Number;
-use words::Sign;
-use words::Word;
 ghost use mathlib.Core.Path.{_≡_};
 ghost use Prim.Native.Nat.{_≤_};
 ghost use lib.ListN.{length};
+ghost use Rattle.words.specs.Packed.{wordsIn};
 ghost use Rattle.reading.specs.Whole.{IsRead};
-
-// What fills a place that holds no word: no word has the letter 0.
-fn no_word() -> Word
-    ensures { λ r. ⌜ r .letter ≡ 0 ⌝ }
-{
-    let number = Number {
-        sign: Sign::Plain,
-        point: false,
-        digits: 0,
-        decimals: 0,
-    };
-    Word {
-        letter: 0,
-        number,
-        at: 0,
-    }
-}
 
 // The words of the block's text from a place on, under the modes that held before. After the first word that may not stand
 // the rest is only looked through for what cannot be read. What is kept stands in variables of its own and is put together
 // at the end, so that nothing is copied from word to word.
-pub fn read_words(s: &[u8], from: usize, main: bool, before: Modes) -> Reading
+pub fn read_words(
+    s: &[u8],
+    from: usize,
+    main: bool,
+    before: Modes,
+    words: &mut [u64; 13],
+    places: &mut [usize; 13],
+) -> Reading
     requires { ⌜ from ≤ length (now s) ⌝ }
-    ensures { λ r. ⌜ IsRead main before (now (s .entry)) from r ⌝ }
+    requires { ⌜ (length (now words) ≡ 13) × (length (now places) ≡ 13) ⌝ }
+    ensures { λ r. ⌜ IsRead main before (now (s .entry)) from (wordsIn (now (words .exit)) (now (places .exit))) r ⌝ }
 {
-    let mut words = [no_word(); 13];
     let mut count: usize = 0;
     let mut letters = [false; 26];
     let mut groups = [false; 8];
@@ -80,7 +68,8 @@ pub fn read_words(s: &[u8], from: usize, main: bool, before: Modes) -> Reading
                     }
                     Role::Value => {
                         letters[k] = true;
-                        words[count] = w;
+                        words[count] = words::pack(w);
+                        places[count] = w.at;
                         count += 1;
                     }
                 }
@@ -97,7 +86,6 @@ pub fn read_words(s: &[u8], from: usize, main: bool, before: Modes) -> Reading
         status,
         seen,
         count,
-        words,
         end: i,
     }
 }

@@ -115,20 +115,17 @@ module _ (speeds : Speeds) (m : Modes) (code : BlockCode) (centred : Bool) (word
 
       -- one word more that the block's code uses, by its value x
       module _
-          (d : Word) (h : i < count) (u : Use) (t : Bool)
-          (meaning : u ≡ useOf code (m .plane) (getD words i d .letter)) (test : t ≡ (isNothing u || centred && eqb (getD words i d .letter) (byte "R"))) (used : t ≡ false)
-          (x : Value) (worth : x ≡ valueOf (m .unit) (speeds .lowest .v) (speeds .highest .v) u (getD words i d .number))
+          (w : Word) (is : getD words i w ≡ w) (h : i < count) (u : Use) (t : Bool)
+          (meaning : u ≡ useOf code (m .plane) (w .letter)) (test : t ≡ (isNothing u || centred && eqb (w .letter) (byte "R"))) (used : t ≡ false)
+          (x : Value) (worth : x ≡ valueOf (m .unit) (speeds .lowest .v) (speeds .highest .v) u (w .number))
         where
-          abbrev w : Word
-          w = getD words i d
-
           its-value : x ≡ wordValue speeds m code w
           unfolding wordValue
           its-value = worth ∙ rw meaning
 
           past : (new : Judged) → new ≡ judgedNext speeds m code (soFar bad place stands v) w → LeftFrom speeds m code centred words count new (i + 1)
           past new e =
-              judge-past speeds m code centred words count (soFar bad place stands v) i d (kept .few) h (kept .left) u t meaning test new used e
+              judge-past speeds m code centred words count (soFar bad place stands v) i w is (kept .few) h (kept .left) u t meaning test new used e
 
           pub past-bad : x ≡ value.Bad → bad ≡ false → KeptValues speeds m code centred words count stands v true (w .at) (i + 1)
           unfolding soFar judgedNext valueNext

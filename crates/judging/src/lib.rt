@@ -8,13 +8,13 @@ use words::Given;
 use words::Use;
 use words::Value;
 use words::Values;
-use words::Word;
 ghost use Prim.Native.Nat.{_<_};
 ghost use mathlib.Core.Path.{_≡_};
 ghost use mathlib.Core.Bool.{_&&_, _||_};
 ghost use lib.Dec.{eqb};
 ghost use lib.ListN.{take};
 ghost use Rattle.terms.specs.Terms.{byte};
+ghost use Rattle.words.specs.Packed.{wordsIn};
 ghost use Rattle.letters.specs.Letters.{isNothing};
 ghost use Rattle.letters.specs.Judging.{judgedBy, Stored};
 ghost use Rattle.judging.specs.Places.{givenAt, valuesIn, IsPlace};
@@ -91,11 +91,12 @@ pub fn judge(
     m: Modes,
     code: BlockCode,
     centred: bool,
-    words: [Word; 13],
+    words: &[u64; 13],
+    places: &[usize; 13],
     count: usize,
 ) -> Judged
-    requires { ⌜ Stored words count ⌝ }
-    ensures { λ r. ⌜ r ≡ judgedBy speeds m code centred (take count words) ⌝ }
+    requires { ⌜ Stored (wordsIn (now words) (now places)) count ⌝ }
+    ensures { λ r. ⌜ r ≡ judgedBy speeds m code centred (take count (wordsIn (now (words .entry)) (now (places .entry)))) ⌝ }
 {
     let mut stands = [false; 11];
     let mut v = [Len::zero(); 11];
@@ -103,7 +104,7 @@ pub fn judge(
     let mut place = 0;
     let mut i = 0;
     while i < count {
-        let w = words[i];
+        let w = words::unpack(words[i], places[i]);
         i += 1;
         let plane = m.plane;
         let meaning = letters::use_of(code, plane, w.letter);

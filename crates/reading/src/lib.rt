@@ -54,7 +54,6 @@ pub struct Reading {
     pub status: Status,
     pub seen: Seen,
     pub count: usize,
-    pub words: [Word; 13],
     pub end: usize,
 }
 

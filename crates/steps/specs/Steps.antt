@@ -38,19 +38,19 @@ judgedFrom k machine calls room s start ws b =
     unless (firstOf (drop k (blames machine calls room s start ws b)))
     (accepted (settled machine s b) (controlOf b) (madeBy machine s b))
 
--- what was read of the words of a block
-pub record Says (m : Modes) (ws : List Word) (read : Reading) : Type 0 where
+-- what was read of the words of a block, `held` being those that the lent arrays hold
+pub record Says (m : Modes) (ws held : List Word) (read : Reading) : Type 0 where
   pub seen : Sums m ws (read .seen)
-  pub words : take (read .count) (read .words) ≡ valued ws
+  pub words : take (read .count) held ≡ valued ws
 
 -- what is known of a block all of whose words may stand
-pub record Heard (bed : Bed) (s : State) (programs : Programs) (read : Reading) : Type 0 where
+pub record Heard (bed : Bed) (s : State) (programs : Programs) (held : List Word) (read : Reading) : Type 0 where
   pub fair : Fair bed
   pub state : Reachable bed s
   pub ready : WellFound programs
-  pub stored : Stored (read .words) (read .count)
+  pub stored : Stored held (read .count)
   pub heard : List Word
-  pub says : Says (s .modes) heard read
+  pub says : Says (s .modes) heard held read
 
 -- a plan of at most one record, in which nothing moves
 pub record Brief (rs : List Record) (p : Plan) : Type 0 where
