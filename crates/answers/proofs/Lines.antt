@@ -9,7 +9,7 @@ use lib.ListN.{length, drop, getD, drop-of-length-le}
 use borrow.Author.Tests.{eq-eqb, ne-eqb}
 use Rattle.lines.specs.Blocks.{isLf, textFrom, noText}
 use Rattle.lines.proofs.Lines.{at-place}
-use Rattle.gaps.proofs.Laws.{text-here, text-none}
+use Rattle.lines.proofs.Laws.{text-here, text-none}
 use Rattle.answers.specs.Places.{Begins}
 
 module _ (l : List ℕ) (i : ℕ) where

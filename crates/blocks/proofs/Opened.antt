@@ -6,7 +6,6 @@ use Rattle.lines.proofs.Opened.{opened as lines-opened}
 use Rattle.words.proofs.Opened.{opened as words-opened}
 use Rattle.points.proofs.Opened.{opened as points-opened}
 use Rattle.setup.proofs.Opened.{opened as setup-opened}
-use Rattle.gaps.proofs.Opened.{opened as gaps-opened}
 use Rattle.programs.proofs.Opened.{opened as programs-opened}
 use Rattle.records.proofs.Opened.{opened as records-opened}
 use Rattle.settings.proofs.Opened.{opened as settings-opened}
@@ -28,7 +27,6 @@ unfolding
     words-opened
     points-opened
     setup-opened
-    gaps-opened
     programs-opened
     records-opened
     settings-opened

@@ -94,7 +94,7 @@ fn hear(
     let stood = seen.letters;
     let plane = modes.plane;
     let centred = letters::has_centre(code, plane, stood[8], stood[9], stood[10]);
-    match judging::judge(speeds, modes, code, centred, words, places, read.count) {
+    match letters::judge(speeds, modes, code, centred, words, places, read.count) {
         Judged::Unused(byte) => Executed::Refused(Refusal::AddressUndefined, byte),
         Judged::Bad(byte) => Executed::Refused(Refusal::BadParameter, byte),
         Judged::Fine(values) => {
@@ -133,7 +133,7 @@ pub fn exec(
     let modes = state.modes;
     let mut words = [0u64; 13];
     let mut places = [0usize; 13];
-    let read = gathering::read_words(s, from, left == 4, modes, &mut words, &mut places);
+    let read = reading::read_words(s, from, left == 4, modes, &mut words, &mut places);
     let status = read.status;
     match status {
         Status::Refused(refusal, byte) => Executed::Refused(refusal, byte),

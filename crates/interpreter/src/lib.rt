@@ -164,7 +164,7 @@ fn run_within(setup: Setup, bytes: &[u8], list: &mut [u8], budget: Budget) -> Re
     if !lines::is_percent(bytes, 0) {
         return refused(setup, Refusal::FirstBlock, Place { block: 1, byte: 0 });
     }
-    let found = scanning::find_programs(bytes);
+    let found = programs::find_programs(bytes);
     let verdict = found.verdict;
     match verdict {
         Verdict::Refused(refusal, place) => refused(setup, refusal, place),

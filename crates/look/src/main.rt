@@ -75,7 +75,7 @@ fn show_bad_opening(refusal: Refusal, place: Place) {
 fn show_openings(s: &[u8])
     requires { ⌜ 0 < length (now s) ⌝ }
 {
-    let scanned = scanning::find_programs(s);
+    let scanned = programs::find_programs(s);
     let verdict = scanned.verdict;
     match verdict {
         Verdict::Refused(refusal, place) => show_bad_opening(refusal, place),
@@ -152,7 +152,7 @@ fn show_block(s: &[u8], at: usize, modes: Modes) -> Modes
     let mut words = [0u64; 13];
     let mut places = [0usize; 13];
     let from = after_slash(s, at);
-    let read = gathering::read_words(s, from, true, modes, &mut words, &mut places);
+    let read = reading::read_words(s, from, true, modes, &mut words, &mut places);
     let status = read.status;
     match status {
         Status::Refused(refusal, place) => {
@@ -189,7 +189,7 @@ fn judged(range: Speeds, read: Reading, words: &[u64; 13], places: &[usize; 13])
     let stood = seen.letters;
     let plane = modes.plane;
     let centred = letters::has_centre(code, plane, stood[8], stood[9], stood[10]);
-    judging::judge(range, modes, code, centred, words, places, read.count)
+    letters::judge(range, modes, code, centred, words, places, read.count)
 }
 
 fn speeds() -> Speeds

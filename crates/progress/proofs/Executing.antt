@@ -10,7 +10,7 @@ use Rattle.refusals.specs.declared.Refusal.{Refusal}
 use Rattle.refusals.specs.declared.Refusal.the-variants.{NumberNotFound}
 use Rattle.refusals.specs.declared.Place.{Place}
 use Rattle.lines.specs.Blocks.{beginsWith, textFrom, lengthFrom, blockFrom}
-use Rattle.gaps.proofs.Laws.{text-drop, text-next}
+use Rattle.lines.proofs.Laws.{text-drop, text-next}
 use Rattle.setup.specs.declared.Bed.{Bed}
 use Rattle.records.specs.Layout.{roomOf, listBytes}
 use Rattle.programs.specs.declared.Program.{Program}

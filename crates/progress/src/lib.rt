@@ -130,7 +130,7 @@ pub fn turn(t: Programs, here: Place, control: Control, after: usize, p: Progres
             Act::Halts(Ending::Ended(state, p.count))
         }
         Control::Call(n) => {
-            let Found::At(program) = scanning::find(t, n) else {
+            let Found::At(program) = programs::find(t, n) else {
                 let state = p.state;
                 return Act::Halts(Ending::Refused(Refusal::NumberNotFound, here, state, p.count));
             };

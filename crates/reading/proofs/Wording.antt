@@ -26,7 +26,7 @@ use Rattle.settings.specs.declared.Modes.{Modes}
 use Rattle.settings.specs.Settings.{switched}
 use Rattle.letters.specs.Letters.{known, isKnown, isG, isMisc, codeIn, miscIn, repeats, badG, badM, mayNotStand, firstThatMayNot}
 use Rattle.letters.specs.Judging.{valued, Stored}
-use Rattle.gaps.proofs.Laws.{text-none}
+use Rattle.lines.proofs.Laws.{text-none}
 use Rattle.reading.specs.Items.{wordsAt, statusAfter}
 use Rattle.reading.specs.Seen.{letterPlace, hasLetter, Sums}
 use Rattle.reading.specs.Whole.{standing, statusOf, Kept, IsRead}

@@ -47,7 +47,7 @@ pub fn is_unknown_call(t: Programs, control: Control) -> bool
     let Control::Call(n) = control else {
         return false;
     };
-    match scanning::find(t, n) {
+    match programs::find(t, n) {
         Found::At(_) => false,
         Found::Missing => true,
     }

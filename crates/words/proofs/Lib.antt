@@ -3,3 +3,4 @@ pub mod Opened
 pub mod Numbers
 pub mod Packed
 pub mod Worth
+pub mod Figures

@@ -1,6 +1,11 @@
 // Words of a block: a capital letter and, directly after, a number.
+mod numerals;
+
 use codes::Unit;
 use lengths::Len;
+pub use numerals::read_number;
+pub use numerals::sign_length;
+pub use numerals::sign_of;
 ghost use mathlib.Core.Path.{_≡_};
 ghost use Prim.Native.Nat.{_^_, _≤_, _<_};
 ghost use mathlib.Core.Bool.{not, _&&_};
