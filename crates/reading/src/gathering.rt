@@ -14,8 +14,9 @@ ghost use Rattle.words.specs.Packed.{wordsIn};
 ghost use Rattle.reading.specs.Whole.{IsRead};
 
 // The words of the block's text from a place on, under the modes that held before. After the first word that may not stand
-// the rest is only looked through for what cannot be read. What is kept stands in variables of its own and is put together
-// at the end, so that nothing is copied from word to word.
+// the rest is only looked through for what cannot be read. The words with a value go to the arrays, each packed in one number
+// with its place beside it. What else is kept stands in variables of its own and is put together at the end, so that nothing
+// is copied from word to word.
 pub fn read_words(
     s: &[u8],
     from: usize,

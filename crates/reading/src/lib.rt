@@ -51,8 +51,8 @@ pub enum Role {
     Value,
 }
 
-// What the reading of a block answers. Where the status is fine, `words` holds the words with a value in their order, and
-// `end` is where the block's text ends.
+// What the reading of a block answers. Where the status is fine, `count` words with a value stand in the arrays that were
+// lent, in their order, and `end` is where the block's text ends.
 pub struct Reading {
     pub status: Status,
     pub seen: Seen,
