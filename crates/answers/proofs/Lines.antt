@@ -9,28 +9,15 @@ use lib.ListN.{length, drop, getD, drop-of-length-le}
 use borrow.Author.Tests.{eq-eqb, ne-eqb}
 use Rattle.lines.specs.Blocks.{isLf, textFrom, noText}
 use Rattle.lines.proofs.Lines.{at-place}
-use Rattle.gaps.proofs.Laws.{text-here, text-none}
+use Rattle.lines.proofs.Laws.{text-none, text-at}
 use Rattle.answers.specs.Places.{Begins}
 
 module _ (l : List ℕ) (i : ℕ) where
   pub text-over : noText (drop i l) ≡ true → length (textFrom (drop i l)) ≡ 0
   text-over e = ap length (text-none (drop i l) e)
 
-  -- where a text goes on, a byte stands
-  pub text-inside : noText (drop i l) ≡ false → i < length l
-  unfolding noText
-  text-inside e =
-      elim (decLt i (length l)) [
-        | yes h ↦ h
-        | no h ↦
-            let past : length l ≤ i = omega (arith, h) in
-            let never : true ≡ false = rw (drop-of-length-le l past) at e in absurd (true≢false never)
-      ]
-
   pub text-more : noText (drop i l) ≡ false → length (textFrom (drop i l)) ≡ suc (length (textFrom (drop (i + 1) l)))
-  text-more e =
-      let split = at-place l i (text-inside e) in
-      rw split (ap length (text-here (getD l i 0) (drop (i + 1) l) (rw split at e)))
+  text-more e = ap length (text-at l i e)
 
 -- ---- where the block begins
 

@@ -1,19 +1,29 @@
 // A run's answer: printed, with what a refusal means and where it stands. Each function answers whether all of it was
 // written: after a write that fails nothing more is tried.
+mod listings;
 mod meanings;
 mod places;
 mod standings;
 
 use libc::STDOUT_FILENO;
+pub use listings::show_count;
+pub use listings::show_list;
+use listings::show_refused;
+pub use listings::show_run;
 use meanings::show_meaning;
 use places::show_place;
-use printing::show_count;
-use printing::show_refused;
-pub use refusals::Answer;
+use refusals::Answer;
 use refusals::Place;
 use refusals::Refusal;
 use settings::State;
 use standings::show_state;
+
+// How the printing of a whole list ended: at its end, at a place where no record can be read, or at a write that failed.
+pub enum Shown {
+    Whole,
+    Faulty(usize),
+    Unwritten,
+}
 
 pub fn show_answer(data: &[u8], answer: Answer) -> bool {
     match answer {

@@ -1,10 +1,10 @@
 // A place in the data, shown by its block's text with a caret under the byte.
+use libc::STDOUT_FILENO;
 ghost use mathlib.Core.Path.{_≡_};
 ghost use Prim.Native.Nat.{_+_, _≤_};
 ghost use lib.ListN.{length, drop};
 ghost use Rattle.lines.specs.Blocks.{textFrom};
 ghost use Rattle.answers.specs.Places.{Begins};
-use libc::STDOUT_FILENO;
 
 // Where the block begins that a place lies in.
 fn block_start(s: &[u8], at: usize) -> usize
@@ -49,7 +49,7 @@ pub fn show_place(s: &[u8], byte: usize) -> bool {
     let at = inside(s, byte);
     let from = block_start(s, at);
     let end = text_end(s, from);
-    telling::show_text(STDOUT_FILENO, &s[from..end], 126)
+    files::show_text(STDOUT_FILENO, &s[from..end], 126)
         && io::write_all(STDOUT_FILENO, b"\n")
         && show_blanks(at - from)
         && io::write_all(STDOUT_FILENO, b"^\n")

@@ -1,15 +1,15 @@
 // Where a run stands, on one line: the point in machine units, the code that is on in each of the groups A to F, the feed, the
 // speed, the spindle, and the next block.
+use crate::listings::say;
+use crate::listings::show_count;
+use crate::listings::show_number;
 use codes::Cycle;
 use codes::Distance;
 use codes::Motion;
 use codes::Plane;
 use codes::Return;
 use codes::Unit;
-use libc::STDOUT_FILENO;
 use points::Point;
-use printing::show_count;
-use printing::show_number;
 use refusals::Place;
 use settings::Modes;
 use settings::State;
@@ -18,10 +18,6 @@ pub fn show_state(state: State, next: Place) -> bool {
     let at = state.at;
     let modes = state.modes;
     show_at(at) && show_modes(modes) && show_values(state) && show_next(next)
-}
-
-fn say(text: &[u8]) -> bool {
-    io::write_all(STDOUT_FILENO, text)
 }
 
 fn show_at(at: Point) -> bool {

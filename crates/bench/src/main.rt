@@ -20,12 +20,12 @@ fn main() {
 }
 
 fn measure(times: u64, bytes: &[u8]) {
-    let mut list = buffers::list_room();
+    let mut list = files::list_room();
     let records = run_times(times, bytes, &mut list);
     let blocks = least(enough(bytes, &mut list), bytes, &mut list);
     io::print_decimal(STDOUT_FILENO, times);
-    printing::show_count(blocks);
-    printing::show_count(records as u64);
+    answers::show_count(blocks);
+    answers::show_count(records as u64);
     io::write_all(STDOUT_FILENO, b"\n");
 }
 
@@ -34,7 +34,7 @@ fn run_times(times: u64, bytes: &[u8], list: &mut [u8]) -> usize {
     let mut records: usize = 0;
     let mut left = times;
     while 0 < left {
-        let report = interpreter::run(setup_t::setup(), bytes, list);
+        let report = interpreter::run(setup::setup_t(), bytes, list);
         let answer = report.answer;
         records = refusals::count_of(answer);
         left -= 1;
@@ -44,7 +44,7 @@ fn run_times(times: u64, bytes: &[u8], list: &mut [u8]) -> usize {
 
 // Whether so many blocks bring a run to its end or to a refusal.
 fn is_over(blocks: u64, bytes: &[u8], list: &mut [u8]) -> bool {
-    let report = interpreter::run_blocks(setup_t::setup(), bytes, list, blocks);
+    let report = interpreter::run_blocks(setup::setup_t(), bytes, list, blocks);
     let answer = report.answer;
     match answer {
         Answer::Unfinished(_) => false,

@@ -4,5 +4,6 @@ pub mod Nearness
 pub mod Shortness
 pub mod Making
 pub mod Accepting
+pub mod Calling
 pub mod Radius
 pub mod Table

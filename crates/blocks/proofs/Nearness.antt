@@ -190,9 +190,6 @@ module _ (bed : Bed) (s : State) (b : Said) where
     pub target-sums : (Near (2 ^ 61) (bed .offset)) × (Near (2 ^ 61) end)
     target-sums = omega (arith, steady .fair .offset, end-near)
 
-    pub holes : Holes origin (w .at) (b .values)
-    holes = record { aims = aims; r = steady .said .sizes .r }
-
     pub passing : (cycle : Cycle) → b .code ≡ Moving (Drilling cycle) → Passing (bed .travel) origin (w .at) (b .values)
     passing cycle e =
         record {

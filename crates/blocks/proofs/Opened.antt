@@ -6,7 +6,6 @@ use Rattle.lines.proofs.Opened.{opened as lines-opened}
 use Rattle.words.proofs.Opened.{opened as words-opened}
 use Rattle.points.proofs.Opened.{opened as points-opened}
 use Rattle.setup.proofs.Opened.{opened as setup-opened}
-use Rattle.gaps.proofs.Opened.{opened as gaps-opened}
 use Rattle.programs.proofs.Opened.{opened as programs-opened}
 use Rattle.records.proofs.Opened.{opened as records-opened}
 use Rattle.settings.proofs.Opened.{opened as settings-opened}
@@ -17,6 +16,7 @@ use Rattle.cycles.proofs.Opened.{opened as cycles-opened}
 use Rattle.blocks.specs.Exec.{saidBy, working, spindleRecords, movesIn, lastRecords, madeBy, settled, controlOf, atWord, lacksCentre, lacksParameter, isG17, drills, cannotDrill, callsIn, callTo, unknownCall, tooDeep, atStart, blames, unless, judged, execWords, exec}
 use Rattle.blocks.specs.Machine.{machineOf}
 use Rattle.blocks.specs.Doing.{madeOf, executed}
+use Rattle.blocks.specs.Calling.{freely, called}
 use Rattle.blocks.specs.Motions.{centreWords, centreFor, arcTo, radiusFits, arcMoves, cycleDone, cycleMoves, motionOf, movesOf}
 
 unfoldable pub opened : Unit {0}
@@ -28,7 +28,6 @@ unfolding
     words-opened
     points-opened
     setup-opened
-    gaps-opened
     programs-opened
     records-opened
     settings-opened
@@ -63,6 +62,8 @@ unfolding
     machineOf
     madeOf
     executed
+    freely
+    called
     centreWords
     centreFor
     arcTo

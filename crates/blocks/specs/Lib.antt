@@ -5,4 +5,5 @@ pub mod Exec
 pub mod Reach
 pub mod Keeping
 pub mod Doing
+pub mod Calling
 pub mod Examples

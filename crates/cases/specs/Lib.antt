@@ -1,1 +1,2 @@
 pub mod Budgets
+pub mod Cases

@@ -1,18 +1,36 @@
 // Runs the cases that come on standard input, one after the other, and prints for each the records and then the answer. How
-// a case is written, `headers` says. What is no case ends the run by `bad case`. The input has to be shorter than 1 MiB.
-ghost use Prim.Native.Nat.{_≤_};
-ghost use lib.ListN.{length};
-ghost use Rattle.interpreter.specs.Owing.{Owes};
-ghost use Rattle.cases.specs.Budgets.{budgetBy};
-use headers::Case;
+// a case is written, `case_text` says. What is no case ends the run by `bad case`. The input has to be shorter than 1 MiB.
+mod case_text;
+
+use case_text::case_at;
 use libc::STDIN_FILENO;
 use libc::STDOUT_FILENO;
 use runs::Report;
 use setup::Setup;
 use texts::Digits;
+ghost use Prim.Native.Nat.{_≤_};
+ghost use lib.ListN.{length};
+ghost use Rattle.interpreter.specs.Owing.{Owes};
+ghost use Rattle.cases.specs.Budgets.{budgetBy};
+
+// A word as a count, and the place after it.
+pub struct Counted {
+    pub count: Digits,
+    pub next: usize,
+}
+
+// A case's parts, the places where its data begin and end among them. They are of use only where the case stands.
+pub struct Case {
+    pub setup: Setup,
+    pub blocks: Digits,
+    pub room: u64,
+    pub from: usize,
+    pub end: usize,
+    pub stands: bool,
+}
 
 fn main() {
-    let mut input = buffers::list_room();
+    let mut input = files::list_room();
     let n = io::read_full(STDIN_FILENO, &mut input);
     if n == 1048576 {
         io::write_all(STDOUT_FILENO, b"too long\n");
@@ -25,7 +43,7 @@ fn main() {
 fn run_cases(input: &[u8], list: &mut [u8]) {
     let mut at: usize = 0;
     while at < input.len() {
-        let case = headers::case_at(input, at, list.len());
+        let case = case_at(input, at, list.len());
         if !case.stands {
             io::write_all(STDOUT_FILENO, b"bad case\n");
             return;
@@ -45,7 +63,7 @@ fn run_case(case: Case, input: &[u8], list: &mut [u8])
     let room = case.room as usize;
     let report = report_to(setup, blocks, &input[from..end], &mut list[..room]);
     let answer = report.answer;
-    printing::show_run(list, answer);
+    answers::show_run(list, answer);
 }
 
 fn report_to(setup: Setup, blocks: Digits, bytes: &[u8], list: &mut [u8]) -> Report

@@ -3,14 +3,14 @@
 use Prim.Native.Nat.{ℕ, suc, _<_, _≤_}
 use mathlib.Core.Path.{_≡_, refl, sym, _∙_, ap, ap₂, subst}
 use mathlib.Core.Bool.{Bool, true, false, false≢true, _&&_}
-use mathlib.Core.Option.{Option, none, some}
-use mathlib.Core.List.{List, [], _∷_, _++_, map}
+use mathlib.Core.List.{List, [], _++_, map}
 use native.Mathlib.Omega.{arith}
 use lib.Dec.{ltb}
 use lib.ListN.{length, length-map}
 use Rattle.terms.specs.Terms.{if_then_else_}
 use Rattle.lengths.specs.Units.{len}
 use Rattle.lengths.proofs.Ring.{shift}
+use Rattle.refusals.specs.declared.Refusal.{Refusal}
 use Rattle.refusals.specs.declared.Refusal.the-variants.{LeavesTravel, DataTooLong}
 use Rattle.refusals.specs.declared.Place.{Place}
 use Rattle.refusals.specs.Numbers.{numberOf}
@@ -35,20 +35,19 @@ use Rattle.programs.specs.Openings as Openings
 use Rattle.runs.specs.declared.Budget.{Budget}
 use Rattle.runs.specs.declared.Budget.the-variants.{Whole, First}
 use Rattle.refusals.specs.declared.Answer.the-variants.{Done}
-use Rattle.runs.specs.Walk.{How, ended, refusedAt, Outcome, nowhere}
-use Rattle.runs.specs.Run.{firstOf, finishOf, outcome, recordsOf, answerBy, answerOf, standingOf}
-use Rattle.claims.specs.Blockwise.{BlockDone, refuses, turnAt, Sofar, afterTurn, oneMore, more, recordsBy, howSofar, nextSofar, outcomeSofar, tableIn, subsOf, jobFor, standAt, refusedAtOnce, begunBy, begun, firstBlocks}
+use Rattle.runs.specs.Walk.{refusedAt, Outcome, nowhere}
+use Rattle.runs.specs.Run.{firstOf, outcome, recordsOf, answerBy, answerOf, standingOf}
+use Rattle.claims.specs.Blockwise.{refuses, Close, notYet, atEnd, atRefusal, Sofar, afterTurn, oneMore, more, recordsBy, howSofar, nextSofar, outcomeSofar, tableIn, jobFor, standAt, refusedAtOnce, begunBy, begun, firstBlocks}
 use Rattle.claims.specs.Travel.{inTravel}
 use Rattle.claims.specs.Displaced.{displaced, allMoved, standingMoved, stayIn, LeavesFirst}
-use Rattle.claims.proofs.Turns.{open-turn, more-over}
-use Rattle.claims.proofs.Counted.{records-last, Over}
+use Rattle.claims.proofs.Turns.{Over, open-turn}
+use Rattle.claims.proofs.Counted.{records-last, Suits}
 use Rattle.claims.proofs.Paths.{stays-both}
 use Rattle.claims.proofs.Displacing.{state-twice, records-twice}
-use Rattle.claims.proofs.Runs.{first-n, sufficient, some-n, first-reached, begun-with}
+use Rattle.claims.proofs.Runs.{gives, first-n, suited, first-reached, begun-with}
 use Rattle.claims.proofs.Travel.{Stayed, run-stayed, begun-stayed, same-start, same-stays}
-use Rattle.claims.proofs.Answers.{Close, under, atEnd, atRefusal, run-close, over-finished}
-use Rattle.claims.proofs.Stepping.{one-later, last-first, Allows, allowed}
-use Rattle.claims.proofs.Compared.{Compared, same, parts, compared}
+use Rattle.claims.proofs.Stepping.{one-later, still-open, Allows, allowed}
+use Rattle.claims.proofs.Compared.{Added, Parts, Compared, ceases, same, parts, compared}
 
 -- ---- the two setups in the frame
 
@@ -76,7 +75,7 @@ module _ (by : Axes) (s : Setup) where
       record {
         executed = [];
         stand = record { state = q; room = room; left = 4; ahead = []; callers = [] };
-        over = some (refusedAt r place);
+        over = atRefusal r place;
       })
       first-same
   table-same (table main subs) bs room =
@@ -85,7 +84,7 @@ module _ (by : Axes) (s : Setup) where
       record {
         executed = [];
         stand = record { state = q; room = room; left = 4; ahead = Openings.blocksAt bs main; callers = [] };
-        over = none;
+        over = notYet;
       })
       first-same
 
@@ -123,27 +122,15 @@ module _ (by : Axes) (s : Setup) where
 
 -- ---- a program that ends under the first setup
 
-done-ended : (o : Option How) (k count : ℕ) → Close o → answerBy (howSofar o) k ≡ Done count → o ≡ some ended
+done-ended : (c : Close) (k count : ℕ) → answerBy (howSofar c) k ≡ Done count → c ≡ atEnd
 unfolding answerBy howSofar
-done-ended o k count under e = let z : _≡_ {A = ℕ} 0 1 = cc in absurd (omega arith)
-done-ended o k count atEnd e = refl
-done-ended o k count (atRefusal r place) e = let z : _≡_ {A = ℕ} 0 1 = cc in absurd (omega arith)
+done-ended notYet k count e = let z : _≡_ {A = ℕ} 0 1 = cc in absurd (omega arith)
+done-ended atEnd k count e = refl
+done-ended (atRefusal r place) k count e = let z : _≡_ {A = ℕ} 0 1 = cc in absurd (omega arith)
 
--- so many blocks the budget allows, and they give the outcome
-record Decided (s : Setup) (bytes : List ℕ) (room : ℕ) (budget : Budget) : Type 0 where
-  blocks : ℕ
-  allows : Allows blocks budget
-  gives : outcome s bytes room budget ≡ outcomeSofar (jobFor s bytes) (firstBlocks s bytes room blocks)
-
-decided : (s : Setup) (bytes : List ℕ) (room : ℕ) (budget : Budget) → Decided s bytes room budget
-decided s bytes room Whole =
-    let n = some-n s bytes room in
-    record { blocks = n .0; allows = tt; gives = sufficient s bytes room (n .0) (n .1) }
-decided s bytes room (First k) = record { blocks = k; allows = omega arith; gives = first-n s bytes room k }
-
-fewer-allowed : (budget : Budget) (m n : ℕ) → m ≤ n → Allows n budget → Allows m budget
-fewer-allowed Whole m n h a = tt
-fewer-allowed (First k) m n h a = omega arith
+fewer-allowed : (budget : Budget) (m n : ℕ) (x : Sofar) → m ≤ n → Suits budget n x → Allows m budget
+fewer-allowed Whole m n x h a = tt
+fewer-allowed (First k) m n x h a = omega arith
 
 module _ (by : Axes) (s : Setup) (bytes : List ℕ) (room : ℕ)
     (v : validSetup s ≡ true) (w : validSetup (displaced by s) ≡ true) (six : length (s .origins) ≡ 6)
@@ -158,32 +145,33 @@ module _ (by : Axes) (s : Setup) (bytes : List ℕ) (room : ℕ)
     fair : Fair (bedOf second)
     fair = Valid.fair second w six
 
-    run : Decided s bytes room budget
-    run = decided s bytes room budget
+    run : (n : ℕ) × Suits budget n (firstBlocks s bytes room n)
+    run = suited s bytes room budget
 
     abbrev n : ℕ
-    n = run .blocks
+    n = run .0
 
-    is-ended : firstBlocks s bytes room n .over ≡ some ended
+    first-gives : outcome s bytes room budget ≡ outcomeSofar (jobFor s bytes) (firstBlocks s bytes room n)
+    first-gives = gives s bytes room n budget (run .1)
+
+    is-ended : firstBlocks s bytes room n .over ≡ atEnd
     unfolding answerOf outcomeSofar
     is-ended =
         done-ended (firstBlocks s bytes room n .over) (length (recordsBy (firstBlocks s bytes room n .executed))) count
-        (run-close s bytes room n)
-        (ap (λ (o : Outcome). answerBy (o .how) (length (o .made))) (sym (run .gives)) ∙ done)
+        (ap (λ (o : Outcome). answerBy (o .how) (length (o .made))) (sym first-gives) ∙ done)
 
     -- where so many blocks, which are not more, bring the second setup's run to its end or to a refusal, they give its outcome
     second-gives :
         (m : ℕ) → m ≤ n → Over (firstBlocks second bytes room m)
         → outcome second bytes room budget ≡ outcomeSofar (jobFor second bytes) (firstBlocks second bytes room m)
-    unfolding outcomeSofar
     second-gives m few over =
-        allowed second bytes room m budget (fewer-allowed budget m n few (run .allows))
-        (λ e. over-finished second bytes room m over (ap (λ (o : Outcome). o .how) (sym (first-n second bytes room m)) ∙ e))
+        allowed second bytes room m budget (fewer-allowed budget m n (firstBlocks s bytes room n) few (run .1))
+        (λ e. over (still-open second bytes room m e))
         ∙ first-n second bytes room m
 
     reached : Reachable (bedOf second) (begun s bytes room .stand .state)
     reached =
-        begun-with (λ ds q. Reachable (bedOf second) q) s bytes room
+        begun-with s bytes room (λ ds q. Reachable (bedOf second) q)
         (subst (λ (q : State). Reachable (bedOf second) q) (first-same by s) (first-reached second w))
 
     -- the run under the second setup, block by block, from the first setup's beginning
@@ -191,70 +179,27 @@ module _ (by : Axes) (s : Setup) (bytes : List ℕ) (room : ℕ)
     unfolding firstBlocks
     second-run k = ap (more (jobFor second bytes) k) (begun-same by s bytes room v w)
 
+    abbrev Parting : Type 0
+    Parting = Parts (jobFor s bytes) (jobFor second bytes) staysThere (begun s bytes room)
+
     abbrev Outcomes : Type 0
-    Outcomes =
-        Compared (bedOf second) (machineOf (bedOf s) .fits) (machineOf (bedOf s) .stays) fair (switchOn s) (blocksOf bytes)
-        (finishOf bytes (blocksOf bytes)) (subsOf (tableIn (blocksOf bytes))) (begun s bytes room) n
+    Outcomes = Compared (jobFor s bytes) (jobFor second bytes) staysThere (begun s bytes room) n
 
     runs-compared : Outcomes
-    unfolding firstBlocks jobFor machineOf bedOf originAt switchOn
-    runs-compared = go (begun s bytes room .over) refl
-      where
-        go : (o : Option How) → begun s bytes room .over ≡ o → Outcomes
-        go none e =
-            compared (bedOf second) (machineOf (bedOf s) .fits) (machineOf (bedOf s) .stays) fair (switchOn s) (blocksOf bytes)
-            (finishOf bytes (blocksOf bytes)) (subsOf (tableIn (blocksOf bytes))) n (begun s bytes room) reached e is-ended
-        go (some how) e =
-            same
-            (more-over (jobFor second bytes) n (begun s bytes room) how e
-            ∙ sym (more-over (jobFor s bytes) n (begun s bytes room) how e))
+    unfolding jobFor machineOf bedOf originAt switchOn
+    runs-compared =
+        compared (bedOf second) (machineOf (bedOf s) .fits) (machineOf (bedOf s) .stays) fair (jobFor s bytes) (begun s bytes room) reached n
 
-    -- where the second setup's run leaves the first one's
-    record Parting : Type 0 where
-      before : ℕ
-      within : before < n
-      alike : firstBlocks second bytes room before ≡ firstBlocks s bytes room before
-      open′ : firstBlocks s bytes room before .over ≡ none
-      block : BlockDone
-      next : firstBlocks s bytes room (suc before) .executed ≡ firstBlocks s bytes room before .executed ++ block ∷ []
-      refused :
-          turnAt (jobFor second bytes) (firstBlocks s bytes room before .stand) ≡ refuses LeavesTravel (placeOf (block .block))
-      leaves : pathStaysIn staysThere (firstBlocks s bytes room before .stand .state .at) (block .made) ≡ false
-      rest : List Record
-      all :
-          recordsBy (firstBlocks s bytes room n .executed)
-          ≡ recordsBy (firstBlocks s bytes room (suc before) .executed) ++ rest
-
-    data Either : Type 0 where
-      asFirst : firstBlocks second bytes room n ≡ firstBlocks s bytes room n → Either
-      leaving : Parting → Either
-
-    either : Either
-    unfolding firstBlocks jobFor machineOf bedOf originAt switchOn
-    either = go runs-compared
-      where
-        go : Outcomes → Either
-        go (same e) = asFirst (second-run n ∙ e)
-        go (parts p) =
-            leaving
-            (record {
-              before = p .before;
-              within = p .within;
-              alike = second-run (p .before) ∙ p .same;
-              open′ = p .under;
-              block = p .block;
-              next = p .next;
-              refused = p .refused;
-              leaves = p .leaves;
-              rest = p .rest;
-              all = p .all;
-            })
+    -- the first setup's run was not refused
+    not-refused : (r : Refusal) (place : Place) → more (jobFor s bytes) n (begun s bytes room) .over ≡ atRefusal r place → ⊥
+    unfolding firstBlocks
+    not-refused r place e = let k = is-ended in let z : _≡_ {A = ℕ} 0 1 = cc in omega arith
 
     -- ---- the records of the first blocks
 
     all-made : outcome s bytes room budget .made ≡ recordsBy (firstBlocks s bytes room n .executed)
     unfolding outcomeSofar
-    all-made = ap (λ (o : Outcome). o .made) (run .gives)
+    all-made = ap (λ (o : Outcome). o .made) first-gives
 
     first-made : (k : ℕ) → outcome s bytes room (First k) .made ≡ recordsBy (firstBlocks s bytes room k .executed)
     unfolding outcomeSofar
@@ -286,97 +231,103 @@ module _ (by : Axes) (s : Setup) (bytes : List ℕ) (room : ℕ)
 
     -- ---- where both run alike
 
-    outcome-same : firstBlocks second bytes room n ≡ firstBlocks s bytes room n → outcome second bytes room budget ≡ outcome s bytes room budget
-    unfolding outcomeSofar jobFor
-    outcome-same e =
-        let there : Over (firstBlocks second bytes room n) = (ended, ap (λ (x : Sofar). x .over) e ∙ is-ended) in
-        second-gives n (omega arith) there ∙ ap (outcomeSofar (jobFor s bytes)) e ∙ sym (run .gives)
+    outcome-same :
+        more (jobFor second bytes) n (begun s bytes room) ≡ more (jobFor s bytes) n (begun s bytes room)
+        → outcome second bytes room budget ≡ outcome s bytes room budget
+    unfolding outcomeSofar jobFor firstBlocks
+    outcome-same k =
+        let e : firstBlocks second bytes room n ≡ firstBlocks s bytes room n = second-run n ∙ k in
+        let over = ap (λ (x : Sofar). x .over) e ∙ is-ended in
+        second-gives n (omega arith) (λ k. let z : _≡_ {A = ℕ} 0 1 = cc in omega arith)
+        ∙ ap (outcomeSofar (jobFor s bytes)) e ∙ sym first-gives
 
     -- ---- where they part
 
-    module _ (p : Parting) where
-      abbrev earlier : List Record
-      earlier = recordsBy (firstBlocks s bytes room (p .before) .executed)
+    module _ (p : Parting) (within : p .before < n)
+        (added : Added (more (jobFor s bytes) (suc (p .before)) (begun s bytes room)) (more (jobFor s bytes) n (begun s bytes room)))
+      where
+        abbrev earlier : List Record
+        earlier = recordsBy (firstBlocks s bytes room (p .before) .executed)
 
-      with-block : recordsBy (firstBlocks s bytes room (suc (p .before)) .executed) ≡ earlier ++ p .block .made
-      with-block = ap recordsBy (p .next) ∙ records-last (firstBlocks s bytes room (p .before) .executed) (p .block)
+        alike : firstBlocks second bytes room (p .before) ≡ firstBlocks s bytes room (p .before)
+        unfolding firstBlocks
+        alike = second-run (p .before) ∙ p .same
 
-      earlier-stay : pathStaysIn staysThere (startOf second) earlier ≡ true
-      earlier-stay =
-          subst (λ (x : Sofar). pathStaysIn staysThere (startOf second) (recordsBy (x .executed)) ≡ true) (p .alike)
-          (second-stayed (p .before) .path)
+        with-block : recordsBy (firstBlocks s bytes room (suc (p .before)) .executed) ≡ earlier ++ p .block .made
+        unfolding firstBlocks
+        with-block = ap recordsBy (p .next) ∙ records-last (firstBlocks s bytes room (p .before) .executed) (p .block)
 
-      tool-at : firstBlocks s bytes room (p .before) .stand .state .at ≡ endOf (startOf second) earlier
-      tool-at =
-          subst (λ (x : Sofar). x .stand .state .at ≡ endOf (startOf second) (recordsBy (x .executed))) (p .alike)
-          (second-stayed (p .before) .at)
+        earlier-stay : pathStaysIn staysThere (startOf second) earlier ≡ true
+        earlier-stay =
+            subst (λ (x : Sofar). pathStaysIn staysThere (startOf second) (recordsBy (x .executed)) ≡ true) alike
+            (second-stayed (p .before) .path)
 
-      block-leaves : pathStaysIn staysThere (startOf second) (earlier ++ p .block .made) ≡ false
-      block-leaves =
-          stays-both staysThere (startOf second) earlier (p .block .made)
-          ∙ ap₂ _&&_ earlier-stay
-          (ap (λ (q : Point). pathStaysIn staysThere q (p .block .made)) (sym tool-at) ∙ p .leaves)
+        tool-at : firstBlocks s bytes room (p .before) .stand .state .at ≡ endOf (startOf second) earlier
+        tool-at =
+            subst (λ (x : Sofar). x .stand .state .at ≡ endOf (startOf second) (recordsBy (x .executed))) alike
+            (second-stayed (p .before) .at)
 
-      all-leave : pathStaysIn staysThere (startOf second) (recordsBy (firstBlocks s bytes room n .executed)) ≡ false
-      all-leave =
-          ap (pathStaysIn staysThere (startOf second)) (p .all ∙ ap (_++ p .rest) with-block)
-          ∙ stays-both staysThere (startOf second) (earlier ++ p .block .made) (p .rest)
-          ∙ ap (_&& pathStaysIn staysThere (endOf (startOf second) (earlier ++ p .block .made)) (p .rest)) block-leaves
+        block-leaves : pathStaysIn staysThere (startOf second) (earlier ++ p .block .made) ≡ false
+        unfolding firstBlocks
+        block-leaves =
+            stays-both staysThere (startOf second) earlier (p .block .made)
+            ∙ ap₂ _&&_ earlier-stay
+            (ap (λ (q : Point). pathStaysIn staysThere q (p .block .made)) (sym tool-at) ∙ p .leaves)
 
-      -- the second setup's run is refused at the block
-      second-refused :
-          firstBlocks second bytes room (suc (p .before))
-          ≡ afterTurn (firstBlocks s bytes room (p .before)) (refuses LeavesTravel (placeOf (p .block .block)))
-      second-refused =
-          one-later second bytes room (p .before)
-          ∙ ap (oneMore (jobFor second bytes)) (p .alike)
-          ∙ open-turn (jobFor second bytes) (firstBlocks s bytes room (p .before)) (p .open′)
-          ∙ ap (afterTurn (firstBlocks s bytes room (p .before))) (p .refused)
+        all-leave : pathStaysIn staysThere (startOf second) (recordsBy (firstBlocks s bytes room n .executed)) ≡ false
+        unfolding firstBlocks
+        all-leave =
+            ap (pathStaysIn staysThere (startOf second)) (added .1 ∙ ap (_++ added .0) with-block)
+            ∙ stays-both staysThere (startOf second) (earlier ++ p .block .made) (added .0)
+            ∙ ap (_&& pathStaysIn staysThere (endOf (startOf second) (earlier ++ p .block .made)) (added .0)) block-leaves
 
-      second-outcome :
-          outcome second bytes room budget
-          ≡ record {
-            how = refusedAt LeavesTravel (placeOf (p .block .block));
-            made = outcome s bytes room (First (p .before)) .made;
-            last = outcome s bytes room (First (p .before)) .last;
-            next = nowhere;
-          }
-      unfolding outcomeSofar howSofar nextSofar afterTurn
-      second-outcome =
-          let place : Place = placeOf (p .block .block) in
-          let there : Over (firstBlocks second bytes room (suc (p .before))) =
-          (refusedAt LeavesTravel place, ap (λ (x : Sofar). x .over) second-refused) in
-          second-gives (suc (p .before)) (omega (arith, p .within)) there
-          ∙ ap (outcomeSofar (jobFor second bytes)) second-refused
-          ∙ (λ i.
-          record {
-            how = refusedAt LeavesTravel place;
-            made = sym (first-made (p .before)) i;
-            last = sym (last-first s bytes room (p .before)) i;
-            next = nowhere;
-          })
+        -- the second setup's run is refused at the block
+        second-refused :
+            firstBlocks second bytes room (suc (p .before))
+            ≡ afterTurn (firstBlocks s bytes room (p .before)) (refuses LeavesTravel (placeOf (p .block .block)))
+        unfolding firstBlocks
+        second-refused =
+            one-later second bytes room (p .before)
+            ∙ ap (oneMore (jobFor second bytes)) alike
+            ∙ open-turn (jobFor second bytes) (firstBlocks s bytes room (p .before)) (p .under)
+            ∙ ap (afterTurn (firstBlocks s bytes room (p .before))) (p .refused)
 
-      leaves-first : LeavesFirst by s bytes room budget
-      unfolding answerOf recordsOf answerBy standingOf
-      leaves-first =
-          let made : List Record = outcome s bytes room (First (p .before)) .made in
-          record {
-            before = p .before;
-            block = p .block;
-            executed = p .next;
-            stays = first-stays (p .before) ∙ earlier-stay;
-            leaves =
-                first-stays (suc (p .before)) ∙ ap (pathStaysIn staysThere (startOf second)) with-block ∙ block-leaves;
-            answer =
-                ap (λ (o : Outcome). reportOf (answerBy (o .how) (length (o .made)))) second-outcome
-                ∙ ap (refusedWith (numberOf LeavesTravel) (placeOf (p .block .block))) (sym (length-map made (recordMoved (offset s))));
-            records =
-                ap (λ (o : Outcome). map (recordMoved (offset second)) (o .made)) second-outcome ∙ sym (moved-records by s made);
-            standing =
-                ap (λ (o : Outcome). record { state = stateMoved (offset second) (o .last); next = o .next }) second-outcome
-                ∙ ap (λ (q : State). record { state = q; next = nowhere })
-                (sym (moved-settings by s (outcome s bytes room (First (p .before)) .last)));
-          }
+        second-outcome :
+            outcome second bytes room budget
+            ≡ record {
+              how = refusedAt LeavesTravel (placeOf (p .block .block));
+              made = outcome s bytes room (First (p .before)) .made;
+              last = outcome s bytes room (First (p .before)) .last;
+              next = nowhere;
+            }
+        unfolding outcomeSofar howSofar nextSofar afterTurn
+        second-outcome =
+            let over = ap (λ (x : Sofar). x .over) second-refused in
+            rw (first-n s bytes room (p .before))
+            (second-gives (suc (p .before)) (omega arith) (λ k. let z : _≡_ {A = ℕ} 0 1 = cc in omega arith)
+            ∙ ap (outcomeSofar (jobFor second bytes)) second-refused)
+
+        leaves-first : LeavesFirst by s bytes room budget
+        unfolding answerOf recordsOf answerBy standingOf firstBlocks
+        leaves-first =
+            let made : List Record = outcome s bytes room (First (p .before)) .made in
+            record {
+              before = p .before;
+              block = p .block;
+              executed = p .next;
+              stays = first-stays (p .before) ∙ earlier-stay;
+              leaves =
+                  first-stays (suc (p .before)) ∙ ap (pathStaysIn staysThere (startOf second)) with-block ∙ block-leaves;
+              answer =
+                  ap (λ (o : Outcome). reportOf (answerBy (o .how) (length (o .made)))) second-outcome
+                  ∙ ap (refusedWith (numberOf LeavesTravel) (placeOf (p .block .block))) (sym (length-map made (recordMoved (offset s))));
+              records =
+                  ap (λ (o : Outcome). map (recordMoved (offset second)) (o .made)) second-outcome ∙ sym (moved-records by s made);
+              standing =
+                  ap (λ (o : Outcome). record { state = stateMoved (offset second) (o .last); next = o .next }) second-outcome
+                  ∙ ap (λ (q : State). record { state = q; next = nowhere })
+                  (sym (moved-settings by s (outcome s bytes room (First (p .before)) .last)));
+            }
 
     -- ---- the two halves, for every budget with which the program ends under the first
 
@@ -389,14 +340,15 @@ module _ (by : Axes) (s : Setup) (bytes : List ℕ) (room : ℕ)
         × (recordsOf (displaced by s) bytes room budget ≡ allMoved by (recordsOf s bytes room budget))
         × (standingOf (displaced by s) bytes room budget ≡ standingMoved by (standingOf s bytes room budget))
     unfolding answerOf recordsOf standingOf
-    moves-the-cut stay = go either
+    moves-the-cut stay = go runs-compared
       where
         go :
-            Either
+            Outcomes
             → (answerOf (displaced by s) bytes room budget ≡ Done count)
             × (recordsOf (displaced by s) bytes room budget ≡ allMoved by (recordsOf s bytes room budget))
             × (standingOf (displaced by s) bytes room budget ≡ standingMoved by (standingOf s bytes room budget))
-        go (asFirst e) = (
+        go (ceases r place e) = absurd (not-refused r place e)
+        go (same e) = (
           ap (λ (o : Outcome). answerBy (o .how) (length (o .made))) (outcome-same e) ∙ done,
           ap (λ (o : Outcome). map (recordMoved (offset second)) (o .made)) (outcome-same e)
               ∙ sym (moved-records by s (outcome s bytes room budget .made)),
@@ -404,18 +356,20 @@ module _ (by : Axes) (s : Setup) (bytes : List ℕ) (room : ℕ)
               ∙ ap (λ (q : State). record { state = q; next = outcome s bytes room budget .next })
               (sym (moved-settings by s (outcome s bytes room budget .last))),
         )
-        go (leaving p) = absurd (false≢true (sym (all-stays ∙ all-leave p) ∙ stay))
+        go (parts p within added) = absurd (false≢true (sym (all-stays ∙ all-leave p within added) ∙ stay))
 
     -- "If it ends under the first and that path does not stay, the second refuses for travel at the first executed block whose
     -- displaced path leaves it, with the earlier records displaced."
     pub refuses-for-travel :
         stayIn (displaced by s) (allMoved by (recordsOf s bytes room budget)) ≡ false → LeavesFirst by s bytes room budget
-    refuses-for-travel leave = go either
+    unfolding firstBlocks
+    refuses-for-travel leave = go runs-compared
       where
-        go : Either → LeavesFirst by s bytes room budget
-        go (asFirst e) =
+        go : Outcomes → LeavesFirst by s bytes room budget
+        go (ceases r place e) = absurd (not-refused r place e)
+        go (same e) =
             let stays =
-            subst (λ (x : Sofar). pathStaysIn staysThere (startOf second) (recordsBy (x .executed)) ≡ true) e
+            subst (λ (x : Sofar). pathStaysIn staysThere (startOf second) (recordsBy (x .executed)) ≡ true) (second-run n ∙ e)
             (second-stayed n .path) in
             absurd (false≢true (sym leave ∙ all-stays ∙ stays))
-        go (leaving p) = leaves-first p
+        go (parts p within added) = leaves-first p within added

@@ -23,21 +23,7 @@ use Rattle.records.specs.Path.{pathOf, pathEnd, endOf, pathStaysIn, arcMoved, r
 use Rattle.settings.specs.declared.State.{State}
 use Rattle.settings.specs.Settings.{stateMoved}
 use Rattle.arcs.specs.Turning.{direction, onLeftWay}
-use Rattle.arcs.specs.Arcs.{
-  distance²,
-  centreOf,
-  radius²,
-  notAbove,
-  notBelow,
-  coordinateInside,
-  extremeInside,
-  towards,
-  extremesInside,
-  leftWay,
-  rightWay,
-  arcStays,
-  pathStays,
-}
+use Rattle.arcs.specs.Arcs.{distance², centreOf, radius², notAbove, notBelow, coordinateInside, extremeInside, towards, extremesInside, leftWay, rightWay, arcStays, pathStays}
 use Rattle.centres.proofs.Displaced.{flatMoved, flat-moved, direction-displaced, distance-displaced}
 
 -- ---- numbers

@@ -1,20 +1,16 @@
 -- Which refusals come before any block is executed: "13, 12, 11; then per opening 1, 8, 7".
 use Prim.Native.Nat.{ℕ}
 use mathlib.Core.Path.{_≡_, refl, _∙_, ap}
-use mathlib.Core.Bool.{Bool, true, false, not, _||_, or-true}
-use mathlib.Core.Option.{some}
+use mathlib.Core.Bool.{Bool, true, false, _||_, or-true}
 use mathlib.Core.List.{List, [], _∷_, _++_}
 use native.Mathlib.Omega.{arith}
-use lib.Dec.{eqb, ltb}
-use lib.ListN.{length}
+use lib.Dec.{eqb}
 use Rattle.terms.specs.Terms.{if_then_else_, any}
 use Rattle.refusals.specs.declared.Refusal.{Refusal}
-use Rattle.refusals.specs.declared.Refusal.the-variants.{BadParameter, FirstBlock, BadSetup, DataTooLong}
+use Rattle.refusals.specs.declared.Refusal.the-variants.{BadParameter, FirstBlock}
 use Rattle.refusals.specs.declared.Place.{Place}
 use Rattle.refusals.specs.Numbers.{numberOf}
-use Rattle.setup.specs.declared.Setup.{Setup}
-use Rattle.setup.specs.Limits.{validSetup}
-use Rattle.lines.specs.Blocks.{Block, blocksOf, closes, opens}
+use Rattle.lines.specs.Blocks.{Block, closes, opens}
 use Rattle.programs.specs.declared.Program.{Program}
 use Rattle.programs.specs.declared.Opening.{Opening}
 use Rattle.programs.specs.declared.Opening.the-variants.{Number, Bad}
@@ -23,13 +19,13 @@ use Rattle.programs.specs.declared.Entry.the-variants.{Refuses, Enters}
 use Rattle.programs.specs.Openings.{Table, table, openingOf, programAfter, entryOf, entered, scanBlock, scan, mainAs, programsFrom}
 use Rattle.programs.specs.Openings as Openings
 use Rattle.programs.proofs.Entries.{entry-refusal}
-use Rattle.runs.specs.Walk.{refusedAt, nowhere}
-use Rattle.claims.specs.Blockwise.{tableIn, refusedAtOnce, begunBy, begun}
+use Rattle.runs.specs.Walk.{refusedAt}
+use Rattle.claims.specs.Blockwise.{tableIn}
 use Rattle.claims.specs.Answers.{earlyNumbers, numberedIn}
 
 -- ---- the openings
 
-abbrev Only : List ℕ → Table → Type 0
+abbrev pub Only : List ℕ → Table → Type 0
 Only ns t = (r : Refusal) (place : Place) → t ≡ Openings.refusedAt r place → numberedIn ns r ≡ true
 
 abbrev openingNumbers : List ℕ
@@ -82,7 +78,7 @@ also-early r e =
     ap (λ (t : Bool). eqb n 13 || (eqb n 12 || (eqb n 11 || t))) e
     ∙ rw (or-true (eqb n 11), or-true (eqb n 12), or-true (eqb n 13))
 
-table-number : (bs : List Block) → Only earlyNumbers (tableIn bs)
+pub table-number : (bs : List Block) → Only earlyNumbers (tableIn bs)
 unfolding tableIn any
 table-number [] r place e = let same : FirstBlock ≡ r = cc in rw (← same)
 table-number (b ∷ bs) r place e = go (closes b) r place e
@@ -92,29 +88,3 @@ table-number (b ∷ bs) r place e = go (closes b) r place e
         → Only earlyNumbers (if t then programsFrom b bs else Openings.refusedAt FirstBlock (record { block = 1; byte = 0 }))
     go true r place e = also-early r (programs-number b bs r place e)
     go false r place e = let same : FirstBlock ≡ r = cc in rw (← same)
-
-by-table :
-    (t : Table) (s : Setup) (bs : List Block) (room : ℕ) → Only earlyNumbers t
-    → (r : Refusal) (place : Place) → begunBy t s bs room .over ≡ some (refusedAt r place) → numberedIn earlyNumbers r ≡ true
-unfolding begunBy refusedAtOnce
-by-table (Openings.refusedAt refusal at) s bs room only r place e =
-    let same : refusal ≡ r = cc in
-    rw (← same) (only refusal at refl)
-by-table (table main subs) s bs room only r place e = let never : _≡_ {A = ℕ} 0 1 = cc in absurd (omega arith)
-
-pub early-number :
-    (s : Setup) (bytes : List ℕ) (room : ℕ) (r : Refusal) (place : Place) → begun s bytes room .over ≡ some (refusedAt r place)
-    → numberedIn earlyNumbers r ≡ true
-unfolding begun refusedAtOnce any
-early-number s bytes room r place = go (ltb 65_535 (length bytes)) (validSetup s)
-  where
-    go :
-        (long valid : Bool)
-        → (if long then refusedAtOnce s room DataTooLong nowhere
-        else if not valid then refusedAtOnce s room BadSetup nowhere
-        else begunBy (tableIn (blocksOf bytes)) s (blocksOf bytes) room) .over
-        ≡ some (refusedAt r place)
-        → numberedIn earlyNumbers r ≡ true
-    go true valid e = let same : DataTooLong ≡ r = cc in rw (← same)
-    go false false e = let same : BadSetup ≡ r = cc in rw (← same)
-    go false true e = by-table (tableIn (blocksOf bytes)) s (blocksOf bytes) room (table-number (blocksOf bytes)) r place e

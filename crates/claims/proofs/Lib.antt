@@ -3,14 +3,14 @@ pub mod Blockwise
 pub mod Turns
 pub mod Counted
 pub mod Finishes
+pub mod Early
 pub mod Runs
 pub mod Paths
 pub mod Travel
 pub mod Displacing
 pub mod Answers
-pub mod Early
-pub mod Refused
 pub mod Stepping
+pub mod Refused
 pub mod Twins
 pub mod Compared
 pub mod Displaced

@@ -7,35 +7,7 @@ use Rattle.claims.specs.Displaced.{stayIn}
 
 unfoldable pub opened : Unit {0}
 unfolding
-    runs-opened
-    past
-    inCallee
-    returning
-    led
-    turnBy
-    verdictIn
-    turnUnder
-    turnUnless
-    turnIn
-    turnAt
-    afterTurn
-    turnedUnless
-    oneMore
-    more
-    recordsBy
-    howSofar
-    placeAhead
-    nextSofar
-    outcomeSofar
-    tableIn
-    subsOf
-    jobFor
-    standAt
-    refusedAtOnce
-    begunBy
-    begun
-    firstBlocks
-    inTravel
-    TurnsAt
-    stayIn
+    runs-opened past inCallee returning led turnBy verdictIn turnUnder turnUnless turnIn turnAt afterTurn turnedUnless oneMore more
+    recordsBy howSofar placeAhead nextSofar outcomeSofar tableIn subsOf jobFor standAt refusedAtOnce begunBy begun firstBlocks
+    inTravel TurnsAt stayIn
 opened = tt

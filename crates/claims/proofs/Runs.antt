@@ -1,12 +1,12 @@
 -- A data set under a setup: its outcome is where the run block by block stands, for every budget.
 use Prim.Native.Nat.{ℕ}
-use mathlib.Core.Path.{_≡_, refl, sym, _∙_, ap}
+use mathlib.Core.Path.{_≡_, refl, sym, ap, subst}
 use mathlib.Core.Bool.{Bool, true, false, not}
 use mathlib.Core.List.{List, [], _∷_}
 use native.Mathlib.Omega.{arith}
 use lib.Dec.{ltb}
 use lib.ListN.{length}
-use Rattle.terms.specs.Terms.{if_then_else_}
+use Rattle.terms.specs.Terms.{if_then_else_, any}
 use Rattle.refusals.specs.declared.Refusal.{Refusal}
 use Rattle.refusals.specs.declared.Refusal.the-variants.{FirstBlock, BadSetup, DataTooLong}
 use Rattle.refusals.specs.declared.Place.{Place}
@@ -19,17 +19,20 @@ use Rattle.settings.specs.Settings.{firstModes, firstState}
 use Rattle.blocks.specs.Machine.{machineOf}
 use Rattle.blocks.specs.Reach.{Reachable}
 use Rattle.lines.specs.Blocks.{Block, blocksOf, closes}
+use Rattle.programs.specs.declared.Program.{Program}
 use Rattle.programs.specs.Openings.{Table, table, programsFrom, blocksAt}
 use Rattle.programs.specs.Openings as Openings
 use Rattle.runs.specs.declared.Budget.{Budget}
 use Rattle.runs.specs.declared.Budget.the-variants.{Whole, First}
-use Rattle.runs.specs.Walk.{Job, refusedAt, nowhere, just, after}
+use Rattle.runs.specs.Walk.{Job, unfinished, refusedAt, Outcome, nowhere, just, after}
 use Rattle.runs.specs.Run.{firstOf, finishOf, runTable, runBlocks, outcome}
-use Rattle.claims.specs.Blockwise.{BlockDone, Sofar, more, recordsBy, howSofar, nextSofar, outcomeSofar, tableIn, subsOf, jobFor, standAt, refusedAtOnce, begunBy, begun, firstBlocks}
-use Rattle.claims.proofs.Blockwise.{Placed, whole, unwound, going}
-use Rattle.claims.proofs.Turns.{more-over}
-use Rattle.claims.proofs.Counted.{Over, counted, counted-whole}
-use Rattle.claims.proofs.Finishes.{main-finishes}
+use Rattle.claims.specs.Blockwise.{BlockDone, Close, notYet, atEnd, atRefusal, Sofar, more, recordsBy, howSofar, nextSofar, outcomeSofar, tableIn, subsOf, jobFor, standAt, refusedAtOnce, begunBy, begun, firstBlocks}
+use Rattle.claims.specs.Answers.{earlyNumbers, numberedIn}
+use Rattle.claims.proofs.Blockwise.{whole, unwound, going}
+use Rattle.claims.proofs.Turns.{Over, more-over}
+use Rattle.claims.proofs.Counted.{during, Suits, counted}
+use Rattle.claims.proofs.Finishes.{level-finishes}
+use Rattle.claims.proofs.Early.{Only, table-number}
 
 -- the blocks of the data, by the table of programs
 by-table :
@@ -48,125 +51,98 @@ by-table s bytes room budget (b ∷ bs) = go (closes b)
     go true = refl
     go false = refl
 
-abbrev jobBy : Setup → List ℕ → List Block → Table → Job
-jobBy s bytes bs t =
+abbrev jobWith : Setup → List ℕ → List Program → Job
+jobWith s bytes subs =
     record {
       machine = machineOf (bedOf s);
       skips = switchOn s;
-      blocks = bs;
-      finish = finishOf bytes bs;
-      programs = subsOf t;
+      blocks = blocksOf bytes;
+      finish = finishOf bytes (blocksOf bytes);
+      programs = subs;
     }
 
--- what a run that was over at once gives, for every budget
-at-once : (s : Setup) (room : ℕ) (job : Job) (n : ℕ) (refusal : Refusal) (place : Place)
-    → just (refusedAt refusal place) (firstOf s) ≡ outcomeSofar job (more job n (refusedAtOnce s room refusal place))
-unfolding refusedAtOnce standAt outcomeSofar howSofar nextSofar recordsBy
-at-once s room job n refusal place =
-    sym (ap (outcomeSofar job) (more-over job n (refusedAtOnce s room refusal place) (refusedAt refusal place) refl))
-
-placed-main : (s : Setup) (room : ℕ) (blocks : List Block) → Placed (standAt s room blocks)
-unfolding standAt
-placed-main s room blocks = record { four = refl }
-
-table-first :
-    (s : Setup) (bytes : List ℕ) (bs : List Block) (room n : ℕ) (t : Table)
-    → runTable s bytes bs room (First n) t ≡ outcomeSofar (jobBy s bytes bs t) (more (jobBy s bytes bs t) n (begunBy t s bs room))
-unfolding runTable begunBy subsOf standAt after recordsBy whole unwound going
-table-first s bytes bs room n (Openings.refusedAt refusal place) = at-once s room (jobBy s bytes bs (Openings.refusedAt refusal place)) n refusal place
-table-first s bytes bs room n (table main subs) =
-    counted (jobBy s bytes bs (table main subs)) n [] (standAt s room (blocksAt bs main)) (placed-main s room (blocksAt bs main))
-
-table-whole :
-    (s : Setup) (bytes : List ℕ) (bs : List Block) (room n : ℕ) (t : Table)
-    → Over (more (jobBy s bytes bs t) n (begunBy t s bs room))
-    → runTable s bytes bs room Whole t ≡ outcomeSofar (jobBy s bytes bs t) (more (jobBy s bytes bs t) n (begunBy t s bs room))
-unfolding runTable begunBy subsOf standAt after recordsBy whole unwound going
-table-whole s bytes bs room n (Openings.refusedAt refusal place) o = at-once s room (jobBy s bytes bs (Openings.refusedAt refusal place)) n refusal place
-table-whole s bytes bs room n (table main subs) o =
-    counted-whole (jobBy s bytes bs (table main subs)) n [] (standAt s room (blocksAt bs main)) (placed-main s room (blocksAt bs main)) o
-
-table-finishes :
-    (s : Setup) (bytes : List ℕ) (bs : List Block) (room : ℕ) (t : Table)
-    → (n : ℕ) × Over (more (jobBy s bytes bs t) n (begunBy t s bs room))
-unfolding begunBy standAt more refusedAtOnce
-table-finishes s bytes bs room (Openings.refusedAt refusal place) = (0, (refusedAt refusal place, refl))
-table-finishes s bytes bs room (table main subs) =
-    let f = main-finishes (jobBy s bytes bs (table main subs)) 4 (blocksAt bs main) (firstOf s) room in
-    (f .blocks, f .over [])
-
--- the first n executed blocks
-pub first-n : (s : Setup) (bytes : List ℕ) (room n : ℕ) → outcome s bytes room (First n) ≡ outcomeSofar (jobFor s bytes) (firstBlocks s bytes room n)
-unfolding outcome firstBlocks begun jobFor
-first-n s bytes room n = go (ltb 65_535 (length bytes)) (validSetup s)
+-- how a run begins: refused at once, by a number of those that come so, or before the main's first block, under a valid setup
+module _ (s : Setup) (bytes : List ℕ) (room : ℕ) (budget : Budget) (P : Sofar → Outcome → Type 0)
+    (at-once :
+    (r : Refusal) (place : Place) → numberedIn earlyNumbers r ≡ true
+    → P (refusedAtOnce s room r place) (just (refusedAt r place) (firstOf s)))
+    (at-blocks :
+    (blocks : List Block) → validSetup s ≡ true
+    → P (during [] (standAt s room blocks)) (whole (jobFor s bytes) (standAt s room blocks) budget))
   where
-    go :
-        (long valid : Bool)
-        → (if long then just (refusedAt DataTooLong nowhere) (firstOf s)
-        else if not valid then just (refusedAt BadSetup nowhere) (firstOf s)
-        else runBlocks s bytes room (First n) (blocksOf bytes))
-        ≡ outcomeSofar (jobFor s bytes)
-        (more (jobFor s bytes) n
-        (if long then refusedAtOnce s room DataTooLong nowhere
-        else if not valid then refusedAtOnce s room BadSetup nowhere
-        else begunBy (tableIn (blocksOf bytes)) s (blocksOf bytes) room))
-    go true valid = at-once s room (jobFor s bytes) n DataTooLong nowhere
-    go false false = at-once s room (jobFor s bytes) n BadSetup nowhere
-    go false true =
-        by-table s bytes room (First n) (blocksOf bytes) ∙ table-first s bytes (blocksOf bytes) room n (tableIn (blocksOf bytes))
+    table-begins :
+        (t : Table) → validSetup s ≡ true → tableIn (blocksOf bytes) ≡ t → Only earlyNumbers t
+        → P (begunBy t s (blocksOf bytes) room) (runTable s bytes (blocksOf bytes) room budget t)
+    unfolding begunBy runTable jobFor whole unwound going standAt subsOf
+    table-begins (Openings.refusedAt r place) v e only = at-once r place (only r place refl)
+    table-begins (table main subs) v e only =
+        subst
+        (λ (ps : List Program).
+        P (during [] (standAt s room (blocksAt (blocksOf bytes) main)))
+        (whole (jobWith s bytes ps) (standAt s room (blocksAt (blocksOf bytes) main)) budget))
+        (ap subsOf e) (at-blocks (blocksAt (blocksOf bytes) main) v)
 
--- the whole is what every sufficient n gives
-pub sufficient :
-    (s : Setup) (bytes : List ℕ) (room n : ℕ) → Over (firstBlocks s bytes room n)
-    → outcome s bytes room Whole ≡ outcomeSofar (jobFor s bytes) (firstBlocks s bytes room n)
-unfolding outcome firstBlocks begun jobFor
-sufficient s bytes room n = go (ltb 65_535 (length bytes)) (validSetup s)
-  where
-    go :
-        (long valid : Bool)
-        → Over
-        (more (jobFor s bytes) n
-        (if long then refusedAtOnce s room DataTooLong nowhere
-        else if not valid then refusedAtOnce s room BadSetup nowhere
-        else begunBy (tableIn (blocksOf bytes)) s (blocksOf bytes) room))
-        → (if long then just (refusedAt DataTooLong nowhere) (firstOf s)
-        else if not valid then just (refusedAt BadSetup nowhere) (firstOf s)
-        else runBlocks s bytes room Whole (blocksOf bytes))
-        ≡ outcomeSofar (jobFor s bytes)
-        (more (jobFor s bytes) n
-        (if long then refusedAtOnce s room DataTooLong nowhere
-        else if not valid then refusedAtOnce s room BadSetup nowhere
-        else begunBy (tableIn (blocksOf bytes)) s (blocksOf bytes) room))
-    go true valid o = at-once s room (jobFor s bytes) n DataTooLong nowhere
-    go false false o = at-once s room (jobFor s bytes) n BadSetup nowhere
-    go false true o =
-        by-table s bytes room Whole (blocksOf bytes) ∙ table-whole s bytes (blocksOf bytes) room n (tableIn (blocksOf bytes)) o
+    pub begun-cases : P (begun s bytes room) (outcome s bytes room budget)
+    unfolding outcome begun any
+    begun-cases = go (ltb 65_535 (length bytes)) (validSetup s) refl
+      where
+        go :
+            (long valid : Bool) → validSetup s ≡ valid
+            → P
+            (if long then refusedAtOnce s room DataTooLong nowhere
+            else if not valid then refusedAtOnce s room BadSetup nowhere
+            else begunBy (tableIn (blocksOf bytes)) s (blocksOf bytes) room)
+            (if long then just (refusedAt DataTooLong nowhere) (firstOf s)
+            else if not valid then just (refusedAt BadSetup nowhere) (firstOf s)
+            else runBlocks s bytes room budget (blocksOf bytes))
+        go true valid v = at-once DataTooLong nowhere refl
+        go false false v = at-once BadSetup nowhere refl
+        go false true v =
+            rw (by-table s bytes room budget (blocksOf bytes))
+            (table-begins (tableIn (blocksOf bytes)) v refl (table-number (blocksOf bytes)))
 
--- and there is such an n
-pub some-n : (s : Setup) (bytes : List ℕ) (room : ℕ) → (n : ℕ) × Over (firstBlocks s bytes room n)
-unfolding firstBlocks begun jobFor more refusedAtOnce
-some-n s bytes room = go (ltb 65_535 (length bytes)) (validSetup s)
-  where
-    go :
-        (long valid : Bool)
-        → (n : ℕ)
-        × Over
-        (more (jobFor s bytes) n
-        (if long then refusedAtOnce s room DataTooLong nowhere
-        else if not valid then refusedAtOnce s room BadSetup nowhere
-        else begunBy (tableIn (blocksOf bytes)) s (blocksOf bytes) room))
-    go true valid = (0, (refusedAt DataTooLong nowhere, refl))
-    go false false = (0, (refusedAt BadSetup nowhere, refl))
-    go false true = table-finishes s bytes (blocksOf bytes) room (tableIn (blocksOf bytes))
+pub open-how : (c : Close) → howSofar c ≡ unfinished → c ≡ notYet
+unfolding howSofar
+open-how notYet e = refl
+open-how atEnd e = let z : _≡_ {A = ℕ} 0 1 = cc in absurd (omega arith)
+open-how (atRefusal r place) e = let z : _≡_ {A = ℕ} 0 1 = cc in absurd (omega arith)
 
--- for every budget, the outcome is where some number of blocks leads
-pub some-blocks :
-    (s : Setup) (bytes : List ℕ) (room : ℕ) (budget : Budget)
-    → (n : ℕ) × (outcome s bytes room budget ≡ outcomeSofar (jobFor s bytes) (firstBlocks s bytes room n))
-some-blocks s bytes room Whole =
-    let n = some-n s bytes room in
-    (n .0, sufficient s bytes room (n .0) (n .1))
-some-blocks s bytes room (First n) = (n, first-n s bytes room n)
+module _ (s : Setup) (bytes : List ℕ) (room : ℕ) where
+  -- with a budget that suits n, the first n executed blocks
+  pub gives :
+      (n : ℕ) (budget : Budget) → Suits budget n (firstBlocks s bytes room n)
+      → outcome s bytes room budget ≡ outcomeSofar (jobFor s bytes) (firstBlocks s bytes room n)
+  unfolding firstBlocks refusedAtOnce standAt outcomeSofar howSofar nextSofar recordsBy after
+  gives n budget =
+      begun-cases s bytes room budget
+      (λ x o. Suits budget n (more (jobFor s bytes) n x) → o ≡ outcomeSofar (jobFor s bytes) (more (jobFor s bytes) n x))
+      (λ r place early c.
+      sym
+      (ap (outcomeSofar (jobFor s bytes))
+      (more-over (jobFor s bytes) n (refusedAtOnce s room r place) (λ e. let z : _≡_ {A = ℕ} 0 1 = cc in omega arith))))
+      (λ blocks v c. counted (jobFor s bytes) n budget [] (standAt s room blocks) (record { four = refl }) c)
+
+  pub first-n : (n : ℕ) → outcome s bytes room (First n) ≡ outcomeSofar (jobFor s bytes) (firstBlocks s bytes room n)
+  first-n n = gives n (First n) refl
+
+  -- every budget suits some n
+  pub suited : (budget : Budget) → (n : ℕ) × Suits budget n (firstBlocks s bytes room n)
+  unfolding firstBlocks more refusedAtOnce standAt
+  suited (First n) = (n, refl)
+  suited Whole =
+      begun-cases s bytes room Whole (λ x o. (n : ℕ) × Over (more (jobFor s bytes) n x))
+      (λ r place early. (0, λ e. let z : _≡_ {A = ℕ} 0 1 = cc in omega arith))
+      (λ blocks v. let f = level-finishes (jobFor s bytes) 4 blocks [] tt (firstOf s) room in (f .blocks, f .over []))
+
+  pub how-first : (n : ℕ) → outcome s bytes room (First n) .how ≡ howSofar (firstBlocks s bytes room n .over)
+  unfolding outcomeSofar
+  how-first n = ap (λ (o : Outcome). o .how) (first-n n)
+
+  -- before the first block nothing is executed, and the settings are the first ones
+  pub begun-with : (Q : List BlockDone → State → Type 0) → Q [] (firstOf s) → Q (begun s bytes room .executed) (begun s bytes room .stand .state)
+  unfolding refusedAtOnce standAt
+  begun-with Q first =
+      begun-cases s bytes room Whole (λ x o. Q (x .executed) (x .stand .state)) (λ r place early. first) (λ blocks v. first)
 
 -- a run begins in a state that a run can reach
 pub first-reached : (s : Setup) → validSetup s ≡ true → Reachable (bedOf s) (firstOf s)
@@ -178,25 +154,3 @@ first-reached s v =
       feed = Valid.valid-feed s v;
       speed = Valid.valid-speed s v;
     }
-
--- before the first block nothing is executed, and the settings are the first ones
-module _ (Q : List BlockDone → State → Type 0) (s : Setup) (bytes : List ℕ) (room : ℕ) (first : Q [] (firstOf s)) where
-  table-with : (t : Table) → Q (begunBy t s (blocksOf bytes) room .executed) (begunBy t s (blocksOf bytes) room .stand .state)
-  unfolding begunBy refusedAtOnce standAt
-  table-with (Openings.refusedAt refusal place) = first
-  table-with (table main subs) = first
-
-  pub begun-with : Q (begun s bytes room .executed) (begun s bytes room .stand .state)
-  unfolding begun refusedAtOnce standAt
-  begun-with = go (ltb 65_535 (length bytes)) (validSetup s)
-    where
-      start : Bool → Bool → Sofar
-      start long valid =
-          if long then refusedAtOnce s room DataTooLong nowhere
-          else if not valid then refusedAtOnce s room BadSetup nowhere
-          else begunBy (tableIn (blocksOf bytes)) s (blocksOf bytes) room
-
-      go : (long valid : Bool) → Q (start long valid .executed) (start long valid .stand .state)
-      go true valid = first
-      go false false = first
-      go false true = table-with (tableIn (blocksOf bytes))

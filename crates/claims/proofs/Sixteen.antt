@@ -1,6 +1,6 @@
 -- Which refusals come at a block, and that 16 never comes: under a valid setup a centre is within 1,100,000,000 of the machine's
 -- zero, and under another no block is reached.
-use Prim.Native.Nat.{ℕ, zero, suc, _+_}
+use Prim.Native.Nat.{ℕ, suc, _+_}
 use mathlib.Core.Path.{_≡_, refl, sym, _∙_, ap, subst}
 use mathlib.Core.Bool.{Bool, true, false, false≢true, not}
 use mathlib.Core.Logic.{_⊎_, inl, inr}
@@ -11,20 +11,7 @@ use lib.Dec.{eqb, ltb}
 use lib.ListN.{length, drop}
 use Rattle.terms.specs.Terms.{if_then_else_, all, any, firstOf}
 use Rattle.refusals.specs.declared.Refusal.{Refusal}
-use Rattle.refusals.specs.declared.Refusal.the-variants.{
-  BadParameter,
-  AddressUndefined,
-  ParameterUndefined,
-  CannotExecute,
-  NumberNotFound,
-  NestOver,
-  LeavesTravel,
-  NoRoom,
-  BadSetup,
-  DataTooLong,
-  NoEnd,
-  Unreadable,
-}
+use Rattle.refusals.specs.declared.Refusal.the-variants.{BadParameter, AddressUndefined, ParameterUndefined, CannotExecute, NumberNotFound, NestOver, LeavesTravel, NoRoom, BadSetup, DataTooLong, NoEnd, Unreadable}
 use Rattle.refusals.specs.declared.Place.{Place}
 use Rattle.refusals.specs.Numbers.{numberOf}
 use Rattle.refusals.specs.Answers.{refusedWith, reportOf}
@@ -32,7 +19,7 @@ use Rattle.points.specs.declared.Point.{Point}
 use Rattle.setup.specs.declared.Bed.{Bed}
 use Rattle.setup.specs.declared.Setup.{Setup}
 use Rattle.setup.specs.Limits.{validSetup}
-use Rattle.setup.specs.Frame.{bedOf, switchOn}
+use Rattle.setup.specs.Frame.{bedOf}
 use Rattle.setup.specs.Fair.{Fair}
 use Rattle.setup.proofs.Valid as Valid
 use Rattle.words.specs.declared.Word.{Word}
@@ -46,27 +33,25 @@ use Rattle.blocks.specs.Machine.{Machine, machineOf}
 use Rattle.blocks.specs.Reach.{Reachable, Steady}
 use Rattle.blocks.specs.declared.Said.{Said}
 use Rattle.blocks.specs.declared.Control.{Control}
-use Rattle.blocks.specs.declared.Control.the-variants.{On, Call, Back, Stop}
 use Rattle.blocks.specs.Exec.{Blame, Calls, refused, accepted, saidBy, movesIn, madeBy, controlOf, settled, inMain, callTo, unknownCall, lacksParameter, cannotDrill, atWord, tooDeep, atStart, blames, unless, judged, execWords, exec, callsIn}
 use Rattle.blocks.proofs.Accepting.{AllNone, word-none}
 use Rattle.blocks.proofs.Meaning.{meant}
 use Rattle.blocks.proofs.Making.{made-fits}
-use Rattle.lines.specs.Blocks.{Block, blocksOf}
-use Rattle.programs.specs.declared.Program.{Program}
+use Rattle.lines.specs.Blocks.{Block}
 use Rattle.runs.specs.declared.Budget.{Budget}
-use Rattle.runs.specs.declared.Budget.the-variants.{First}
+use Rattle.runs.specs.declared.Budget.the-variants.{Whole, First}
 use Rattle.runs.specs.Walk.{Job, How, ended, returned, unfinished, refusedAt, Outcome, nowhere, just, slashLength, verdictOn}
-use Rattle.runs.specs.Run.{finishOf, outcome, answerBy, answerOf}
+use Rattle.runs.specs.Run.{outcome, answerBy, answerOf}
 use Rattle.runs.specs.Run as Run
-use Rattle.claims.specs.Blockwise.{BlockDone, Stand, returning, led, verdictIn, turnAt, Sofar, afterTurn, turnedUnless, oneMore, more, howSofar, outcomeSofar, tableIn, subsOf, jobFor, refusedAtOnce, begunBy, begun, firstBlocks}
-use Rattle.claims.specs.Answers.{earlyNumbers, blockNumbers, numberedIn, RefusedBlock}
+use Rattle.claims.specs.Blockwise.{BlockDone, Stand, Turn, refuses, verdictIn, turnAt, notYet, Sofar, more, jobFor, standAt, refusedAtOnce, firstBlocks}
+use Rattle.claims.specs.Answers.{earlyNumbers, blockNumbers, numberedIn, RefusedBlock, RefusedWhere, atOnce, atBlock, OneMore, stays as no-more, refusing, going, ending}
 use Rattle.claims.proofs.Verdicts.{firstBlames, blamesThen, lastBlames, blames-then}
-use Rattle.claims.proofs.Turns.{turn-cases, more-over}
-use Rattle.claims.proofs.Runs.{first-n, some-blocks, first-reached, begun-with}
-use Rattle.claims.proofs.Answers.{over-finished}
+use Rattle.claims.proofs.Turns.{withMachine, Leads, goesOn, atLast, led-leads, turn-cases, more-over}
+use Rattle.claims.proofs.Counted.{during}
+use Rattle.claims.proofs.Runs.{begun-cases, first-reached}
 use Rattle.claims.proofs.Compared.{reach-kept}
-use Rattle.claims.proofs.Early.{early-number}
-use Rattle.claims.proofs.Refused.{refused-over}
+use Rattle.claims.proofs.Stepping.{still-open, one-more}
+use Rattle.claims.proofs.Refused.{refused-adds-nothing}
 
 -- ---- the tests of a block
 
@@ -178,86 +163,30 @@ module _ (bed : Bed) (fair : Fair bed) (calls : Calls) (room : ℕ) (s : State) 
 
 -- ---- the run
 
--- a run that is over by a refusal has one of these numbers
-abbrev Refuses : List ℕ → Option How → Type 0
-Refuses ns o = (r : Refusal) (place : Place) → o ≡ some (refusedAt r place) → numberedIn ns r ≡ true
+not-refused : (d : BlockDone) (s : State) (t : Turn) (r : Refusal) (place : Place) → Leads d s t → t ≡ refuses r place → ⊥
+not-refused d s t r place (goesOn st e) k = let never : _≡_ {A = ℕ} 0 1 = cc in omega arith
+not-refused d s t r place (atLast st e) k = let never : _≡_ {A = ℕ} 0 1 = cc in omega arith
 
-not-over : (ns : List ℕ) → Refuses ns none
-not-over ns r place e = let never : _≡_ {A = ℕ} 0 1 = cc in absurd (omega arith)
-
-at-its-end : (ns : List ℕ) → Refuses ns (some ended)
-at-its-end ns r place e = let never : _≡_ {A = ℕ} 0 1 = cc in absurd (omega arith)
-
-back-over : (x : Sofar) (callers : List (List Block)) (st : Stand) (d : BlockDone) → Refuses blockNumbers (afterTurn x (returning callers st d) .over)
-unfolding returning afterTurn
-back-over x [] st d = at-its-end blockNumbers
-back-over x (rest ∷ callers) st d = not-over blockNumbers
-
-led-over :
-    (job : Job) (x : Sofar) (control : Control) (st : Stand) (d : BlockDone) → Refuses blockNumbers (afterTurn x (led control job st d) .over)
-unfolding led afterTurn
-led-over job x On st d = not-over blockNumbers
-led-over job x (Call n) st d = not-over blockNumbers
-led-over job x Back st d = back-over x (st .callers) st d
-led-over job x Stop st d = at-its-end blockNumbers
-
-module _ (bed : Bed) (fair : Fair bed) (skips : Bool) (blocks : List Block) (finish : Place) (programs : List Program) where
-  abbrev job : Job
-  job = record { machine = machineOf bed; skips = skips; blocks = blocks; finish = finish; programs = programs }
-
+module _ (bed : Bed) (fair : Fair bed) (job : Job) (st : Stand) (reach : Reachable bed (st .state)) where
   verdict-number :
-      (st : Stand) (b : Block) (blame : Blame) → Reachable bed (st .state) → verdictIn job st b ≡ refused blame
+      (b : Block) (blame : Blame) → verdictIn (withMachine (machineOf bed) job) st b ≡ refused blame
       → numberedIn blockNumbers (blame .refusal) ≡ true
   unfolding verdictIn verdictOn
-  verdict-number st b blame reach e =
-      exec-number bed fair (callsIn programs (st .left)) (st .room) (st .state) reach (b .start) (b .start + slashLength b)
+  verdict-number b blame e =
+      exec-number bed fair (callsIn (job .programs) (st .left)) (st .room) (st .state) reach (b .start) (b .start + slashLength b)
       (drop (slashLength b) (b .text)) blame e
 
-  turn-number : (x : Sofar) → Reachable bed (x .stand .state) → Refuses blockNumbers (afterTurn x (turnAt job (x .stand)) .over)
-  unfolding afterTurn any
-  turn-number x reach =
-      turn-cases (λ t. Refuses blockNumbers (afterTurn x t .over)) job (x .stand)
-      (λ at r place e. let same : NoEnd ≡ r = cc in rw (← same))
-      (λ b blame k r place e.
-      let same : blame .refusal ≡ r = cc in
-      rw (← same) (verdict-number (x .stand) b blame reach k))
-      (λ b bs e. not-over blockNumbers)
-      (λ b bs s control made e k. led-over job x control _ _)
-
-  one-number :
-      (o : Option How) (x : Sofar) → Reachable bed (x .stand .state) → Refuses blockNumbers (x .over)
-      → Refuses blockNumbers (turnedUnless o job x .over)
-  unfolding turnedUnless
-  one-number none x reach h r place e = turn-number x reach r place e
-  one-number (some how) x reach h r place e = h r place e
-
-  more-number :
-      (n : ℕ) (x : Sofar) → Reachable bed (x .stand .state) → Refuses blockNumbers (x .over)
-      → Refuses blockNumbers (more job n x .over)
-  unfolding more oneMore
-  more-number zero x reach h r place e = h r place e
-  more-number (suc n) x reach h r place e =
-      more-number n (oneMore job x)
-      (reach-kept bed (machineOf bed .fits) (machineOf bed .stays) fair skips blocks finish programs 1 x reach)
-      (one-number (x .over) x reach h) r place e
+  turn-number :
+      (r : Refusal) (place : Place) → turnAt (withMachine (machineOf bed) job) st ≡ refuses r place → numberedIn blockNumbers r ≡ true
+  unfolding any
+  turn-number r place =
+      turn-cases (λ t. t ≡ refuses r place → numberedIn blockNumbers r ≡ true) (withMachine (machineOf bed) job) st
+      (λ at e k. let same : NoEnd ≡ r = cc in rw (← same))
+      (λ b bs blame e v k. let same : blame .refusal ≡ r = cc in rw (← same) (verdict-number b blame v))
+      (λ b bs e k. let never : _≡_ {A = ℕ} 0 1 = cc in absurd (omega arith))
+      (λ b bs s control made e v k. absurd (not-refused _ _ _ r place (led-leads control _ _ _) k))
 
 -- ---- a data set under a setup
-
--- blocks are reached only under a valid setup
-begun-valid : (s : Setup) (bytes : List ℕ) (room : ℕ) → begun s bytes room .over ≡ none → validSetup s ≡ true
-unfolding begun refusedAtOnce
-begun-valid s bytes room = go (ltb 65_535 (length bytes)) (validSetup s)
-  where
-    go :
-        (long valid : Bool)
-        → (if long then refusedAtOnce s room DataTooLong nowhere
-        else if not valid then refusedAtOnce s room BadSetup nowhere
-        else begunBy (tableIn (blocksOf bytes)) s (blocksOf bytes) room) .over
-        ≡ none
-        → valid ≡ true
-    go true valid e = let never : _≡_ {A = ℕ} 0 1 = cc in absurd (omega arith)
-    go false false e = let never : _≡_ {A = ℕ} 0 1 = cc in absurd (omega arith)
-    go false true e = refl
 
 -- a number of either kind
 abbrev OneOf : Refusal → Type 0
@@ -282,62 +211,58 @@ told (refusedAt r at) k number place count e =
     (r, ap (refusedAt r) same, is)
 
 module _ (s : Setup) (six : length (s .origins) ≡ 6) (bytes : List ℕ) (room : ℕ) where
-  -- a run that was not refused before its first block
-  blocks-number :
-      (n : ℕ) (r : Refusal) (place : Place) → begun s bytes room .over ≡ none
-      → firstBlocks s bytes room n .over ≡ some (refusedAt r place) → numberedIn blockNumbers r ≡ true
-  unfolding firstBlocks jobFor
-  blocks-number n r place open′ e =
-      let v = begun-valid s bytes room open′ in
-      let reach : Reachable (bedOf s) (begun s bytes room .stand .state) =
-      begun-with (λ ds q. Reachable (bedOf s) q) s bytes room (first-reached s v) in
-      more-number (bedOf s) (Valid.fair s v six) (switchOn s) (blocksOf bytes) (finishOf bytes (blocksOf bytes))
-      (subsOf (tableIn (blocksOf bytes))) n (begun s bytes room) reach
-      (subst (Refuses blockNumbers) (sym open′) (not-over blockNumbers)) r place e
-
-  -- and one that was
-  over-at-once : (n : ℕ) (how : How) → begun s bytes room .over ≡ some how → firstBlocks s bytes room n .over ≡ some how
-  unfolding firstBlocks
-  over-at-once n how e = ap (λ (x : Sofar). x .over) (more-over (jobFor s bytes) n (begun s bytes room) how e) ∙ e
-
-  either-number : (n : ℕ) (r : Refusal) (place : Place) → firstBlocks s bytes room n .over ≡ some (refusedAt r place) → OneOf r
-  either-number n r place e = go (begun s bytes room .over) refl
-    where
-      go : (o : Option How) → begun s bytes room .over ≡ o → OneOf r
-      go none open′ = inr (blocks-number n r place open′ e)
-      go (some how) over = inl (early-number s bytes room r place (over ∙ sym (over-at-once n how over) ∙ e))
-
-  -- every refusal of a run has a number of those that come before any block, or of those that come at one
-  pub which-refusals :
-      (budget : Budget) (r : Refusal) (place : Place) → outcome s bytes room budget .how ≡ refusedAt r place
-      → (numberedIn earlyNumbers r ≡ true) ⊎ (numberedIn blockNumbers r ≡ true)
-  unfolding outcomeSofar
-  which-refusals budget r place e =
-      let n = some-blocks s bytes room budget in
-      either-number (n .0) r place
-      (refused-over (firstBlocks s bytes room (n .0) .over) r place (ap (λ (o : Outcome). o .how) (sym (n .1)) ∙ e))
+  -- blocks are reached only under a valid setup, and in states that a run can reach
+  block-number :
+      (n : ℕ) → firstBlocks s bytes room n .over ≡ notYet → (r : Refusal) (place : Place)
+      → turnAt (jobFor s bytes) (firstBlocks s bytes room n .stand) ≡ refuses r place → numberedIn blockNumbers r ≡ true
+  unfolding firstBlocks jobFor refusedAtOnce standAt
+  block-number n =
+      begun-cases s bytes room Whole
+      (λ x o.
+      more (jobFor s bytes) n x .over ≡ notYet → (r : Refusal) (place : Place)
+      → turnAt (jobFor s bytes) (more (jobFor s bytes) n x .stand) ≡ refuses r place → numberedIn blockNumbers r ≡ true)
+      (λ q at early open′.
+      let e = ap (λ (x : Sofar). x .over)
+      (more-over (jobFor s bytes) n (refusedAtOnce s room q at) (λ k. let never : _≡_ {A = ℕ} 0 1 = cc in omega arith)) in
+      let never : _≡_ {A = ℕ} 0 1 = cc in
+      absurd (omega arith))
+      (λ blocks v open′.
+      turn-number (bedOf s) (Valid.fair s v six) (jobFor s bytes) (more (jobFor s bytes) n (during [] (standAt s room blocks)) .stand)
+      (reach-kept (bedOf s) (Valid.fair s v six) (jobFor s bytes) n (during [] (standAt s room blocks)) (first-reached s v)))
 
   -- at a block it is one of those that come there
   pub block-refusals :
       (r : Refusal) (place : Place) (made : List Record) (last : State) → RefusedBlock s bytes room r place made last
       → numberedIn blockNumbers r ≡ true
-  unfolding outcomeSofar
-  block-refusals r place made last at-block = go (begun s bytes room .over) refl
+  block-refusals r place made last at-block = go (one-more s bytes room (at-block .before))
     where
-      how-at : (n : ℕ) → outcome s bytes room (First n) .how ≡ howSofar (firstBlocks s bytes room n .over)
-      how-at n = ap (λ (o : Outcome). o .how) (first-n s bytes room n)
+      how : outcome s bytes room (First (suc (at-block .before))) .how ≡ refusedAt r place
+      how = ap (λ (o : Outcome). o .how) (at-block .refused)
 
-      go : (o : Option How) → begun s bytes room .over ≡ o → numberedIn blockNumbers r ≡ true
-      go none open′ =
-          let n : ℕ = suc (at-block .before) in
-          blocks-number n r place open′
-          (refused-over (firstBlocks s bytes room n .over) r place
-          (sym (how-at n) ∙ ap (λ (o : Outcome). o .how) (at-block .refused)))
-      go (some how) over =
-          let n : ℕ = at-block .before in
-          absurd
-          (over-finished s bytes room n (how, over-at-once n how over)
-          (sym (how-at n) ∙ ap (λ (o : Outcome). o .how) (at-block .stops)))
+      go : OneMore s bytes room (at-block .before) → numberedIn blockNumbers r ≡ true
+      go (no-more over same) = absurd (over (ap (λ (o : Outcome). o .how) (at-block .stops)))
+      go (refusing q at turn open′ now) =
+          let both : refusedAt q at ≡ refusedAt r place = ap (λ (o : Outcome). o .how) (sym now) ∙ how in
+          let same : q ≡ r = cc in
+          rw same at (block-number (at-block .before) (still-open s bytes room (at-block .before) open′) q at turn)
+      go (going d on turn open′ now) =
+          let both = ap (λ (o : Outcome). o .how) (sym now) ∙ how in
+          let never : _≡_ {A = ℕ} 0 1 = cc in
+          absurd (omega arith)
+      go (ending d end turn open′ now) =
+          let both = ap (λ (o : Outcome). o .how) (sym now) ∙ how in
+          let never : _≡_ {A = ℕ} 0 1 = cc in
+          absurd (omega arith)
+
+  -- every refusal of a run has a number of those that come before any block, or of those that come at one
+  pub which-refusals :
+      (budget : Budget) (r : Refusal) (place : Place) → outcome s bytes room budget .how ≡ refusedAt r place
+      → (numberedIn earlyNumbers r ≡ true) ⊎ (numberedIn blockNumbers r ≡ true)
+  which-refusals budget r place e = go _ _ (refused-adds-nothing s bytes room r place budget e)
+    where
+      go : (made : List Record) (last : State) → RefusedWhere s bytes room r place made last → OneOf r
+      go made last (atOnce early told standing none-made first) = inl early
+      go made last (atBlock at-block) = inr (block-refusals r place made last at-block)
 
   -- "16: Arc centre does not fit four signed bytes" never comes, whatever the setup is
   pub never-sixteen :

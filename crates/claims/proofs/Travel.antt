@@ -18,7 +18,6 @@ use Rattle.blocks.specs.Machine.{machineOf}
 use Rattle.blocks.specs.declared.Control.{Control}
 use Rattle.blocks.specs.Exec.{accepted, callsIn}
 use Rattle.lines.specs.Blocks.{Block}
-use Rattle.programs.specs.Openings as Openings
 use Rattle.runs.specs.declared.Budget.{Budget}
 use Rattle.runs.specs.Walk.{Job, Outcome, slashLength, verdictOn}
 use Rattle.runs.specs.Run.{firstOf, outcome, recordsOf, standingOf}
@@ -29,7 +28,7 @@ use Rattle.claims.proofs.Turns.{doneWith, run-holds}
 use Rattle.claims.proofs.Counted.{records-last}
 use Rattle.claims.proofs.Paths.{end-both, stays-both}
 use Rattle.claims.proofs.Displacing.{travelMoved, there-and-back, paths-same, ends-moved}
-use Rattle.claims.proofs.Runs.{some-blocks, begun-with}
+use Rattle.claims.proofs.Runs.{gives, suited, begun-with}
 
 -- the blocks executed so far stay in the travel, and the tool stands where their records end
 pub record Stayed (stays : Point → Record → Bool) (start : Point) (ds : List BlockDone) (s : State) : Type 0 where
@@ -80,7 +79,7 @@ pub begun-stayed :
     → Stayed stays (startOf s) (begun s bytes room .executed) (begun s bytes room .stand .state)
 unfolding recordsBy pathStaysIn endOf firstOf firstState
 begun-stayed stays s bytes room =
-    begun-with (λ ds st. Stayed stays (startOf s) ds st) s bytes room (record { path = refl; at = refl })
+    begun-with s bytes room (Stayed stays (startOf s)) (record { path = refl; at = refl })
 
 -- in the frame of the common offset
 pub stays-in-frame :
@@ -88,8 +87,8 @@ pub stays-in-frame :
     → pathStaysIn (machineOf (bedOf s) .stays) (startOf s) (outcome s bytes room budget .made) ≡ true
 unfolding outcomeSofar firstBlocks jobFor
 stays-in-frame s bytes room budget =
-    let n = some-blocks s bytes room budget in
-    ap (λ (o : Outcome). pathStaysIn (machineOf (bedOf s) .stays) (startOf s) (o .made)) (n .1)
+    let n = suited s bytes room budget in
+    ap (λ (o : Outcome). pathStaysIn (machineOf (bedOf s) .stays) (startOf s) (o .made)) (gives s bytes room (n .0) budget (n .1))
     ∙ run-stayed (jobFor s bytes) (startOf s) (n .0) (begun s bytes room)
     (begun-stayed (machineOf (bedOf s) .stays) s bytes room) .path
 
@@ -135,11 +134,12 @@ pub stands-at-its-records :
     → standingOf s bytes room budget .state .at ≡ endOf (pointOf (s .start)) (recordsOf s bytes room budget)
 unfolding standingOf stateMoved recordsOf outcomeSofar firstBlocks jobFor
 stands-at-its-records s bytes room budget =
-    let n = some-blocks s bytes room budget in
-    ap (λ (o : Outcome). moved (offset s) (o .last .at)) (n .1)
+    let n = suited s bytes room budget in
+    let all = gives s bytes room (n .0) budget (n .1) in
+    ap (λ (o : Outcome). moved (offset s) (o .last .at)) all
     ∙ ap (moved (offset s))
     (run-stayed (jobFor s bytes) (startOf s) (n .0) (begun s bytes room)
     (begun-stayed (machineOf (bedOf s) .stays) s bytes room) .at)
-    ∙ ap (λ (o : Outcome). moved (offset s) (endOf (startOf s) (o .made))) (sym (n .1))
+    ∙ ap (λ (o : Outcome). moved (offset s) (endOf (startOf s) (o .made))) (sym all)
     ∙ sym (ends-moved (offset s) (startOf s) (outcome s bytes room budget .made))
     ∙ ap (λ (p : Point). endOf p (map (recordMoved (offset s)) (outcome s bytes room budget .made))) (same-start s)

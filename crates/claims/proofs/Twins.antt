@@ -60,15 +60,6 @@ module _ (bed : Bed) (fits : Record → Bool) (stays : Point → Record → Bool
       abbrev made : List Record
       made = madeBy second s b
 
-      -- the words say the same, and make the same
-      same-said : saidBy first (s .modes) ws ≡ b
-      unfolding saidBy
-      same-said = refl
-
-      same-made : madeBy first s (saidBy first (s .modes) ws) ≡ made
-      unfolding saidBy madeBy movesIn
-      same-made = refl
-
       same-blames : (last : List (Option Blame)) → blamesThen first calls s start ws (saidBy first (s .modes) ws) last ≡ blamesThen second calls s start ws b last
       unfolding saidBy movesIn blamesThen
       same-blames last = refl

@@ -9,17 +9,7 @@ use lib.Dec.{eqb, ltb}
 use lib.IntN.{natAbs}
 use borrow.Author.Tests.{not-false}
 use Rattle.terms.specs.Terms.{if_then_else_, all, any, first, firstOf}
-use Rattle.refusals.specs.declared.Refusal.the-variants.{
-  BadParameter,
-  AddressUndefined,
-  ParameterUndefined,
-  CannotExecute,
-  NumberNotFound,
-  NestOver,
-  LeavesTravel,
-  NoRoom,
-  CentreTooFar,
-}
+use Rattle.refusals.specs.declared.Refusal.the-variants.{BadParameter, AddressUndefined, ParameterUndefined, CannotExecute, NumberNotFound, NestOver, LeavesTravel, NoRoom, CentreTooFar}
 use Rattle.points.specs.declared.Point.{Point}
 use Rattle.codes.specs.Codes.{miscNumber, isM, isNoM, endsProgram}
 use Rattle.words.specs.declared.Word.{Word}

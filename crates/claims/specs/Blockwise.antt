@@ -3,7 +3,6 @@
 -- the same for every n.
 use Prim.Native.Nat.{ℕ, zero, suc, _-_}
 use mathlib.Core.Bool.{Bool, true, false, not, _||_}
-use mathlib.Core.Option.{Option, none, some}
 use mathlib.Core.List.{List, [], _∷_, _++_}
 use lib.Dec.{ltb}
 use lib.ListN.{length}
@@ -104,22 +103,29 @@ turnIn (b ∷ rest) job st = turnUnless (opens b || closes b) job st b rest
 unfoldable pub turnAt : Job → Stand → Turn
 turnAt job st = turnIn (st .ahead) job st
 
--- A run so far: the blocks executed in their order, where it stands, and how it is over, if it is.
+-- how a run is over, if it is
+pub data Close : Type 0 where
+  notYet : Close
+  atEnd : Close
+  atRefusal : Refusal → Place → Close
+
+-- A run so far: the blocks executed in their order, where it stands, and how it is over.
 pub record Sofar : Type 0 where
   pub executed : List BlockDone
   pub stand : Stand
-  pub over : Option How
+  pub over : Close
 
 -- a refused block is not executed, adds nothing and leaves the stand, settings and room among it, as it was
 unfoldable pub afterTurn : Sofar → Turn → Sofar
 afterTurn x (refuses refusal place) =
-    record { executed = x .executed; stand = x .stand; over = some (refusedAt refusal place) }
-afterTurn x (goes d st) = record { executed = x .executed ++ d ∷ []; stand = st; over = none }
-afterTurn x (ends d st) = record { executed = x .executed ++ d ∷ []; stand = st; over = some ended }
+    record { executed = x .executed; stand = x .stand; over = atRefusal refusal place }
+afterTurn x (goes d st) = record { executed = x .executed ++ d ∷ []; stand = st; over = notYet }
+afterTurn x (ends d st) = record { executed = x .executed ++ d ∷ []; stand = st; over = atEnd }
 
-unfoldable pub turnedUnless : Option How → Job → Sofar → Sofar
-turnedUnless none job x = afterTurn x (turnAt job (x .stand))
-turnedUnless (some how) job x = x
+unfoldable pub turnedUnless : Close → Job → Sofar → Sofar
+turnedUnless notYet job x = afterTurn x (turnAt job (x .stand))
+turnedUnless atEnd job x = x
+turnedUnless (atRefusal refusal place) job x = x
 
 -- one executed block more; "past the end or a refusal answer and list stay as they were"
 unfoldable pub oneMore : Job → Sofar → Sofar
@@ -134,9 +140,10 @@ recordsBy [] = []
 recordsBy (d ∷ ds) = d .made ++ recordsBy ds
 
 -- "before the end the answer is 'not finished'"
-unfoldable pub howSofar : Option How → How
-howSofar none = unfinished
-howSofar (some how) = how
+unfoldable pub howSofar : Close → How
+howSofar notYet = unfinished
+howSofar atEnd = ended
+howSofar (atRefusal refusal place) = refusedAt refusal place
 
 -- where the block stands that is reached next: the first of those that lie ahead, else a missing end
 unfoldable pub placeAhead : List Block → Place → Place
@@ -144,9 +151,10 @@ placeAhead [] finish = finish
 placeAhead (b ∷ rest) finish = placeOf b
 
 -- a run that is over has no next block
-unfoldable pub nextSofar : Option How → Place → Place
-nextSofar none ahead = ahead
-nextSofar (some how) ahead = nowhere
+unfoldable pub nextSofar : Close → Place → Place
+nextSofar notYet ahead = ahead
+nextSofar atEnd ahead = nowhere
+nextSofar (atRefusal refusal place) ahead = nowhere
 
 unfoldable pub outcomeSofar : Job → Sofar → Outcome
 outcomeSofar job x =
@@ -184,12 +192,12 @@ standAt s room blocks = record { state = firstOf s; room = room; left = 4; ahead
 
 unfoldable pub refusedAtOnce : Setup → ℕ → Refusal → Place → Sofar
 refusedAtOnce s room refusal place =
-    record { executed = []; stand = standAt s room []; over = some (refusedAt refusal place) }
+    record { executed = []; stand = standAt s room []; over = atRefusal refusal place }
 
 unfoldable pub begunBy : Table → Setup → List Block → ℕ → Sofar
 begunBy (Openings.refusedAt refusal place) s bs room = refusedAtOnce s room refusal place
 begunBy (table main subs) s bs room =
-    record { executed = []; stand = standAt s room (blocksAt bs main); over = none }
+    record { executed = []; stand = standAt s room (blocksAt bs main); over = notYet }
 
 -- "Refusals 11 to 13 and of openings come at n = 0 too."
 unfoldable pub begun : Setup → List ℕ → ℕ → Sofar

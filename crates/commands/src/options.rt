@@ -6,7 +6,7 @@ ghost use Rattle.commands.specs.Words.{wordOf};
 ghost use Rattle.commands.specs.Options.{noOptions, wrongOptions, withBlocks, withRoom, withPartial, withOption, withNext, withNoMore, isListed, firstOptions, optionsOf};
 use crate::is;
 use crate::word;
-use telling::complain;
+use files::complain;
 use texts::Digits;
 use texts::is_word;
 
@@ -52,6 +52,22 @@ fn wrong(err: i32, name: &[u8], what: &[u8]) -> Options
         partial: false,
         next: 0,
     }
+}
+
+fn given_twice(err: i32, name: &[u8]) -> Options
+    ensures { λ r. ⌜ r ≡ wrongOptions ⌝ }
+{
+    wrong(err, name, b"is given twice")
+}
+
+fn no_room(err: i32) -> Options
+    ensures { λ r. ⌜ r ≡ wrongOptions ⌝ }
+{
+    wrong(
+        err,
+        b"--room",
+        b"wants a number after it, of bytes, 1048576 at most",
+    )
 }
 
 // The options of a command of so many words.
@@ -142,7 +158,7 @@ fn with_blocks(number: &[u8], options: Options, err: i32) -> Options
     ensures { λ r. ⌜ r ≡ withBlocks options (digitsIn (now (number .entry))) ⌝ }
 {
     if !options.whole {
-        return wrong(err, b"--blocks", b"is given twice");
+        return given_twice(err, b"--blocks");
     }
     let Digits::Are(n) = texts::digits_at(number, 0, number.len()) else {
         return wrong(
@@ -168,21 +184,13 @@ fn with_room(number: &[u8], options: Options, err: i32) -> Options
     ensures { λ r. ⌜ r ≡ withRoom options (digitsIn (now (number .entry))) ⌝ }
 {
     if !options.roomy {
-        return wrong(err, b"--room", b"is given twice");
+        return given_twice(err, b"--room");
     }
     let Digits::Are(n) = texts::digits_at(number, 0, number.len()) else {
-        return wrong(
-            err,
-            b"--room",
-            b"wants a number after it, of bytes, 1048576 at most",
-        );
+        return no_room(err);
     };
     if 1048576 < n {
-        return wrong(
-            err,
-            b"--room",
-            b"wants a number after it, of bytes, 1048576 at most",
-        );
+        return no_room(err);
     }
     Options {
         fine: true,
@@ -201,7 +209,7 @@ fn with_partial(options: Options, err: i32) -> Options
     ensures { λ r. ⌜ r ≡ withPartial options ⌝ }
 {
     if options.partial {
-        return wrong(err, b"--partial", b"is given twice");
+        return given_twice(err, b"--partial");
     }
     Options {
         fine: true,

@@ -1,1 +1,6 @@
+pub mod Digits
+pub mod Filled
+pub mod Turned
+pub mod ArcParts
 pub mod Walking
+pub mod Fitting

@@ -1,34 +1,48 @@
 // One block, from its words to its verdict and its records.
+mod hearing;
+
 use blocks::Executed;
 use blocks::Said;
-use letters::Judged;
-use letters::Speeds;
-use programs::Programs;
-use reading::Reading;
-use reading::Status;
 use refusals::Refusal;
 use settings::State;
 use setup::Bed;
 ghost use mathlib.Core.List.{List};
-ghost use Prim.Native.Nat.{_-_, _≤_, _+_};
+ghost use Prim.Native.Nat.{ℕ, _-_, _≤_, _+_};
 ghost use lib.ListN.{length, drop};
 ghost use Rattle.words.specs.declared.Word.{Word};
-ghost use Rattle.programs.specs.Found.{WellFound, subsOf};
 ghost use Rattle.blocks.specs.Machine.{machineOf};
 ghost use Rattle.blocks.specs.Reach.{Steady, Reachable};
-ghost use Rattle.blocks.specs.Exec.{callsIn, working, saidBy, exec};
+ghost use Rattle.blocks.specs.Exec.{working, exec};
+ghost use Rattle.blocks.specs.Calling.{freely};
 ghost use Rattle.blocks.specs.Doing.{Does};
-ghost use Rattle.steps.specs.Steps.{judgedFrom, Heard, Says};
+ghost use Rattle.steps.specs.Steps.{judgedFrom};
 ghost use Rattle.lines.specs.Blocks.{textFrom, lengthFrom};
 ghost use Rattle.setup.specs.Fair.{Fair};
 
-// What a block says is tested in the order of refusals: 3, 5, 6, 4 for a cycle, and then its path.
+// What a block stands on: the bed, and the levels left for calls.
+pub struct Ground {
+    pub bed: Bed,
+    pub left: usize,
+}
+
+// Where a block stands in the data: its first byte, and the byte where its words begin.
+pub struct Spot {
+    pub start: usize,
+    pub from: usize,
+}
+
+// What is heard of a block's words: a refusal with the byte that it names, or what they say, and where the block's text ends.
+pub enum Heard {
+    Refused(Refusal, usize),
+    Says(Said, usize),
+}
+
+// What a block says is tested in the order of refusals: 3, 4 for a cycle, and then its path. 5 and 6 are tested where its call is
+// followed: a block that calls is refused by nothing after them.
 fn obey(
     list: &mut [u8],
     at: usize,
     bed: Bed,
-    programs: Programs,
-    left: usize,
     start: usize,
     after: usize,
     s: State,
@@ -36,8 +50,7 @@ fn obey(
 ) -> Executed
     requires { ⌜ at ≤ length (now list) ⌝ }
     requires { ⌜ Steady bed s b ⌝ }
-    requires { ⌜ WellFound programs ⌝ }
-    ensures { λ r. ⌜ ((ws : List Word) → Does (bed .offset) (judgedFrom 3 (machineOf bed) (callsIn (subsOf programs) left) (length (now (list .entry)) - at) s start ws b) (now (list .entry)) at after (now (list .exit)) r) ⌝ }
+    ensures { λ r. ⌜ ((left : ℕ) (ws : List Word) → Does (bed .offset) (judgedFrom 3 (machineOf bed) (freely left) (length (now (list .entry)) - at) s start ws b) (now (list .entry)) at after (now (list .exit)) r) ⌝ }
 {
     let code = b.code;
     let modes = b.modes;
@@ -46,12 +59,6 @@ fn obey(
         return Executed::Refused(Refusal::ParameterUndefined, start);
     }
     let control = steps::control_of(b);
-    if steps::is_unknown_call(programs, control) {
-        return Executed::Refused(Refusal::NumberNotFound, start);
-    }
-    if steps::is_too_deep(left, control) {
-        return Executed::Refused(Refusal::NestOver, start);
-    }
     let w = steps::working(s, b);
     if steps::cannot_drill(b, w.turning) {
         return Executed::Refused(Refusal::CannotExecute, start);
@@ -63,79 +70,29 @@ fn obey(
     making::lead(list, at, bed, start, after, s, b, control, w, origin, plan)
 }
 
-// The block's words have been read, and all may stand: their values, and then what the block says.
-fn hear(
-    list: &mut [u8],
-    at: usize,
-    bed: Bed,
-    programs: Programs,
-    left: usize,
-    start: usize,
-    after: usize,
-    state: State,
-    read: Reading,
-) -> Executed
-    requires { ⌜ at ≤ length (now list) ⌝ }
-    requires { ⌜ Heard bed state programs read ⌝ }
-    ensures { λ r. ⌜ ((ws : List Word) → Says (state .modes) ws read → Does (bed .offset) (judgedFrom 1 (machineOf bed) (callsIn (subsOf programs) left) (length (now (list .entry)) - at) state start ws (saidBy (machineOf bed) (state .modes) ws)) (now (list .entry)) at after (now (list .exit)) r) ⌝ }
-{
-    let seen = read.seen;
-    let modes = seen.modes;
-    let misc = seen.misc;
-    let groups = seen.groups;
-    let motion = modes.motion;
-    let code = letters::block_code(misc, groups[7], motion);
-    let lowest = bed.lowest;
-    let highest = bed.highest;
-    let speeds = Speeds { lowest, highest };
-    let words = read.words;
-    let stood = seen.letters;
-    let plane = modes.plane;
-    let centred = letters::has_centre(code, plane, stood[8], stood[9], stood[10]);
-    match judging::judge(speeds, modes, code, centred, words, read.count) {
-        Judged::Unused(byte) => Executed::Refused(Refusal::AddressUndefined, byte),
-        Judged::Bad(byte) => Executed::Refused(Refusal::BadParameter, byte),
-        Judged::Fine(values) => {
-            let said = Said {
-                modes,
-                code,
-                misc,
-                named: groups[1],
-                values,
-            };
-            obey(list, at, bed, programs, left, start, after, state, said)
-        }
-    }
-}
-
-// Executes the block at a place of the data: `start` is its first byte, `from` the byte where its words begin. Its records go
-// to the place `at` of the list. A block that is refused leaves the list as it was.
+// Executes the block at a place of the data. Its records go to the place `at` of the list. A block that is refused leaves the list as it
+// was.
 pub fn exec(
     s: &[u8],
     list: &mut [u8],
     at: usize,
-    bed: Bed,
-    programs: Programs,
-    left: usize,
-    start: usize,
-    from: usize,
+    ground: Ground,
+    spot: Spot,
     state: State,
 ) -> Executed
-    requires { ⌜ from ≤ length (now s) ⌝ }
+    requires { ⌜ spot .from ≤ length (now s) ⌝ }
     requires { ⌜ at ≤ length (now list) ⌝ }
-    requires { ⌜ Fair bed ⌝ }
-    requires { ⌜ Reachable bed state ⌝ }
-    requires { ⌜ WellFound programs ⌝ }
-    ensures { λ r. ⌜ Does (bed .offset) (exec (machineOf bed) (callsIn (subsOf programs) left) (length (now (list .entry)) - at) state start from (textFrom (drop from (now (s .entry))))) (now (list .entry)) at (from + lengthFrom (drop from (now (s .entry)))) (now (list .exit)) r ⌝ }
+    requires { ⌜ Fair (ground .bed) ⌝ }
+    requires { ⌜ Reachable (ground .bed) state ⌝ }
+    ensures { λ r. ⌜ Does (ground .bed .offset) (exec (machineOf (ground .bed)) (freely (ground .left)) (length (now (list .entry)) - at) state (spot .start) (spot .from) (textFrom (drop (spot .from) (now (s .entry))))) (now (list .entry)) at (spot .from + lengthFrom (drop (spot .from) (now (s .entry)))) (now (list .exit)) r ⌝ }
 {
-    let modes = state.modes;
-    let read = gathering::read_words(s, from, left == 4, modes);
-    let status = read.status;
-    match status {
-        Status::Refused(refusal, byte) => Executed::Refused(refusal, byte),
-        Status::Fine => {
-            let after = lines::next_block(s, read.end);
-            hear(list, at, bed, programs, left, start, after, state, read)
+    let bed = ground.bed;
+    let heard = hearing::hear_block(s, spot.from, ground.left, bed, state);
+    match heard {
+        Heard::Refused(refusal, byte) => Executed::Refused(refusal, byte),
+        Heard::Says(said, end) => {
+            let after = lines::next_block(s, end);
+            obey(list, at, bed, spot.start, after, state, said)
         }
     }
 }

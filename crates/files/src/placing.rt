@@ -1,10 +1,10 @@
 // Whether a command may write under a name: what the system says of it is asked, and nothing is lost by what is written there.
-use names::Fate;
-use names::Named;
-use names::fate_of;
-use names::named_by;
-use telling::complain;
-use telling::complain_error;
+use crate::Fate;
+use crate::Named;
+use crate::messages::complain;
+use crate::messages::complain_error;
+use crate::names::fate_of;
+use crate::status::named_by;
 
 // Where a command may write: whether it may at all, and if so whether a file stands there, whose rights the new one gets.
 pub struct Spot {
@@ -28,28 +28,17 @@ pub fn spot_for(path: &[u8], first: &[u8], second: &[u8], err: i32) -> Spot {
             fine: true,
             old: true,
         },
-        Fate::Read => refused(
-            path,
-            b"is a file that this command reads, by this name or another; nothing is written there",
-            err,
-        ),
-        Fate::Link => refused(
-            path,
-            b"is a symbolic link; give the name of the file that it leads to",
-            err,
-        ),
-        Fate::Folder => refused(path, b"is a folder", err),
-        Fate::Special => refused(
-            path,
-            b"is a device, a pipe or a socket; only a file is replaced",
-            err,
-        ),
-        Fate::Locked => refused(path, b"may not be written by this user", err),
-        Fate::Unknown => unknown(path, out, err),
+        _ => refused(path, out, fate, err),
     }
 }
 
-fn no_spot() -> Spot {
+fn refused(path: &[u8], out: Named, fate: Fate, err: i32) -> Spot {
+    if let Fate::Unknown = fate {
+        // The system cannot tell what stands there, so that nothing is written over it.
+        complain_error(err, path, b"cannot be written", out.error);
+    } else {
+        complain_fate(path, fate, err);
+    }
     Spot {
         mode: 0,
         fine: false,
@@ -57,13 +46,24 @@ fn no_spot() -> Spot {
     }
 }
 
-fn refused(path: &[u8], why: &[u8], err: i32) -> Spot {
-    complain(err, path, why);
-    no_spot()
-}
-
-// The system cannot tell what stands there, so that nothing is written over it.
-fn unknown(path: &[u8], out: Named, err: i32) -> Spot {
-    complain_error(err, path, b"cannot be written", out.error);
-    no_spot()
+fn complain_fate(path: &[u8], fate: Fate, err: i32) {
+    match fate {
+        Fate::Read => complain(
+            err,
+            path,
+            b"is a file that this command reads, by this name or another; nothing is written there",
+        ),
+        Fate::Link => complain(
+            err,
+            path,
+            b"is a symbolic link; give the name of the file that it leads to",
+        ),
+        Fate::Folder => complain(err, path, b"is a folder"),
+        Fate::Special => complain(
+            err,
+            path,
+            b"is a device, a pipe or a socket; only a file is replaced",
+        ),
+        _ => complain(err, path, b"may not be written by this user"),
+    }
 }

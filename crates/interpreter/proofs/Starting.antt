@@ -46,16 +46,16 @@ use Rattle.blocks.proofs.Nearness.{inside-sums}
 use Rattle.runs.specs.Walk.{How, ended, returned, unfinished, Outcome, nowhere, just}
 use Rattle.runs.specs.Walk as Walk
 use Rattle.runs.specs.Run.{firstOf, runTable, runBlocks, outcome, recordsOf, answerBy, answerOf, standingOf}
-use Rattle.progress.specs.Progressing.{jobOf, goingOf, walkFrom, endingBy, nextBy, Ran, Sound, Fits}
+use Rattle.interpreter.specs.Progressing.{jobOf, goingOf, walkFrom, endingBy, nextBy, Ran, Sound, Fits}
 use Rattle.interpreter.specs.Owing.{Owes}
 use Rattle.interpreter.specs.Serving.{answerFor, Opened, Gives, stateFor, nextFor, reportBy}
 use Rattle.runs.specs.declared.Budget.{Budget}
 use Rattle.runs.specs.declared.Report.{Report}
 use Rattle.runs.specs.declared.Standing.{Standing}
 use Rattle.refusals.specs.declared.Answer.{Answer}
-use Rattle.progress.specs.declared.Progress.{Progress}
-use Rattle.progress.specs.declared.Ending.{Ending}
-use Rattle.progress.proofs.Endings.{moved-length}
+use Rattle.interpreter.specs.declared.Progress.{Progress}
+use Rattle.interpreter.specs.declared.Ending.{Ending}
+use Rattle.interpreter.proofs.Endings.{moved-length}
 
 module _ (s : Setup) (valid : validSetup s ≡ true) where
   first-reachable : Reachable (bedOf s) (firstOf s)

@@ -1,2 +1,3 @@
 pub mod Owing
+pub mod Progressing
 pub mod Serving

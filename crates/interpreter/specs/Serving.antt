@@ -20,8 +20,8 @@ use Rattle.runs.specs.declared.Report.{Report}
 use Rattle.refusals.specs.declared.Place.{Place}
 use Rattle.refusals.specs.declared.Answer.{Answer}
 use Rattle.refusals.specs.declared.Answer.the-variants as Answers
-use Rattle.progress.specs.declared.Ending.{Ending}
-use Rattle.progress.specs.declared.Ending.the-variants.{Ended, Returned, Unfinished, Refused}
+use Rattle.interpreter.specs.declared.Ending.{Ending}
+use Rattle.interpreter.specs.declared.Ending.the-variants.{Ended, Returned, Unfinished, Refused}
 
 -- the settings that the main program's ending leaves
 unfoldable pub stateFor : Ending → State

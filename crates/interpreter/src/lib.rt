@@ -1,120 +1,87 @@
 // Running a data set under a setup.
-use points::Point;
+mod reporting;
+mod stepping;
+mod walk;
+
+use programs::Program;
 use programs::Programs;
 use programs::Verdict;
-use progress::Ending;
-use progress::Progress;
-use progress::Task;
 use records::Listed;
-use refusals::Answer;
 use refusals::Place;
 use refusals::Refusal;
 use runs::Budget;
 use runs::Report;
 use runs::Standing;
 use settings::State;
+use setup::Bed;
 use setup::Setup;
-use walking::run_program;
 ghost use mathlib.Core.Path.{_≡_};
 ghost use mathlib.Core.Bool.{true};
-ghost use Prim.Native.Nat.{_^_};
 ghost use lib.ListN.{length};
 ghost use Rattle.lines.specs.Blocks.{blocksOf};
-ghost use Rattle.points.specs.Near.{Near};
 ghost use Rattle.setup.specs.Limits.{validSetup};
 ghost use Rattle.setup.specs.Frame.{offset};
 ghost use Rattle.records.specs.Reading.{readAt};
 ghost use Rattle.programs.specs.Openings.{table};
 ghost use Rattle.programs.specs.Found.{subsOf};
 ghost use Rattle.runs.specs.declared.Budget.the-variants.{Whole, First};
-ghost use Rattle.settings.specs.Settings.{stateMoved};
-ghost use Rattle.runs.specs.Walk.{just, nowhere, refusedAt};
-ghost use Rattle.runs.specs.Run.{firstOf, runTable, outcome};
+ghost use Rattle.runs.specs.Run.{runTable, outcome};
 ghost use Rattle.interpreter.specs.Owing.{Owes};
-ghost use Rattle.interpreter.specs.Serving.{Opened, Gives, answerFor, reportBy, stateFor, nextFor};
+ghost use Rattle.interpreter.specs.Serving.{Opened, Gives};
 
-// The settings that a run starts with.
-fn first_state(setup: Setup) -> State
-    requires { ⌜ validSetup setup ≡ true ⌝ }
-    ensures { λ r. ⌜ r ≡ firstOf setup ⌝ }
-{
-    let start = setup::start_of(setup);
-    settings::first_state(start, setup::feed_of(setup), setup::speed_of(setup))
+// What stays as it is while a data set runs.
+pub struct Task {
+    pub bed: Bed,
+    pub programs: Programs,
+    pub skips: bool,
 }
 
-// The same in machine units: the setup's own numbers, with no sum of them, since those of a refused setup may be any.
-fn first_standing(setup: Setup) -> Standing
-    ensures { λ r. ⌜ r ≡ record { state = stateMoved (offset setup) (firstOf setup); next = nowhere } ⌝ }
-{
-    let start = setup::point_of(setup.start);
-    let state = settings::first_state(start, setup::feed_of(setup), setup::speed_of(setup));
-    let next = Place { block: 0, byte: 0 };
-    Standing { state, next }
+// What changes from block to block: the settings, the place in the list after the records, their count, and the blocks that
+// may still be executed.
+pub struct Progress {
+    pub state: State,
+    pub next: usize,
+    pub count: usize,
+    pub budget: Budget,
 }
 
-// A refusal before any block: the run stands where it would have started.
-fn refused(setup: Setup, refusal: Refusal, place: Place) -> Report
-    ensures { λ r. ⌜ r ≡ reportBy (offset setup) (just (refusedAt refusal place) (firstOf setup)) ⌝ }
-{
-    let standing = first_standing(setup);
-    Report {
-        answer: Answer::Refused(refusal, place, 0),
-        standing,
-    }
+// How the walk through a program ends: at the program's end, by a return with what goes on, by the budget's end before the
+// block at a place, or by a refusal with its place. Each tells the settings and the count of the records.
+pub enum Ending {
+    Ended(State, usize),
+    Returned(Progress),
+    Unfinished(State, Place, usize),
+    Refused(Refusal, Place, State, usize),
 }
 
-// The settings in machine units.
-fn state_moved(by: Point, s: State) -> State
-    requires { ⌜ (Near (2 ^ 61) by) × (Near (2 ^ 61) (s .at)) ⌝ }
-    ensures { λ r. ⌜ r ≡ stateMoved by s ⌝ }
-{
-    let at = points::moved(by, s.at);
-    let modes = s.modes;
-    let feed = s.feed;
-    let speed = s.speed;
-    State {
-        at,
-        modes,
-        feed,
-        speed,
-        turning: s.turning,
-    }
+// Where a block leads: to the next block, at its byte; to the subprogram of a number, with the byte of the block to come back to;
+// or to the walk's ending.
+pub enum Way {
+    Next(Progress, usize),
+    Calls(u64, Progress, usize),
+    Ends(Ending),
 }
 
-// The answer that the main program's ending gives.
-fn answer_by(ending: Ending) -> Answer
-    ensures { λ r. ⌜ r ≡ answerFor ending ⌝ }
-{
-    match ending {
-        Ending::Ended(_, count) => Answer::Done(count),
-        Ending::Returned(p) => Answer::Done(p.count),
-        Ending::Unfinished(_, _, count) => Answer::Unfinished(count),
-        Ending::Refused(refusal, place, _, count) => Answer::Refused(refusal, place, count),
-    }
+// A block that calls the subprogram of a number: its place, the progress before it and after it, and the byte of the block to come
+// back to.
+pub struct Caller {
+    pub number: u64,
+    pub place: Place,
+    pub before: Progress,
+    pub after: Progress,
+    pub back: usize,
 }
 
-// The settings that it leaves.
-fn state_by(ending: Ending) -> State
-    ensures { λ r. ⌜ r ≡ stateFor ending ⌝ }
-{
-    match ending {
-        Ending::Ended(state, _) => state,
-        Ending::Returned(p) => p.state,
-        Ending::Unfinished(state, _, _) => state,
-        Ending::Refused(_, _, state, _) => state,
-    }
+// How far a walk comes that follows no call: to a block that calls, or to its ending.
+pub enum Leg {
+    Calls(Caller),
+    Ends(Ending),
 }
 
-// The place of the next block, where the run is not finished.
-fn next_by(ending: Ending) -> Place
-    ensures { λ r. ⌜ r ≡ nextFor ending ⌝ }
-{
-    match ending {
-        Ending::Ended(_, _) => Place { block: 0, byte: 0 },
-        Ending::Returned(_) => Place { block: 0, byte: 0 },
-        Ending::Unfinished(_, next, _) => next,
-        Ending::Refused(_, _, _, _) => Place { block: 0, byte: 0 },
-    }
+// What a call leads to: a subprogram, or a refusal.
+pub enum Callee {
+    Found(Program),
+    Refused(Refusal),
 }
 
 // Runs the main program, all four levels left.
@@ -135,17 +102,17 @@ fn run_main(
         skips: setup::skips(setup),
     };
     let first = Progress {
-        state: first_state(setup),
+        state: reporting::first_state(setup),
         next: 0,
         count: 0,
         budget,
     };
     let main = programs.main;
-    let ending = run_program(bytes, list, task, 4, main, first);
-    let state = state_moved(setup::point_of(setup.exofs), state_by(ending));
-    let next = next_by(ending);
+    let ending = walk::run_program(bytes, list, task, 4, main, first);
+    let state = reporting::state_moved(setup::point_of(setup.exofs), reporting::state_by(ending));
+    let next = reporting::next_by(ending);
     Report {
-        answer: answer_by(ending),
+        answer: reporting::answer_by(ending),
         standing: Standing { state, next },
     }
 }
@@ -156,18 +123,18 @@ fn run_within(setup: Setup, bytes: &[u8], list: &mut [u8], budget: Budget) -> Re
 {
     let nowhere = Place { block: 0, byte: 0 };
     if 65_535 < bytes.len() {
-        return refused(setup, Refusal::DataTooLong, nowhere);
+        return reporting::refused(setup, Refusal::DataTooLong, nowhere);
     }
     if !setup::is_valid(setup) {
-        return refused(setup, Refusal::BadSetup, nowhere);
+        return reporting::refused(setup, Refusal::BadSetup, nowhere);
     }
     if !lines::is_percent(bytes, 0) {
-        return refused(setup, Refusal::FirstBlock, Place { block: 1, byte: 0 });
+        return reporting::refused(setup, Refusal::FirstBlock, Place { block: 1, byte: 0 });
     }
-    let found = scanning::find_programs(bytes);
+    let found = programs::find_programs(bytes);
     let verdict = found.verdict;
     match verdict {
-        Verdict::Refused(refusal, place) => refused(setup, refusal, place),
+        Verdict::Refused(refusal, place) => reporting::refused(setup, refusal, place),
         Verdict::Fine => run_main(setup, bytes, list, found.programs, budget),
     }
 }

@@ -25,7 +25,7 @@ fn main() {
         return;
     }
     let n = gathered.count;
-    shop::obey(&line[..n], STDERR_FILENO);
+    shop::do_command(&line[..n], STDERR_FILENO);
 }
 
 // The arguments after the program's own name, each ended by a byte 0.

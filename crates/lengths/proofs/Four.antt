@@ -66,16 +66,6 @@ of-high n h k = rw (le-ltb n (2 ^ 31) h) (omega (arith, view, diff-bal (pos n) (
 
 -- ---- four bytes and back
 
-pub length-four : (z : ℤ) → length (fourBytes z) ≡ 4
-length-four z = refl
-
-pub four-below : (z : ℤ) (i : ℕ) → getD (fourBytes z) i 0 < 256
-four-below z zero = mod-lt (wordOf z) (omega arith)
-four-below z (suc zero) = mod-lt (wordOf z / 256) (omega arith)
-four-below z (suc (suc zero)) = mod-lt (wordOf z / 65536) (omega arith)
-four-below z (suc (suc (suc zero))) = mod-lt (wordOf z / 16777216) (omega arith)
-four-below z (suc (suc (suc (suc i)))) = omega arith
-
 -- a word is the sum of its four digits: each is what its quotient has beside 256 times the next quotient
 digits : (n : ℕ) → n < 2 ^ 32 → word (n % 256) (n / 256 % 256) (n / 65536 % 256) (n / 16777216 % 256) ≡ n
 digits n h =

@@ -126,12 +126,6 @@ pub ruleset view = (le-view, gt-view, lt-view, ge-view, eq-view, len-view, view-
 pub le-shift : (a b d : ℤ) → leZ a b ≡ true → leZ (a +ℤ d) (b +ℤ d) ≡ true
 le-shift a b d h = omega (arith, view, sum-bal a d, sum-bal b d)
 
-pub le-lt : (a b c : ℤ) → leZ a b ≡ true → ltZ b c ≡ true → ltZ a c ≡ true
-le-lt a b c h k = omega (arith, view)
-
-pub sum-diff : (a b c : ℤ) → a +ℤ b ≡ c → a ≡ c -ℤ b
-sum-diff a b c e = omega (arith, view, sum-bal a b, diff-bal c b)
-
 -- half of a number rounded down: twice that is the number or one below it
 pub halved-over : (z : ℤ) → over (halved z) + over (halved z) + under z ≤ under (halved z) + under (halved z) + over z
 unfolding halved
@@ -155,13 +149,6 @@ near-abs z h = omega (arith, abs-sum z)
 pub abs-near : {n : ℕ} (z : ℤ) → natAbs z ≤ n → Within n z
 abs-near z h = omega (arith, abs-sum z)
 
--- `Within n z` is that z lies between −n and n
-pub near-view : (n : ℕ) (z : ℤ) → leZ (negℤ (pos n)) z ≡ true → leZ z (pos n) ≡ true → Within n z
-near-view n z h k = omega (arith, view, neg-over (pos n), neg-under (pos n))
-
-pub view-near : (n : ℕ) (z : ℤ) → Within n z → (leZ (negℤ (pos n)) z ≡ true) × (leZ z (pos n) ≡ true)
-view-near n z h = omega (arith, view, neg-over (pos n), neg-under (pos n))
-
 abs-neg : (z : ℤ) → natAbs (negℤ z) ≡ natAbs z
 abs-neg z = omega (arith, abs-sum z, abs-sum (negℤ z), neg-over z, neg-under z)
 
@@ -183,14 +170,6 @@ sq-neg z = rw (abs-neg z)
 pub sq-mul : (z : ℤ) → pos (sq z) ≡ z *ℤ z
 sq-mul (pos n) = refl
 sq-mul (negsuc n) = refl
-
-pub sq-view : (z : ℤ) → sq z ≡ over z * over z + under z * under z
-sq-view (pos n) = omega arith
-sq-view (negsuc n) = omega arith
-
--- the further from 0, the larger the square, and the other way round
-pub sq-le : (a b : ℤ) → natAbs a ≤ natAbs b → sq a ≤ sq b
-sq-le a b h = mul-le-mul h h
 
 pub sq-near : {n : ℕ} (z : ℤ) → Within n z → sq z ≤ n * n
 sq-near z h = mul-le-mul (near-abs z h) (near-abs z h)

@@ -54,15 +54,5 @@ module _ {y z : ℤ} (f : Form y) (g : Form z) where
 pub shift : (a b d : ℤ) → (a +ℤ d) -ℤ (b +ℤ d) ≡ a -ℤ b
 shift a b d = same ((var a ⊞ var d) ⊟ (var b ⊞ var d)) (var a ⊟ var b) (omega arith)
 
-pub binomial : (a b : ℤ) → (a -ℤ b) *ℤ (a -ℤ b) ≡ (a *ℤ a -ℤ pos 2 *ℤ a *ℤ b) +ℤ b *ℤ b
-binomial a b =
-    same ((var a ⊟ var b) ⊠ (var a ⊟ var b)) (var a ⊠ var a ⊟ var (pos 2) ⊠ var a ⊠ var b ⊞ var b ⊠ var b) (omega arith)
-
-pub distrib : (a b c : ℤ) → a *ℤ (b +ℤ c) ≡ a *ℤ b +ℤ a *ℤ c
-distrib a b c = same (var a ⊠ (var b ⊞ var c)) (var a ⊠ var b ⊞ var a ⊠ var c) (omega arith)
-
-pub mul-assoc : (a b c : ℤ) → (a *ℤ b) *ℤ c ≡ a *ℤ (b *ℤ c)
-mul-assoc a b c = same ((var a ⊠ var b) ⊠ var c) (var a ⊠ (var b ⊠ var c)) (omega arith)
-
 pub turned : (a b : ℤ) → ltZ (a *ℤ b) (pos 0) ≡ true → ltZ (pos 0) (a *ℤ negℤ b) ≡ true
 turned a b h = omega (arith, view, (var a ⊠ var b) .bal, (var a ⊠ neg (var b)) .bal)

@@ -94,13 +94,10 @@ module _ (speeds : Speeds) (m : Modes) (code : BlockCode) where
         sym (left ∙ rw (drop-of-length-le ws past))
 
     module _
-        (passed : Judged) (i : ℕ) (d : Word) (few : count ≤ length words) (h : i < count) (left : LeftFrom passed i)
+        (passed : Judged) (i : ℕ) (w : Word) (is : getD words i w ≡ w) (few : count ≤ length words) (h : i < count) (left : LeftFrom passed i)
       where
-        abbrev w : Word
-        w = getD words i d
-
         next : drop i ws ≡ w ∷ drop (i + 1) ws
-        next = rw (add-one, drop-cons ws i d (omega (arith, length-take-le count words few)), getD-take count words i d h)
+        next = rw (add-one, drop-cons ws i w (omega (arith, length-take-le count words few)), getD-take count words i w h, is)
 
         module _
             (u : Use) (t : Bool) (meaning : u ≡ useOf code (m .plane) (w .letter))

@@ -4,3 +4,4 @@ pub mod Opened
 pub mod Sizes
 pub mod Uses
 pub mod Valued
+pub mod Places

@@ -5,7 +5,7 @@ use mathlib.Core.Bool.{Bool, _||_}
 use mathlib.Core.Option.{Option, none, some}
 use mathlib.Core.List.{List, [], _∷_}
 use lib.Dec.{eqb}
-use lib.ListN.{getD}
+use lib.ListN.{length, getD}
 use Rattle.terms.specs.Terms.{if_then_else_, byte, any}
 use Rattle.words.specs.declared.Word.{Word}
 use Rattle.words.specs.declared.Value.{Value}
@@ -68,4 +68,5 @@ judgedAfter speeds m code centred passed ws =
 -- the first `count` of an array's words are a block's: each has a number that was read
 pub record Stored (words : List Word) (count : ℕ) : Type 0 where
   pub few : count ≤ 13
+  pub there : count ≤ length words
   pub written : (i : ℕ) (d : Word) → i < count → Written (getD words i d .number)

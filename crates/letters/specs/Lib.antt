@@ -1,3 +1,4 @@
 pub mod Letters
 pub mod Judging
 pub mod Sizes
+pub mod Places

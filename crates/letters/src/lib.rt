@@ -1,8 +1,11 @@
 // Which words may stand in a block and what they mean there.
+mod judgement;
+
 use codes::Cycle;
 use codes::Misc;
 use codes::Motion;
 use codes::Plane;
+pub use judgement::judge;
 use lengths::Len;
 use words::Use;
 use words::Values;

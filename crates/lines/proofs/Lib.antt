@@ -1,2 +1,4 @@
 pub mod Opened
 pub mod Lines
+pub mod Laws
+pub mod Comments

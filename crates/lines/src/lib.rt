@@ -1,8 +1,18 @@
 // The blocks of a data set, found by their places.
+mod gaps;
+
+pub use gaps::comment_end;
+pub use gaps::only_gaps;
 ghost use mathlib.Core.Path.{_≡_};
 ghost use Prim.Native.Nat.{_+_, _≤_, _<_};
 ghost use lib.ListN.{length, drop};
 ghost use Rattle.lines.specs.Blocks.{noText, textFrom, lengthFrom, beginsWith, isPercent};
+
+// What follows an opening parenthesis: the place after the closing one, or none in the block.
+pub enum Comment {
+    Closed(usize),
+    Open,
+}
 
 // Whether a block's text ends at a place: at the data's end, at an LF, or at a CR just before one.
 pub fn text_ends(s: &[u8], at: usize) -> bool

@@ -11,7 +11,7 @@ fn main() {
 
 fn list_run(data: &[u8]) {
     let mut list = io::buffer();
-    let report = interpreter::run(setup_t::setup(), data, &mut list);
+    let report = interpreter::run(setup::setup_t(), data, &mut list);
     let answer = report.answer;
-    printing::show_run(&list, answer);
+    answers::show_run(&list, answer);
 }

@@ -19,9 +19,9 @@ unfolding statusOf
 fine-words main (these ws) e = (ws, refl)
 fine-words main (badAt at) e = let never : _≡_ {A = ℕ} 0 1 = cc in absurd (omega arith)
 
-module _ (main : Bool) (m : Modes) (l : List ℕ) (from : ℕ) (r : Reading) (h : IsRead main m l from r) (fine : r .status ≡ Fine) where
+module _ (main : Bool) (m : Modes) (l : List ℕ) (from : ℕ) (held : List Word) (r : Reading) (h : IsRead main m l from held r) (fine : r .status ≡ Fine) where
   pub read-kept : (ws : List Word) × (wordsAt l from ≡ these ws)
   read-kept = fine-words main (wordsAt l from) (sym (h .status) ∙ fine)
 
-  pub read-stored : Stored (r .words) (r .count)
+  pub read-stored : Stored held (r .count)
   read-stored = h .kept fine (read-kept .0) (read-kept .1) .stored

@@ -9,6 +9,7 @@ ghost use lib.IntN.{pos};
 ghost use mathlib.Core.List.{List};
 ghost use lib.ListN.{length, getD, take};
 ghost use Rattle.words.specs.declared.Word.{Word};
+ghost use Rattle.words.specs.Packed.{wordsIn};
 ghost use Rattle.lengths.specs.Units.{len};
 ghost use Rattle.settings.specs.Settings.{firstModes};
 ghost use Rattle.letters.specs.Letters.{codeUnder, hasCentre};
@@ -74,7 +75,7 @@ fn show_bad_opening(refusal: Refusal, place: Place) {
 fn show_openings(s: &[u8])
     requires { ⌜ 0 < length (now s) ⌝ }
 {
-    let scanned = scanning::find_programs(s);
+    let scanned = programs::find_programs(s);
     let verdict = scanned.verdict;
     match verdict {
         Verdict::Refused(refusal, place) => show_bad_opening(refusal, place),
@@ -148,7 +149,10 @@ fn first_modes() -> Modes
 fn show_block(s: &[u8], at: usize, modes: Modes) -> Modes
     requires { ⌜ at < length (now s) ⌝ }
 {
-    let read = gathering::read_words(s, after_slash(s, at), true, modes);
+    let mut words = [0u64; 13];
+    let mut places = [0usize; 13];
+    let from = after_slash(s, at);
+    let read = reading::read_words(s, from, true, modes, &mut words, &mut places);
     let status = read.status;
     match status {
         Status::Refused(refusal, place) => {
@@ -157,7 +161,7 @@ fn show_block(s: &[u8], at: usize, modes: Modes) -> Modes
         }
         Status::Fine => {
             let seen = read.seen;
-            show_judged(judged(speeds(), read), modes, seen.modes)
+            show_judged(judged(speeds(), read, &words, &places), modes, seen.modes)
         }
     }
 }
@@ -171,22 +175,21 @@ fn after_slash(s: &[u8], at: usize) -> usize
 }
 
 // What the block's code makes of its words. The codes' group 7 is G04 alone.
-fn judged(range: Speeds, read: Reading) -> Judged
-    requires { ⌜ Stored (read .words) (read .count) ⌝ }
-    ensures { λ r. ⌜ ((ws : List Word) → CentreSeen ws (getD (read .seen .letters) 8 false) (getD (read .seen .letters) 9 false) (getD (read .seen .letters) 10 false) → r ≡ judgedBy range (read .seen .modes) (codeUnder (read .seen .misc) (getD (read .seen .groups) 7 false) (read .seen .modes .motion)) (hasCentre (codeUnder (read .seen .misc) (getD (read .seen .groups) 7 false) (read .seen .modes .motion)) (read .seen .modes .plane) ws) (take (read .count) (read .words))) ⌝ }
+fn judged(range: Speeds, read: Reading, words: &[u64; 13], places: &[usize; 13]) -> Judged
+    requires { ⌜ Stored (wordsIn (now words) (now places)) (read .count) ⌝ }
+    ensures { λ r. ⌜ ((ws : List Word) → CentreSeen ws (getD (read .seen .letters) 8 false) (getD (read .seen .letters) 9 false) (getD (read .seen .letters) 10 false) → r ≡ judgedBy range (read .seen .modes) (codeUnder (read .seen .misc) (getD (read .seen .groups) 7 false) (read .seen .modes .motion)) (hasCentre (codeUnder (read .seen .misc) (getD (read .seen .groups) 7 false) (read .seen .modes .motion)) (read .seen .modes .plane) ws) (take (read .count) (wordsIn (now (words .entry)) (now (places .entry))))) ⌝ }
 {
     let seen = read.seen;
     let misc = seen.misc;
     let groups = seen.groups;
     let modes = seen.modes;
     let motion = modes.motion;
-    let words = read.words;
     let dwells = groups[7];
     let code = letters::block_code(misc, dwells, motion);
     let stood = seen.letters;
     let plane = modes.plane;
     let centred = letters::has_centre(code, plane, stood[8], stood[9], stood[10]);
-    judging::judge(range, modes, code, centred, words, read.count)
+    letters::judge(range, modes, code, centred, words, places, read.count)
 }
 
 fn speeds() -> Speeds

@@ -8,16 +8,6 @@ use Rattle.points.specs.Near.{Near, FlatNear}
 use Rattle.codes.specs.declared.Plane.{Plane}
 use Rattle.codes.specs.declared.Plane.the-variants.{G17, G18, G19}
 
-pub moved-near : {m n : ℕ} (by p : Point) → Near m by → Near n p → Near (m + n) (moved by p)
-unfolding moved
-moved-near by p h k =
-    omega (arith, sum-bal (p .x .v) (by .x .v), sum-bal (p .y .v) (by .y .v), sum-bal (p .z .v) (by .z .v))
-
-pub moved-back-near : {m n : ℕ} (by p : Point) → Near m by → Near n p → Near (m + n) (movedBack by p)
-unfolding movedBack
-moved-back-near by p h k =
-    omega (arith, diff-bal (p .x .v) (by .x .v), diff-bal (p .y .v) (by .y .v), diff-bal (p .z .v) (by .z .v))
-
 -- a point of a plane is as near as the point in space
 pub flat-near : {n : ℕ} (plane : Plane) (p : Point) → Near n p → FlatNear n (flat plane p)
 unfolding flat

@@ -9,8 +9,8 @@ use Rattle.refusals.specs.declared.Refusal.{Refusal}
 use Rattle.refusals.specs.declared.Refusal.the-variants.{BadParameter}
 use Rattle.lines.specs.Blocks.{beginsWith, Block, closes, opens}
 use Rattle.words.specs.Numbers.{isDigit}
-use Rattle.gaps.specs.Alike.{Alike, nothing, outside, begins, AlikeBlock, AlikeBlocks, none, more}
-use Rattle.gaps.proofs.Comments.{run-alike, past-run, gaps-alike, begins-alike, percent-alike}
+use Rattle.lines.specs.Alike.{Alike, nothing, outside, begins, AlikeBlock, AlikeBlocks, none, more}
+use Rattle.lines.proofs.Comments.{run-alike, past-run, gaps-alike, begins-alike, percent-alike}
 use Rattle.programs.specs.Openings.{numberAfterO, openingOf, placeOf, programAfter, Table, refusedAt, entryOf, entered, scanBlock, scan, mainAs, programsFrom}
 use Rattle.programs.specs.declared.Program.{Program}
 use Rattle.programs.specs.declared.Opening.{Opening}

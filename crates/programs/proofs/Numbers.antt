@@ -11,8 +11,8 @@ use Rattle.terms.specs.Terms.{fromTo}
 use Rattle.lines.specs.Blocks.{textFrom}
 use Rattle.words.specs.Numbers.{digitsAfter}
 use Rattle.words.proofs.Numbers.{run-short}
-use Rattle.gaps.specs.Gaps.{onlyGaps}
-use Rattle.gaps.proofs.Laws.{text-drop, text-length}
+use Rattle.lines.specs.Gaps.{onlyGaps}
+use Rattle.lines.proofs.Laws.{text-drop, text-length}
 use Rattle.programs.specs.Openings.{numberAfterO, figuresOf}
 use Rattle.programs.specs.Found.{IsDigits}
 use Rattle.programs.specs.declared.Digits.{Digits}

@@ -149,17 +149,3 @@ known-placed {l} {p = p} n (more {p = q} {ps = qs} m s) e = go (eqb (q .number) 
     go false rest f = rest f
 
 -- ---- what a caller of the code has
-
--- a scan that is fine has a table of placed programs
-pub fine-placed :
-    (l : List ℕ) (r : Scanned) → 0 < length l → Gives (programsFrom (blockFrom 1 0 l) (blocksFrom l 2 (0 + lengthFrom l))) r → r .verdict ≡ Fine
-    → (Placed l (r .programs .main)) × (Places l (subsOf (r .programs)))
-unfolding tableBy
-fine-placed l r h g e =
-    let placed : TablePlaced l (tableBy (r .verdict) (r .programs)) = rw (g .table) (found-placed l h) in
-    let fine : TablePlaced l (tableBy Fine (r .programs)) = rw e at placed in
-    (main-placed fine, subs-placed fine)
-
--- and so is the program that a search finds there
-pub at-placed : {l : List ℕ} {subs : List Program} {p : Program} (n : ℕ) → Places l subs → At p ≡ foundAs (known subs n) → Placed l p
-at-placed {subs = subs} n s e = known-placed n s (found-at (known subs n) e)

@@ -10,7 +10,7 @@ use lib.ListN.{length, drop, getD, length-drop}
 use Rattle.lines.specs.Blocks.{beginsWith, textFrom, lengthFrom, Block, blockFrom, isPercent}
 use Rattle.lines.specs.Serving.{blocksFrom}
 use Rattle.lines.proofs.Lines.{blocks-step, blocks-end, text-begins-end, text-begins-at, no-text-other, length-bound, length-at-more}
-use Rattle.gaps.proofs.Laws.{text-at}
+use Rattle.lines.proofs.Laws.{text-at}
 use Rattle.programs.specs.Openings.{table, refusedAt, numberAfterO, openingOf, entryOf, entered, scanBlock, scan, mainAs, programsFrom, programAfter}
 use Rattle.programs.specs.Found.{WellFound, subsOf, Entered, Empty}
 use Rattle.programs.specs.declared.Program.{Program}

@@ -9,7 +9,7 @@ use lib.ListN.{length, drop, replicate}
 use Rattle.terms.specs.Terms.{if_then_else_, byte, fromTo}
 use Rattle.words.specs.Numbers.{run, digitsAfter}
 use Rattle.words.proofs.Numbers.{leading-zero}
-use Rattle.gaps.specs.Gaps.{onlyGaps}
+use Rattle.lines.specs.Gaps.{onlyGaps}
 use Rattle.programs.specs.Openings.{numberAfterO, figuresOf}
 use Rattle.programs.specs.declared.Opening.the-variants.{Number, Bad}
 

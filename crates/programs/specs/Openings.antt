@@ -10,7 +10,7 @@ use Rattle.refusals.specs.declared.Refusal.{Refusal}
 use Rattle.refusals.specs.declared.Refusal.the-variants.{BadParameter, DuplicateNumber, TableOver}
 use Rattle.refusals.specs.declared.Place.{Place}
 use Rattle.words.specs.Numbers.{isDigit, run, digitsAfter}
-use Rattle.gaps.specs.Gaps.{onlyGaps}
+use Rattle.lines.specs.Gaps.{onlyGaps}
 use Rattle.lines.specs.Blocks.{Block, closes, opens}
 use Rattle.programs.specs.declared.Program.{Program}
 use Rattle.programs.specs.declared.Opening.{Opening}

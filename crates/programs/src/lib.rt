@@ -1,4 +1,8 @@
 // The programs of a data set: its openings, and the table of subprograms.
+mod openings;
+
+pub use openings::find;
+pub use openings::find_programs;
 use refusals::Place;
 use refusals::Refusal;
 ghost use mathlib.Core.Path.{_≡_};
@@ -101,7 +105,7 @@ pub fn read_opening(s: &[u8], at: usize) -> Opening
     if 9999 < d.value {
         return Opening::Bad;
     }
-    if gaps::only_gaps(s, at + d.count) {
+    if lines::only_gaps(s, at + d.count) {
         Opening::Number(d.value)
     } else {
         Opening::Bad

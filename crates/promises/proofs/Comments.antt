@@ -14,10 +14,10 @@ use Rattle.terms.proofs.Laws.{either-left, either-right}
 use Rattle.refusals.specs.declared.Refusal.the-variants.{FirstBlock}
 use Rattle.refusals.specs.declared.Place.{Place}
 use Rattle.lines.specs.Blocks.{Block, beginsWith, noText, closes, opens, isSlashed}
-use Rattle.gaps.specs.Comments.{openAfter, insideAt}
-use Rattle.gaps.specs.Alike.{Alike, nothing, outside, begins, inside, AlikeBlock, AlikeBlocks}
-use Rattle.gaps.specs.Alike as Alikes
-use Rattle.gaps.proofs.Comments.{length-alike, words-alike, blocks-alike, begins-alike, percent-alike, later-outside, later-inside}
+use Rattle.lines.specs.Comments.{openAfter, insideAt}
+use Rattle.lines.specs.Alike.{Alike, nothing, outside, begins, inside, AlikeBlock, AlikeBlocks}
+use Rattle.lines.specs.Alike as Alikes
+use Rattle.lines.proofs.Comments.{length-alike, words-alike, blocks-alike, begins-alike, percent-alike, later-outside, later-inside}
 use Rattle.programs.specs.declared.Program.{Program}
 use Rattle.programs.specs.Openings.{Table, table, refusedAt, placeOf, known, programsFrom}
 use Rattle.programs.proofs.Comments.{programs-alike}

@@ -12,7 +12,7 @@ use Rattle.terms.specs.Terms.{any}
 use Rattle.terms.proofs.Laws.{every-place}
 use Rattle.refusals.specs.Answers.{refusedWith, reportOf}
 use Rattle.programs.specs.Openings.{placeOf}
-use Rattle.gaps.specs.Comments.{insideAt}
+use Rattle.lines.specs.Comments.{insideAt}
 use Rattle.records.specs.declared.Listed.the-variants.{End}
 use Rattle.records.specs.Layout.{listBytes}
 use Rattle.records.specs.Reading.{trail, readAll}

@@ -12,7 +12,7 @@ use Rattle.terms.proofs.Laws.{any-snoc}
 use Rattle.refusals.specs.declared.Refusal.the-variants.{BadParameter, DuplicateNumber, TableOver}
 use Rattle.lines.specs.Blocks.{Block, beginsWith, isPercent, closes, opens}
 use Rattle.words.specs.Numbers.{isDigit, run, digitsAfter}
-use Rattle.gaps.specs.Gaps.{onlyGaps}
+use Rattle.lines.specs.Gaps.{onlyGaps}
 use Rattle.programs.specs.declared.Program.{Program}
 use Rattle.programs.specs.declared.Opening.{Opening}
 use Rattle.programs.specs.declared.Opening.the-variants.{Number, Bad}

@@ -65,16 +65,3 @@ pub records-short :
     → ListShort (recordsOf s bytes room budget)
 unfolding recordsOf bedOf
 records-short s six bytes room budget = fine-outcome s six bytes room budget .short
-
--- A setup that breaks a limit gives no records.
-pub no-records : (s : Setup) (bytes : List ℕ) (room : ℕ) (budget : Budget) → validSetup s ≡ false → recordsOf s bytes room budget ≡ []
-unfolding recordsOf outcome
-no-records s bytes room budget e = rw e (go (ltb 65_535 (length bytes)))
-  where
-    go :
-        (long : Bool)
-        → map (recordMoved (offset s))
-        ((if long then just (Walk.refusedAt DataTooLong nowhere) (firstOf s) else just (Walk.refusedAt BadSetup nowhere) (firstOf s)) .made)
-        ≡ []
-    go true = refl
-    go false = refl

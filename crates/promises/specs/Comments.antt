@@ -7,7 +7,7 @@ use mathlib.Core.Logic.{_⊎_}
 use mathlib.Core.List.{List}
 use lib.ListN.{length, getD}
 use Rattle.terms.specs.Terms.{byte}
-use Rattle.gaps.specs.Comments.{insideAt}
+use Rattle.lines.specs.Comments.{insideAt}
 use Rattle.setup.specs.declared.Setup.{Setup}
 use Rattle.runs.specs.Run.{answerOf, recordsOf, standingOf}
 use Rattle.runs.specs.declared.Budget.{Budget}

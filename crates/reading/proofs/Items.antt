@@ -25,9 +25,9 @@ use Rattle.words.specs.declared.Sign.{Sign}
 use Rattle.words.specs.declared.Sign.the-variants.{Plain}
 use Rattle.words.specs.declared.Word.{Word}
 use Rattle.words.proofs.Numbers.{number-short, numberIn-written}
-use Rattle.gaps.specs.Serving.{commentAt}
-use Rattle.gaps.specs.declared.Comment.the-variants.{Closed, Open}
-use Rattle.gaps.proofs.Laws.{text-drop, text-none, text-inside, text-at, text-length, text-next, words-pass, open-by, comment-way, closing-within}
+use Rattle.lines.specs.Closing.{commentAt}
+use Rattle.lines.specs.declared.Comment.the-variants.{Closed, Open}
+use Rattle.lines.proofs.Laws.{text-drop, text-none, text-inside, text-at, text-length, text-next, words-pass, open-by, comment-way, closing-within}
 use Rattle.reading.specs.Items.{placed, wordsAt, statusAfter}
 use Rattle.reading.specs.declared.Item.{Item}
 use Rattle.reading.specs.declared.Item.the-variants as item

@@ -26,7 +26,7 @@ use Rattle.settings.specs.declared.Modes.{Modes}
 use Rattle.settings.specs.Settings.{switched}
 use Rattle.letters.specs.Letters.{known, isKnown, isG, isMisc, codeIn, miscIn, repeats, badG, badM, mayNotStand, firstThatMayNot}
 use Rattle.letters.specs.Judging.{valued, Stored}
-use Rattle.gaps.proofs.Laws.{text-none}
+use Rattle.lines.proofs.Laws.{text-none}
 use Rattle.reading.specs.Items.{wordsAt, statusAfter}
 use Rattle.reading.specs.Seen.{letterPlace, hasLetter, Sums}
 use Rattle.reading.specs.Whole.{standing, statusOf, Kept, IsRead}
@@ -174,18 +174,20 @@ module _ {main : Bool} {m : Modes} {l : List ℕ} {from i : ℕ} {seen : Seen} {
       }
 
   stored : Stored words count
-  stored = record { few = omega (arith, s .few, stood-most known (seen .letters)); written = s .written }
+  stored =
+      let few : count ≤ 13 = omega (arith, s .few, stood-most known (seen .letters)) in
+      record { few = few; there = omega (arith, s .places); written = s .written }
 
   -- ---- where the reading ends
 
-  reads-end : noText (drop i l) ≡ true → IsRead main m l from (record { status = Fine; seen = seen; count = count; words = words; end = i })
+  reads-end : noText (drop i l) ≡ true → IsRead main m l from words (record { status = Fine; seen = seen; count = count; end = i })
   unfolding wordsAfter prepend statusOf standing firstThatMayNot
   reads-end e = record { status = sym (ap (statusOf main) all ∙ ap standing (s .stands [])); kept = λ f ws g. kept-all ws g }
     where
       all : wordsAt l from ≡ these (s .done ++ [])
       all = s .whole ∙ ap (λ (t : List ℕ). prepend (s .done) (wordsAfter 0 i t)) (text-none (drop i l) e)
 
-      kept-all : (ws : List Word) → wordsAt l from ≡ these ws → Kept m l from ws (record { status = Fine; seen = seen; count = count; words = words; end = i })
+      kept-all : (ws : List Word) → wordsAt l from ≡ these ws → Kept m l from ws words (record { status = Fine; seen = seen; count = count; end = i })
       kept-all ws g =
           let ended : s .done ++ [] ≡ ws = cc all in
           let same : s .done ≡ ws = sym (append-nil (s .done)) ∙ ended in
@@ -380,10 +382,10 @@ module _ {stopped main : Bool} {m : Modes} {l : List ℕ} {from i : ℕ} {status
         halted = halted-past next (λ wrong. ap (statusAfter wrong) e ∙ status-word wrong w (wordsAt l next)) g;
       }
 
-  pub end-along : noText (drop i l) ≡ true → IsRead main m l from (record { status = status; seen = seen; count = count; words = words; end = i })
+  pub end-along : noText (drop i l) ≡ true → IsRead main m l from words (record { status = status; seen = seen; count = count; end = i })
   end-along e = go stopped refl
     where
-      go : (t : Bool) → stopped ≡ t → IsRead main m l from (record { status = status; seen = seen; count = count; words = words; end = i })
+      go : (t : Bool) → stopped ≡ t → IsRead main m l from words (record { status = status; seen = seen; count = count; end = i })
       go false f = rw (s .fine f) (reads-end (s .going f) e)
       go true f =
           let h = s .halted f in
@@ -392,7 +394,7 @@ module _ {stopped main : Bool} {m : Modes} {l : List ℕ} {from i : ℕ} {status
             kept = λ k ws d. let never : _≡_ {A = ℕ} 0 1 = cc (h .named) in absurd (omega arith);
           }
 
-  pub bad-along : (refusal : Refusal) → (wordsAt l i ≡ badAt i) × (refusal ≡ Unreadable) → IsRead main m l from (record { status = Refused refusal i; seen = seen; count = count; words = words; end = i })
+  pub bad-along : (refusal : Refusal) → (wordsAt l i ≡ badAt i) × (refusal ≡ Unreadable) → IsRead main m l from words (record { status = Refused refusal i; seen = seen; count = count; end = i })
   unfolding statusAfter
   bad-along refusal e =
       record {

@@ -28,15 +28,15 @@ unfoldable pub statusOf : Bool → Words.Words → Status
 statusOf main (these ws) = standing (firstThatMayNot main [] ws)
 statusOf main (badAt at) = Refused Unreadable at
 
--- what is known of a block all of whose words may stand: what is kept of them, the words with a value in their order, and
--- the place of the next block
-pub record Kept (m : Modes) (l : List ℕ) (from : ℕ) (ws : List Word) (r : Reading) : Type 0 where
+-- what is known of a block all of whose words may stand: what is kept of them, the words with a value in their order, the
+-- first of those that the lent arrays hold, and the place of the next block
+pub record Kept (m : Modes) (l : List ℕ) (from : ℕ) (ws held : List Word) (r : Reading) : Type 0 where
   pub seen : Sums m ws (r .seen)
-  pub stored : Stored (r .words) (r .count)
-  pub words : take (r .count) (r .words) ≡ valued ws
+  pub stored : Stored held (r .count)
+  pub words : take (r .count) held ≡ valued ws
   pub inside : r .end ≤ length l
   pub block : r .end + lengthFrom (drop (r .end) l) ≡ from + lengthFrom (drop from l)
 
-pub record IsRead (main : Bool) (m : Modes) (l : List ℕ) (from : ℕ) (r : Reading) : Type 0 where
+pub record IsRead (main : Bool) (m : Modes) (l : List ℕ) (from : ℕ) (held : List Word) (r : Reading) : Type 0 where
   pub status : r .status ≡ statusOf main (wordsAt l from)
-  pub kept : r .status ≡ Fine → (ws : List Word) → wordsAt l from ≡ these ws → Kept m l from ws r
+  pub kept : r .status ≡ Fine → (ws : List Word) → wordsAt l from ≡ these ws → Kept m l from ws held r

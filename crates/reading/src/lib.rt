@@ -1,7 +1,10 @@
 // The tests of one word in a block, refusal 4, and the readable item at a place of its text.
+mod gathering;
+
 use codes::Code;
 use codes::Misc;
-use gaps::Comment;
+pub use gathering::read_words;
+use lines::Comment;
 use refusals::Refusal;
 use settings::Modes;
 use words::Numbered;
@@ -48,13 +51,12 @@ pub enum Role {
     Value,
 }
 
-// What the reading of a block answers. Where the status is fine, `words` holds the words with a value in their order, and
-// `end` is where the block's text ends.
+// What the reading of a block answers. Where the status is fine, `count` words with a value stand in the arrays that were
+// lent, in their order, and `end` is where the block's text ends.
 pub struct Reading {
     pub status: Status,
     pub seen: Seen,
     pub count: usize,
-    pub words: [Word; 13],
     pub end: usize,
 }
 
@@ -71,7 +73,7 @@ pub fn item_at(s: &[u8], i: usize) -> Item
         return Item::Gap(next);
     }
     if b == b'(' {
-        let Comment::Closed(after) = gaps::comment_end(s, next) else {
+        let Comment::Closed(after) = lines::comment_end(s, next) else {
             return Item::Refused(Refusal::Unreadable);
         };
         return Item::Gap(after);
@@ -82,7 +84,7 @@ pub fn item_at(s: &[u8], i: usize) -> Item
     if b'Z' < b {
         return Item::Refused(Refusal::Unreadable);
     }
-    let Numbered::Is(number, taken) = numbers::read_number(s, next, s.len()) else {
+    let Numbered::Is(number, taken) = words::read_number(s, next, s.len()) else {
         return Item::Refused(Refusal::Unreadable);
     };
     let word = Word {

@@ -158,7 +158,3 @@ stop (suc n) l at e = rw (read-end l at e)
 pub whole-list : (rs : List Record) (n : ℕ) → ListShort rs → readAll (length rs + n) (listBytes rs) 0 ≡ trail rs End
 whole-list rs n h = list-back rs n (listBytes rs) 0 [] h (sym (append-nil (listBytes rs)))
     ∙ rw (stop n (listBytes rs) (0 + roomOf rs) (omega (arith, list-length rs)), append-nil rs)
-
--- two outcomes of the reader that satisfy its statement are equal
-pub read-once : (l : List ℕ) (at : ℕ) (a b : Listed) → a ≡ readAt l at → b ≡ readAt l at → a ≡ b
-read-once l at a b e f = e ∙ sym f

@@ -3,3 +3,4 @@ pub mod Examples
 pub mod Raw
 pub mod Origins
 pub mod Valid
+pub mod Broken

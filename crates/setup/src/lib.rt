@@ -1,5 +1,10 @@
 // The setup of a machine: its 35 numbers, in document 01's order, whatever they are.
+mod faults;
+mod numbers_to_try;
+
+pub use faults::fault_of;
 use lengths::Len;
+pub use numbers_to_try::setup_t;
 use points::Point;
 use points::Travel;
 ghost use mathlib.Core.Path.{_≡_};
@@ -42,6 +47,32 @@ pub struct Bed {
     pub origins: [Point; 6],
     pub lowest: Len,
     pub highest: Len,
+}
+
+pub enum Axis {
+    X,
+    Y,
+    Z,
+}
+
+// What a length is measured to: the common offset, or a workpiece origin by its place in the table, from 0 for G54 to 5 for
+// G59.
+pub enum Offset {
+    Common,
+    Origin(usize),
+}
+
+// The limit that is broken, and on which axis; or none.
+pub enum Fault {
+    None,
+    TravelOrder(Axis),
+    TravelFar(Axis),
+    StartOutside(Axis),
+    OffsetFar(Offset, Axis),
+    Feed,
+    Speeds,
+    Speed,
+    Switch,
 }
 
 // The numbers of three axes as lengths, so that what follows compares no raw number.

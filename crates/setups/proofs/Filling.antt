@@ -5,20 +5,19 @@ use mathlib.Core.Bool.{Bool, true, false, _&&_, _||_}
 use mathlib.Core.List.{List, [], _∷_, _++_, map, append-assoc, append-nil}
 use native.Mathlib.Omega.{arith}
 use native.Mathlib.Numerals.{add-one}
-use lib.Dec.{leb, eqb}
+use lib.Dec.{leb, ltb}
 use lib.ListN.{length, take, drop, getD, set, length-set, drop-of-length-le, List·getD-map}
 use lib.Seq.{slice, drop-cons, take-all, take-suc-set}
-use borrow.Author.Tests.{le-leb, lt-leb, leb-true, eqb-true, ne-eqb}
-use Rattle.terms.specs.Terms.{if_then_else_, any, fromTo}
+use borrow.Author.Tests.{le-leb, lt-leb, leb-true, ltb-true, ne-eqb}
+use Rattle.terms.specs.Terms.{if_then_else_, bytes, fromTo}
 use Rattle.terms.proofs.Laws.{both-left, both-right, every-place}
-use Rattle.codes.proofs.Tables.{Others, among, none-of}
 use Rattle.lengths.specs.declared.Len.{Len}
 use Rattle.lines.proofs.Lines.{at-place}
 use Rattle.setup.specs.declared.Setup.{Setup}
 use Rattle.words.specs.Numbers.{run, signOf, signLength}
 use Rattle.texts.specs.Texts.{next, inWord, wordAt, sameBytes, isLettered}
 use Rattle.texts.specs.Figures.{digitsIn, worthBy, worthOf}
-use Rattle.setups.specs.Setups.{names, plan, isNamed, wrongIn, nameAt, placed, numberAt, numberBy, entryAt, Numbers, these, faulty, prepend, entryThen, ended, numbersFrom, setupOf, refused, answered, setupIn}
+use Rattle.setups.specs.Setups.{names, nameOf, plan, isNamed, wrongIn, nameAt, placed, numberAt, numberBy, entryAt, Numbers, these, faulty, prepend, entryThen, ended, numbersFrom, setupOf, refused, answered, setupIn}
 use Rattle.texts.specs.declared.Wrong.{Wrong}
 use Rattle.texts.specs.declared.Wrong.the-variants.{Nothing, OtherName, TooFew, TooMuch}
 use Rattle.texts.specs.declared.Worth.{Worth}
@@ -27,7 +26,7 @@ use Rattle.setups.specs.declared.Passed.{Passed}
 use Rattle.setups.specs.declared.Passed.the-variants.{To, Not}
 use Rattle.setups.specs.declared.Entry.the-variants.{Is, Bad}
 use Rattle.setups.specs.declared.Reading.{Reading}
-use Rattle.texts.proofs.Places.{empty, standing, nothing-there, same-lengths}
+use Rattle.texts.proofs.Places.{standing, nothing-there, same-lengths}
 
 -- ---- the first word
 
@@ -125,25 +124,70 @@ module _ (text : List ℕ) (at from end : ℕ) (e : from ≡ next text at) (f : 
 
 -- ---- the name before the number k
 
-pub name-of : (text : List ℕ) (at j : ℕ) {k : ℕ} {r : Passed} → k ≡ j → r ≡ nameAt (getD names j []) text at → r ≡ nameAt (getD names k []) text at
-name-of text at j e h = rw e h
+-- the parts of a text between places, one after the other
+parts : List ℕ → List ℕ → List (List ℕ)
+parts text [] = []
+parts text (a ∷ []) = []
+parts text (a ∷ b ∷ bs) = take (b - a) (drop a text) ∷ parts text (b ∷ bs)
 
-abbrev keys : List ℕ
-keys = 34 ∷ 33 ∷ 32 ∷ 31 ∷ 30 ∷ 27 ∷ 24 ∷ 21 ∷ 18 ∷ 15 ∷ 12 ∷ 9 ∷ 6 ∷ 3 ∷ 0 ∷ []
+parts-at :
+    (text places : List ℕ) (k : ℕ) → k + 1 < length places
+    → getD (parts text places) k [] ≡ take (getD places (k + 1) 0 - getD places k 0) (drop (getD places k 0) text)
+unfolding parts
+parts-at text [] k h = absurd (omega arith)
+parts-at text (a ∷ []) k h = absurd (omega arith)
+parts-at text (a ∷ b ∷ bs) zero h = refl
+parts-at text (a ∷ b ∷ bs) (suc k) h =
+    let e : suc k + 1 ≡ suc (k + 1) = omega arith in
+    rw e (parts-at text (b ∷ bs) k (omega arith))
 
-unnamed : (k : ℕ) → k < 35 → Others k keys → getD names k [] ≡ []
-unfolding any
-unnamed k h o = empty (getD names k []) (eqb-true (length (getD names k [])) 0 last)
-  where
-    each : (among keys k || eqb (getD (map length names) k 0) 0) ≡ true
-    each = every-place (λ j n. among keys j || eqb n 0) (map length names) refl k h
+-- the names one after the other, and where each begins
+abbrev row : List ℕ
+row = bytes "lowhighstartexofsg54g55g56g57g58g59feedlowesthighestspeedswitch"
 
-    last : eqb (length (getD names k [])) 0 ≡ true
-    last = rw (none-of k keys o, List·getD-map length names k []) at each
+abbrev begins : List ℕ
+begins = 0 ∷ 3 ∷ 7 ∷ 12 ∷ 17 ∷ 20 ∷ 23 ∷ 26 ∷ 29 ∷ 32 ∷ 35 ∷ 39 ∷ 45 ∷ 52 ∷ 57 ∷ 63 ∷ []
 
-pub no-name : (text : List ℕ) (at k : ℕ) → k < 35 → Others k keys → To at ≡ nameAt (getD names k []) text at
-unfolding nameAt
-no-name text at k h o = rw (unnamed k h o)
+-- the names before so many numbers from one on
+before : ℕ → ℕ → List (List ℕ)
+before zero i = []
+before (suc n) i = getD (parts row begins) (nameOf i) [] ∷ before n (suc i)
+
+before-at : (n i k : ℕ) → k < n → getD (before n i) k [] ≡ getD (parts row begins) (nameOf (k + i)) []
+unfolding before
+before-at zero i k h = absurd (omega arith)
+before-at (suc n) i zero h = ap (λ (j : ℕ). getD (parts row begins) (nameOf j) []) (omega arith)
+before-at (suc n) i (suc k) h =
+    let e : k + suc i ≡ suc k + i = omega arith in
+    before-at n (suc i) k (omega arith) ∙ ap (λ (j : ℕ). getD (parts row begins) (nameOf j) []) e
+
+-- one test of all 35
+names-are : before 35 0 ≡ names
+unfolding before parts nameOf
+names-are = refl
+
+name-is : (k : ℕ) → k < 35 → getD names k [] ≡ getD (parts row begins) (nameOf k) []
+name-is k h =
+    let e : k + 0 ≡ k = omega arith in
+    ap (λ (l : List (List ℕ)). getD l k []) (sym names-are) ∙ before-at 35 0 k h
+    ∙ ap (λ (j : ℕ). getD (parts row begins) (nameOf j) []) e
+
+pub begins-order : (j : ℕ) → j < 15 → getD begins j 0 < getD begins (j + 1) 0
+begins-order j h =
+    ltb-true (getD begins j 0) (getD begins (j + 1) 0)
+    (rw (lt-leb 15 j h) at (every-place (λ i b. leb 15 i || ltb b (getD begins (i + 1) 0)) begins refl j (omega arith)))
+
+pub begins-inside : (j : ℕ) → j < 16 → getD begins j 0 ≤ 63
+begins-inside j h = leb-true (getD begins j 0) 63 (every-place (λ i b. leb b 63) begins refl j h)
+
+pub name-of :
+    (text : List ℕ) (at k : ℕ) {j : ℕ} {r : Passed} → k < 35 → j ≡ nameOf k → j < 15
+    → r ≡ nameAt (take (getD begins (j + 1) 0 - getD begins j 0) (drop (getD begins j 0) row)) text at → r ≡ nameAt (getD names k []) text at
+name-of text at k {j} h e g f = f ∙ ap (λ (name : List ℕ). nameAt name text at) (sym (name-is k h ∙ rw (← e) (parts-at row begins j (omega arith))))
+
+pub no-name : (text : List ℕ) (at k : ℕ) {j : ℕ} → k < 35 → j ≡ nameOf k → j ≡ 15 → To at ≡ nameAt (getD names k []) text at
+unfolding nameAt parts
+no-name text at k h e f = rw (name-is k h, ← e, f)
 
 -- a file without names has none before any number
 pub entry-plain : (text : List ℕ) (at k : ℕ) (named : Bool) → named ≡ false → entryAt (getD (plan named) k []) text at ≡ numberAt text at

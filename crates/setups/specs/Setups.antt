@@ -1,10 +1,10 @@
 -- A setup file. Its words are 35 numbers in the order of the setup, and nothing else; or the same with a name before the
 -- first number of each group. A file is named where its first word begins with a small letter, and then every name stands.
-use Prim.Native.Nat.{ℕ, _+_}
+use Prim.Native.Nat.{ℕ, _+_, _-_, _/_, _%_}
 use Prim.Native.String.{String}
 use mathlib.Core.Bool.{Bool, true, false}
 use mathlib.Core.List.{List, [], _∷_, _++_, map}
-use lib.Dec.{leb}
+use lib.Dec.{leb, eqb}
 use lib.IntN.{ℤ, pos}
 use lib.ListN.{length, getD}
 use Rattle.terms.specs.Terms.{if_then_else_, bytes}
@@ -36,6 +36,10 @@ names =
     three "low" ++ three "high" ++ three "start" ++ three "exofs"
     ++ three "g54" ++ three "g55" ++ three "g56" ++ three "g57" ++ three "g58" ++ three "g59"
     ++ bytes "feed" ∷ bytes "lowest" ∷ bytes "highest" ∷ bytes "speed" ∷ bytes "switch" ∷ []
+
+-- which of the fifteen names stands before a number, or 15 where none does
+unfoldable pub nameOf : ℕ → ℕ
+nameOf k = if leb 30 k then k - 20 else if eqb (k % 3) 0 then k / 3 else 15
 
 abbrev pub plan : Bool → List (List ℕ)
 plan true = names

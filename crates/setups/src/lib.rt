@@ -5,11 +5,11 @@ use setup::Setup;
 use texts::Worth;
 use texts::Wrong;
 ghost use mathlib.Core.Path.{_≡_};
-ghost use Prim.Native.Nat.{_+_, _<_};
+ghost use Prim.Native.Nat.{_+_, _≤_, _<_};
 ghost use mathlib.Core.List.{[]};
 ghost use lib.ListN.{length, getD};
 ghost use Rattle.texts.specs.Texts.{next};
-ghost use Rattle.setups.specs.Setups.{names, plan, isNamed, nameAt, numberAt, entryAt, ended, axesOf, setupOf, refused, answered, setupIn};
+ghost use Rattle.setups.specs.Setups.{names, nameOf, plan, isNamed, nameAt, numberAt, entryAt, ended, axesOf, setupOf, refused, answered, setupIn};
 
 // What a setup file gives: the setup, or what is wrong and the place of the word at fault. The setup is of use only where
 // nothing is wrong.
@@ -63,29 +63,38 @@ fn pass_name(s: &[u8], at: usize, name: &[u8]) -> Passed
     }
 }
 
+// The names of a named file, one after the other, and where each begins; it ends where the next begins.
+const NAMES: [u8; 63] = *b"lowhighstartexofsg54g55g56g57g58g59feedlowesthighestspeedswitch";
+
+const BEGINS: [usize; 16] = [0, 3, 7, 12, 17, 20, 23, 26, 29, 32, 35, 39, 45, 52, 57, 63];
+
+// Which name stands before the number k, or 15 for none: one before each group of three, and before each of the last five.
+fn name_of(k: usize) -> usize
+    requires { ⌜ k < 35 ⌝ }
+    ensures { λ r. ⌜ (r ≡ nameOf k) × (r ≤ 15) ⌝ }
+{
+    if 30 <= k {
+        return k - 20;
+    }
+    if k % 3 == 0 {
+        return k / 3;
+    }
+    15
+}
+
 // The name before the number k of a named file, where one stands there.
 fn name_before(s: &[u8], at: usize, k: usize) -> Passed
     requires { ⌜ k < 35 ⌝ }
     ensures { λ r. ⌜ r ≡ nameAt (getD names k []) (now (s .entry)) at ⌝ }
 {
-    match k {
-        0 => pass_name(s, at, b"low"),
-        3 => pass_name(s, at, b"high"),
-        6 => pass_name(s, at, b"start"),
-        9 => pass_name(s, at, b"exofs"),
-        12 => pass_name(s, at, b"g54"),
-        15 => pass_name(s, at, b"g55"),
-        18 => pass_name(s, at, b"g56"),
-        21 => pass_name(s, at, b"g57"),
-        24 => pass_name(s, at, b"g58"),
-        27 => pass_name(s, at, b"g59"),
-        30 => pass_name(s, at, b"feed"),
-        31 => pass_name(s, at, b"lowest"),
-        32 => pass_name(s, at, b"highest"),
-        33 => pass_name(s, at, b"speed"),
-        34 => pass_name(s, at, b"switch"),
-        _ => Passed::To(at),
+    let j = name_of(k);
+    if j == 15 {
+        return Passed::To(at);
     }
+    let from = BEGINS[j];
+    let end = BEGINS[j + 1];
+    let names = NAMES;
+    pass_name(s, at, &names[from..end])
 }
 
 // The number k of the file, with its name before it where the file is named.

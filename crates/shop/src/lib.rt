@@ -1,21 +1,32 @@
 // The commands of the program for the shops.
+mod limits;
+mod plotting;
 mod running;
+mod setup_files;
 
+use answers::Shown;
+use answers::show_list;
 use commands::count_of;
 use commands::is;
 use commands::word;
-use faults::Fault;
+use files::complain;
+use files::complain_record;
+use files::complain_why;
 use libc::STDOUT_FILENO;
-use plots::plot;
-use printing::Shown;
-use printing::show_list;
+use limits::show_fault;
+use plotting::plot;
 use running::run;
+use setup::Fault;
+use setup::Setup;
 use setup_files::setup_in;
-use telling::complain;
-use telling::complain_record;
-use telling::complain_why;
 ghost use mathlib.Core.Path.{_≡_};
 ghost use Rattle.shop.specs.Asking.{askedBy};
+
+// A setup is of use only where all is fine. Else a line has said what is wrong.
+pub struct Known {
+    pub fine: bool,
+    pub setup: Setup,
+}
 
 // What the first word asks for.
 pub enum Asked {
@@ -28,14 +39,14 @@ pub enum Asked {
 
 // Does what a command asks. Each of its words ends in a byte 0. What comes of it goes to standard output, and one line about
 // a wrong use to the descriptor, and then nothing is written. What standard output does not take is told there too.
-pub fn obey(line: &[u8], err: i32) {
-    if !obeyed(line, err) {
+pub fn do_command(line: &[u8], err: i32) {
+    if !is_command_printed(line, err) {
         complain_why(err, b"standard output", b"cannot be written");
     }
 }
 
 // Answers whether standard output took what there was to print.
-fn obeyed(line: &[u8], err: i32) -> bool {
+fn is_command_printed(line: &[u8], err: i32) -> bool {
     let count = count_of(line);
     if count == 0 {
         return help();
@@ -92,7 +103,7 @@ fn show(line: &[u8], count: usize, err: i32) -> bool {
         complain(err, b"show", b"wants LIST");
         return true;
     }
-    let mut list = buffers::list_room();
+    let mut list = files::list_room();
     let got = files::read_whole(word(line, 1), &mut list, err);
     if !got.fine {
         return true;
@@ -122,7 +133,7 @@ fn check(line: &[u8], count: usize, err: i32) -> bool {
         return true;
     }
     let setup = known.setup;
-    show_check(faults::fault_of(setup))
+    show_check(setup::fault_of(setup))
 }
 
 fn show_check(fault: Fault) -> bool {
@@ -130,6 +141,6 @@ fn show_check(fault: Fault) -> bool {
         return io::write_all(STDOUT_FILENO, b"valid\n");
     }
     io::write_all(STDOUT_FILENO, b"breaks a limit: ")
-        && setup_files::show_fault(fault)
+        && show_fault(fault)
         && io::write_all(STDOUT_FILENO, b"\n")
 }

@@ -1,21 +1,21 @@
 // The run of a data set under a setup, from files to a file.
-ghost use Prim.Native.Nat.{_≤_};
+use crate::setup_files::setup_in;
 use answers::show_answer;
 use answers::show_standing;
-use buffers::list_room;
 use commands::Options;
 use commands::options_of;
 use commands::word;
 use files::Spot;
+use files::complain;
+use files::list_room;
+use files::show_text;
 use files::spot_for;
 use libc::STDOUT_FILENO;
 use lists::Made;
 use lists::is_written;
 use lists::make_list;
 use setup::Setup;
-use setup_files::setup_in;
-use telling::complain;
-use telling::show_text;
+ghost use Prim.Native.Nat.{_≤_};
 
 // Answers whether standard output took what there was to print.
 pub fn run(line: &[u8], count: usize, err: i32) -> bool {

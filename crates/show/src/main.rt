@@ -5,11 +5,11 @@ use libc::STDIN_FILENO;
 use libc::STDOUT_FILENO;
 
 fn main() {
-    let mut buffer = buffers::list_room();
+    let mut buffer = files::list_room();
     let n = io::read_full(STDIN_FILENO, &mut buffer);
     if n == 1048576 {
         io::write_all(STDOUT_FILENO, b"too long\n");
         return;
     }
-    printing::show_list(&buffer[..n]);
+    answers::show_list(&buffer[..n]);
 }

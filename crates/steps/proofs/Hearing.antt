@@ -27,7 +27,7 @@ use Rattle.blocks.proofs.Meaning.{meant}
 use Rattle.steps.specs.Steps.{Says, judgedFrom}
 use Rattle.steps.proofs.Verdicts.{values-past}
 
-module _ (bed : Bed) (s : State) (read : Reading) (ws : List Word) (says : Says (s .modes) ws read) where
+module _ (bed : Bed) (s : State) (read : Reading) (ws held : List Word) (says : Says (s .modes) ws held read) where
   abbrev said : Said
   said = saidBy (machineOf bed) (s .modes) ws
 
@@ -57,7 +57,7 @@ module _ (bed : Bed) (s : State) (read : Reading) (ws : List Word) (says : Says 
     pub judged-is :
         {centred : Bool} {j : Judged}
         → ((us : List Word) → CentreSeen us (stood 8) (stood 9) (stood 10) → centred ≡ hasCentre code (read .seen .modes .plane) us)
-        → j ≡ judgedBy (record { lowest = bed .lowest; highest = bed .highest }) (read .seen .modes) code centred (take (read .count) (read .words))
+        → j ≡ judgedBy (record { lowest = bed .lowest; highest = bed .highest }) (read .seen .modes) code centred (take (read .count) held)
         → j ≡ judgedBy (machineOf bed .speeds) (said .modes) (said .code) (hasCentre (said .code) (said .modes .plane) ws) ws
     unfolding saidBy machineOf
     judged-is h e =

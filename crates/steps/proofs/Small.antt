@@ -1,14 +1,11 @@
 -- The small tables of the order: which codes and motions a test is about. Assumes nothing.
 use Prim.Native.Nat.{ℕ}
-use mathlib.Core.Path.{_≡_, refl, sym, _∙_}
-use mathlib.Core.Bool.{Bool, true, false, _&&_, _||_, not}
-use mathlib.Core.Option.{Option, none, some}
+use mathlib.Core.Path.{_≡_, refl, sym}
+use mathlib.Core.Bool.{Bool, true, false, _&&_, _||_}
 use mathlib.Core.List.{List, [], _∷_}
-use native.Mathlib.Omega.{arith}
 use denote.Enum.Declared.{tagOf}
 use types.Run.{OneOf, miss}
 use lib.Dec.{eqb}
-use Rattle.terms.specs.Terms.{if_then_else_, stands}
 use Rattle.lengths.specs.declared.Len.{Len}
 use Rattle.codes.specs.declared.Misc.{Misc}
 use Rattle.codes.specs.declared.Motion.{Motion}
@@ -25,19 +22,11 @@ use Rattle.settings.specs.declared.State.{State}
 use Rattle.letters.specs.declared.BlockCode.{BlockCode}
 use Rattle.letters.specs.declared.BlockCode.the-variants.{Calling, Returning, Dwelling, Moving}
 use Rattle.letters.proofs.BlockCode.{the-type as code-type}
-use Rattle.programs.specs.declared.Program.{Program}
-use Rattle.programs.specs.declared.Found.{Found}
-use Rattle.programs.specs.declared.Found.the-variants.{At, Missing}
-use Rattle.programs.specs.Openings.{known}
-use Rattle.programs.specs.Answers.{foundAs}
 use Rattle.moves.specs.declared.Plan.{Plan}
 use Rattle.moves.specs.declared.Plan.the-variants.{Rest, Single}
 use Rattle.moves.specs.Plans.{planRecords, briefRecords}
 use Rattle.blocks.specs.declared.Said.{Said}
-use Rattle.blocks.specs.declared.Control.{Control}
-use Rattle.blocks.specs.declared.Control.the-variants.{On, Call, Back, Stop}
-use Rattle.blocks.proofs.Control.{the-type as control-type}
-use Rattle.blocks.specs.Exec.{working, spindleRecords, lastRecords, lacksCentre, drills, isG17, callsIn, callTo, unknownCall, tooDeep}
+use Rattle.blocks.specs.Exec.{working, spindleRecords, lastRecords, lacksCentre, drills, isG17}
 use Rattle.steps.specs.Steps.{Brief}
 
 -- ---- motions and codes that have no arm of their own
@@ -73,34 +62,6 @@ unfolding isG17
 not-g17 G17 h = absurd (miss (1 ∷ 2 ∷ []) 0 tt h)
 not-g17 G18 h = refl
 not-g17 G19 h = refl
-
--- ---- calls
-
-pub no-call : (control : Control) → OneOf (0 ∷ 2 ∷ 3 ∷ []) (tagOf control-type control) → callTo control ≡ none
-unfolding callTo
-no-call On h = refl
-no-call (Call n) h = absurd (miss (0 ∷ 2 ∷ 3 ∷ []) 1 tt h)
-no-call Back h = refl
-no-call Stop h = refl
-
-found-known : (o : Option Program) (p : Program) → foundAs o ≡ At p → stands o ≡ true
-unfolding foundAs stands
-found-known none p e = let no : _≡_ {A = ℕ} 0 1 = cc in absurd (omega arith)
-found-known (some q) p e = refl
-
-missing-unknown : (o : Option Program) → foundAs o ≡ Missing → stands o ≡ false
-unfolding foundAs stands
-missing-unknown none e = refl
-missing-unknown (some q) e = let no : _≡_ {A = ℕ} 0 1 = cc in absurd (omega arith)
-
-module _ {control : Control} {n : ℕ} (e : control ≡ Call n) (subs : List Program) {r : Found} (is : r ≡ foundAs (known subs n)) (left : ℕ) where
-  pub call-known : (p : Program) → r ≡ At p → false ≡ unknownCall (callsIn subs left) (callTo control)
-  unfolding unknownCall callsIn callTo
-  call-known p f = rw (e, found-known (known subs n) p (sym is ∙ f))
-
-  pub call-unknown : r ≡ Missing → true ≡ unknownCall (callsIn subs left) (callTo control)
-  unfolding unknownCall callsIn callTo
-  call-unknown f = rw (e, missing-unknown (known subs n) (sym is ∙ f))
 
 -- ---- plans of at most one record
 

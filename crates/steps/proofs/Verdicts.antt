@@ -128,25 +128,10 @@ module _ (machine : Machine) (calls : Calls) (room : ℕ) (s : State) (start : �
     unfolding judgedFrom blames
     lacks-stops e = stop _ _ _ _ (raised start ParameterUndefined _ (sym is ∙ e))
 
-  -- 5
-  module _ {t : Bool} (is : t ≡ unknownCall calls (callTo (controlOf b))) where
-    pub unknown-past : t ≡ false → from 4 ≡ from 5
-    unfolding judgedFrom blames
-    unknown-past e = past _ _ _ (clear start NumberNotFound _ (sym is ∙ e))
-
-    pub unknown-stops : t ≡ true → from 4 ≡ here NumberNotFound
-    unfolding judgedFrom blames
-    unknown-stops e = stop _ _ _ _ (raised start NumberNotFound _ (sym is ∙ e))
-
-  -- 6
-  module _ {t : Bool} (is : t ≡ tooDeep calls (callTo (controlOf b))) where
-    pub deep-past : t ≡ false → from 5 ≡ from 6
-    unfolding judgedFrom blames
-    deep-past e = past _ _ _ (clear start NestOver _ (sym is ∙ e))
-
-    pub deep-stops : t ≡ true → from 5 ≡ here NestOver
-    unfolding judgedFrom blames
-    deep-stops e = stop _ _ _ _ (raised start NestOver _ (sym is ∙ e))
+  -- 5 and 6, where neither is given
+  pub calls-past : unknownCall calls (callTo (controlOf b)) ≡ false → tooDeep calls (callTo (controlOf b)) ≡ false → from 4 ≡ from 6
+  unfolding judgedFrom blames
+  calls-past e f = past _ _ _ (clear start NumberNotFound _ e) ∙ past _ _ _ (clear start NestOver _ f)
 
   -- 4 for a cycle
   module _ {t : Bool} (is : t ≡ cannotDrill s b) where

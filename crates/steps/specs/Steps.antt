@@ -13,15 +13,12 @@ use Rattle.words.specs.declared.Values.{Values}
 use Rattle.points.specs.declared.Point.{Point}
 use Rattle.setup.specs.declared.Bed.{Bed}
 use Rattle.setup.specs.Frame.{originAt}
-use Rattle.setup.specs.Fair.{Fair}
 use Rattle.records.specs.declared.Record.{Record}
 use Rattle.settings.specs.declared.State.{State}
 use Rattle.settings.specs.declared.Modes.{Modes}
-use Rattle.letters.specs.Judging.{Stored, valued}
+use Rattle.letters.specs.Judging.{valued}
 use Rattle.reading.specs.declared.Reading.{Reading}
 use Rattle.reading.specs.Seen.{Sums}
-use Rattle.programs.specs.declared.Programs.{Programs}
-use Rattle.programs.specs.Found.{WellFound}
 use Rattle.moves.specs.declared.Plan.{Plan}
 use Rattle.moves.specs.Plans.{planRecords, briefRecords, Plans}
 use Rattle.moves.specs.Needs.{PlanCounts, PlanPuts}
@@ -29,7 +26,7 @@ use Rattle.blocks.specs.declared.Said.{Said}
 use Rattle.blocks.specs.declared.Control.{Control}
 use Rattle.blocks.specs.Machine.{Machine}
 use Rattle.blocks.specs.Motions.{movesOf}
-use Rattle.blocks.specs.Reach.{Reachable, Steady}
+use Rattle.blocks.specs.Reach.{Steady}
 use Rattle.blocks.specs.Exec.{working, settled, controlOf, madeBy, Calls, blames, Verdict, accepted, unless}
 
 -- the verdict by the refusals from a place of their order on
@@ -38,19 +35,10 @@ judgedFrom k machine calls room s start ws b =
     unless (firstOf (drop k (blames machine calls room s start ws b)))
     (accepted (settled machine s b) (controlOf b) (madeBy machine s b))
 
--- what was read of the words of a block
-pub record Says (m : Modes) (ws : List Word) (read : Reading) : Type 0 where
+-- what was read of the words of a block, `held` being those that the lent arrays hold
+pub record Says (m : Modes) (ws held : List Word) (read : Reading) : Type 0 where
   pub seen : Sums m ws (read .seen)
-  pub words : take (read .count) (read .words) ≡ valued ws
-
--- what is known of a block all of whose words may stand
-pub record Heard (bed : Bed) (s : State) (programs : Programs) (read : Reading) : Type 0 where
-  pub fair : Fair bed
-  pub state : Reachable bed s
-  pub ready : WellFound programs
-  pub stored : Stored (read .words) (read .count)
-  pub heard : List Word
-  pub says : Says (s .modes) heard read
+  pub words : take (read .count) held ≡ valued ws
 
 -- a plan of at most one record, in which nothing moves
 pub record Brief (rs : List Record) (p : Plan) : Type 0 where

@@ -8,6 +8,4 @@ pub use effects::settled;
 pub use effects::spindle_plan;
 pub use effects::working;
 pub use order::cannot_drill;
-pub use order::is_too_deep;
-pub use order::is_unknown_call;
 pub use order::lacks_parameter;

@@ -1,20 +1,13 @@
-// The tests of a block in the order of refusals, from 3 on to that of a cycle.
+// The tests of a block in the order of refusals, from 3 on to that of a cycle. Those of its call, 5 and 6, come where it is followed.
 ghost use mathlib.Core.Path.{_≡_};
 ghost use mathlib.Core.Bool.{Bool, _&&_};
-ghost use mathlib.Core.List.{List};
-ghost use Prim.Native.Nat.{ℕ, _-_};
 ghost use Rattle.letters.specs.declared.BlockCode.the-variants.{Moving};
-ghost use Rattle.programs.specs.declared.Program.{Program};
-ghost use Rattle.programs.specs.Found.{WellFound, subsOf};
 ghost use Rattle.blocks.specs.Motions.{cycleDone};
-ghost use Rattle.blocks.specs.Exec.{callsIn, callTo, unknownCall, tooDeep, lacksCentre, lacksParameter, drills, isG17, cannotDrill, working};
-use blocks::Control;
+ghost use Rattle.blocks.specs.Exec.{lacksCentre, lacksParameter, drills, isG17, cannotDrill, working};
 use blocks::Said;
 use codes::Motion;
 use codes::Plane;
 use letters::BlockCode;
-use programs::Found;
-use programs::Programs;
 use settings::State;
 use words::Values;
 
@@ -37,28 +30,6 @@ pub fn lacks_parameter(code: BlockCode, v: Values) -> bool
         BlockCode::Returning => false,
         BlockCode::Dwelling => !p.stands,
         BlockCode::Moving(motion) => lacks_centre(motion, v),
-    }
-}
-
-pub fn is_unknown_call(t: Programs, control: Control) -> bool
-    requires { ⌜ WellFound t ⌝ }
-    ensures { λ r. ⌜ ((left : ℕ) → r ≡ unknownCall (callsIn (subsOf t) left) (callTo control)) ⌝ }
-{
-    let Control::Call(n) = control else {
-        return false;
-    };
-    match scanning::find(t, n) {
-        Found::At(_) => false,
-        Found::Missing => true,
-    }
-}
-
-pub fn is_too_deep(left: usize, control: Control) -> bool
-    ensures { λ r. ⌜ ((programs : List Program) → r ≡ tooDeep (callsIn programs left) (callTo control)) ⌝ }
-{
-    match control {
-        Control::Call(_) => left == 0,
-        _ => false,
     }
 }
 

@@ -180,8 +180,8 @@ pub fn worth_at(s: &[u8], from: usize, end: usize) -> Worth
     requires { ⌜ (from < end) × (end ≤ length (now s)) ⌝ }
     ensures { λ r. ⌜ r ≡ worthOf (slice from end (now (s .entry))) ⌝ }
 {
-    let sign = numbers::sign_of(s[from]);
-    let Digits::Are(n) = digits_at(s, from + numbers::sign_length(sign), end) else {
+    let sign = words::sign_of(s[from]);
+    let Digits::Are(n) = digits_at(s, from + words::sign_length(sign), end) else {
         return Worth::Unfit(Wrong::NoNumber);
     };
     match sign {

@@ -1,5 +1,5 @@
 // Commands for the shops' program that come on standard input, one to a line, words with one blank between. Each is printed
-// after `$ ` and obeyed, wrong uses being told on standard output; `print FILE` prints a file's bytes.
+// after `$ ` and done, wrong uses being told on standard output; `print FILE` prints a file's bytes.
 ghost use Prim.Native.Nat.{_≤_, _<_};
 ghost use lib.ListN.{length};
 ghost use Rattle.io.specs.Counts.{Counts};
@@ -9,14 +9,14 @@ use libc::STDOUT_FILENO;
 fn main() {
     let mut input = io::large_buffer();
     let n = io::read_full(STDIN_FILENO, &mut input);
-    obey_lines(&input[..n]);
+    do_lines(&input[..n]);
 }
 
-fn obey_lines(input: &[u8]) {
+fn do_lines(input: &[u8]) {
     let mut from: usize = 0;
     while from < input.len() {
         let end = line_end(input, from);
-        obey_line(&input[from..end]);
+        do_line(&input[from..end]);
         from = end + 1;
     }
 }
@@ -35,7 +35,7 @@ fn line_end(input: &[u8], from: usize) -> usize
     i
 }
 
-fn obey_line(line: &[u8]) {
+fn do_line(line: &[u8]) {
     io::write_all(STDOUT_FILENO, b"$ ");
     io::write_all(STDOUT_FILENO, line);
     io::write_all(STDOUT_FILENO, b"\n");
@@ -47,7 +47,7 @@ fn obey_line(line: &[u8]) {
     }
     let mut words = io::large_buffer();
     let n = put_words(line, &mut words);
-    shop::obey(&words[..n], STDOUT_FILENO);
+    shop::do_command(&words[..n], STDOUT_FILENO);
 }
 
 // A file of 65,536 bytes at most.

@@ -1,6 +1,11 @@
 // Words of a block: a capital letter and, directly after, a number.
+mod numerals;
+
 use codes::Unit;
 use lengths::Len;
+pub use numerals::read_number;
+pub use numerals::sign_length;
+pub use numerals::sign_of;
 ghost use mathlib.Core.Path.{_≡_};
 ghost use Prim.Native.Nat.{_^_, _≤_, _<_};
 ghost use mathlib.Core.Bool.{not, _&&_};
@@ -10,6 +15,7 @@ ghost use lib.Signed.{ltZ};
 ghost use Rattle.terms.specs.Terms.{byte, between};
 ghost use Rattle.lengths.specs.Units.{len};
 ghost use Rattle.words.specs.Serving.{Written, Steps};
+ghost use Rattle.words.specs.Packed.{signNumber, signAt, packed, unpacked};
 ghost use Rattle.words.specs.Values.{isPlain, signed, placesOf, unitsOf, lengthOf, isLength, dwellOf, isDwell, countOf, checked, valueOf};
 
 // The sign that a number is written with.
@@ -78,6 +84,55 @@ pub struct Values {
     pub p: Given,
     pub f: Given,
     pub s: Given,
+}
+
+// The sign as a number below 4, and back.
+fn sign_number(sign: Sign) -> u64
+    ensures { λ r. ⌜ r ≡ signNumber sign ⌝ }
+{
+    match sign {
+        Sign::Plain => 0,
+        Sign::Plus => 1,
+        Sign::Minus => 2,
+    }
+}
+
+fn sign_at(n: u64) -> Sign
+    ensures { λ r. ⌜ r ≡ signAt n ⌝ }
+{
+    match n {
+        0 => Sign::Plain,
+        1 => Sign::Plus,
+        _ => Sign::Minus,
+    }
+}
+
+// A word in one number, so that it is kept and handed on without its forty bytes being copied; its place stands apart.
+pub fn pack(w: Word) -> u64
+    requires { ⌜ Written (w .number) ⌝ }
+    ensures { λ r. ⌜ r ≡ packed w ⌝ }
+{
+    let n = w.number;
+    let sign = n.sign;
+    let point = n.point as u64;
+    n.digits * 32768 + n.decimals * 2048 + sign_number(sign) * 512 + point * 256 + w.letter as u64
+}
+
+// The word again.
+pub fn unpack(packed: u64, at: usize) -> Word
+    ensures { λ r. ⌜ r ≡ unpacked packed at ⌝ }
+{
+    let number = Number {
+        digits: packed / 32768,
+        decimals: packed / 2048 % 16,
+        sign: sign_at(packed / 512 % 4),
+        point: packed / 256 % 2 == 1,
+    };
+    Word {
+        at,
+        number,
+        letter: (packed % 256) as u8,
+    }
 }
 
 // Ten to the k. No unit has more than four decimals.

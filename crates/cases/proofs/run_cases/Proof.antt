@@ -3,7 +3,7 @@ use Prim.Native.Nat.{_≤_, _-_}
 use mathlib.Core.Path.{_≡_}
 use lib.ListN.{length}
 use native.Mathlib.Omega.{arith}
-use Rattle.headers.proofs.Laws.{Inside, case-inside}
+use Rattle.cases.proofs.Laws.{Inside, case-inside}
 use borrow.Author.Needs.{needs}
 use borrow.Author.Tests.{not-false}
 use Rattle.cases.proofs.run_cases.Statement.{statement}

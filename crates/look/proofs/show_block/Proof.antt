@@ -1,5 +1,6 @@
 -- `look::show_block` meets its contract: the words of a block that is read as fine can be judged. Assumes nothing.
 use mathlib.Core.Bool.{true}
+use Rattle.words.specs.Packed.{wordsIn}
 use Rattle.look.proofs.Fine.{read-stored}
 use borrow.Author.Needs.{needs}
 use Rattle.look.proofs.show_block.Statement.{statement}
@@ -7,9 +8,11 @@ use Rattle.look.proofs.show_block.Tie as tie
 
 judged-requires : tie.Need-judged-requires
 judged-requires c κs =
-    let r = c .before .before .before .before in
-    let a = r .before .before .before .args in
-    read-stored true (a .modes) (a .s .now) (r .before .after-slash .result) (r .read-words .result) (r .read-words .ensures) (c .before .before .enum-told .given .1)
+    let r = c .before .before .before .before .before .before in
+    let a = r .before .before .before .before .before .args in
+    let l = r .read-words .last .1 .1 .1 .1 in
+    read-stored true (a .modes) (a .s .now) (r .before .before .before .after-slash .result) (wordsIn (l .0) (l .1 .0)) (r .read-words .result) (r .read-words .ensures)
+    (c .before .before .before .before .enum-told .given .1)
 
 pub show-block-spec : {M : Type 1} → statement M
 show-block-spec =

@@ -8,31 +8,10 @@ use Rattle.texts.specs.Figures.{worthBy, worthOf}
 use Rattle.texts.proofs.Worths.{worth-is, worth-none, worth-plain, worth-plus, worth-minus}
 use Rattle.texts.proofs.worth_at.Statement.{statement}
 use Rattle.texts.proofs.worth_at.Tie as tie
-use Rattle.texts.proofs.worth_at.Reads as reads
-use Rattle.texts.proofs.worth_at.Lts as lts
-use Rattle.numbers.proofs.sign_length.Reads as sign-length-reads
-use Rattle.numbers.proofs.sign_of.Reads as sign-of-reads
-use Rattle.texts.proofs.digits_at.Reads as digits-at-reads
-use Rattle.texts.proofs.negative.Reads as negative-reads
-use Rattle.texts.proofs.positive.Reads as positive-reads
-
-abbrev calls : lts.Claims
-calls = (
-  sign-of-reads.Asked,
-  sign-of-reads.Learnt,
-  sign-length-reads.Asked,
-  sign-length-reads.Learnt,
-  digits-at-reads.Asked,
-  digits-at-reads.Learnt,
-  positive-reads.Asked,
-  positive-reads.Learnt,
-  negative-reads.Asked,
-  negative-reads.Learnt,
-)
 
 -- sign and digits make the worth
 by-parts :
-    (c : lts.After-digits-at calls reads.Pre reads.Post)
+    (c : tie.After-digits-at)
     → let start = c .before .before .before .before .before in
     worthBy (c .before .before .sign-of .result) (c .digits-at .result)
     ≡ worthOf (slice (start .args .from) (start .args .end) (start .args .s .now))

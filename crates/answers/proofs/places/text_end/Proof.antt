@@ -6,7 +6,8 @@ use borrow.Author.Tests.{not-true, not-false}
 use native.Mathlib.Omega.{arith}
 use lib.ListN.{length, drop}
 use Rattle.lines.specs.Blocks.{textFrom}
-use Rattle.answers.proofs.Lines.{text-over, text-inside, text-more}
+use Rattle.lines.proofs.Laws.{text-inside}
+use Rattle.answers.proofs.Lines.{text-over, text-more}
 use Rattle.answers.proofs.places.text_end.Statement.{statement}
 use Rattle.answers.proofs.places.text_end.Tie as tie
 

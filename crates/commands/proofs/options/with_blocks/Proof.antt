@@ -8,16 +8,16 @@ use Rattle.commands.proofs.options.with_blocks.Tie as tie
 
 returns : tie.Need-returns
 returns c =
-    let t = c .before .before .before in
+    let t = c .before .before in
     let a = t .before .before .before .args in
-    c .wrong .ensures ∙ sym (blocks-twice (a .options) (digitsIn (a .number .now)) (t .if1 .taken))
+    c .given-twice .ensures ∙ sym (blocks-twice (a .options) (digitsIn (a .number .now)) (t .if1 .taken))
 
 returns-2 : tie.Need-returns-2
 returns-2 c =
     let told = c .before .before .before in
     let d = told .before .before in
     let a = d .before .before .before .before .args in
-    c .wrong2 .ensures
+    c .wrong .ensures
     ∙ sym (blocks-none (a .options) (digits-known (a .number .now) (d .digits-at .ensures) (told .enum-told .given .1)))
 
 returns-3 : tie.Need-returns-3
@@ -31,5 +31,5 @@ returns-3 c =
 pub with-blocks-spec : {M : Type 1} → statement M
 with-blocks-spec =
     tie.close
-    (tie.spec (λ c. search needs) (λ c. search needs) (λ c κs. search needs) returns (λ c κs. search needs) (λ c. search needs)
-    (λ c. search needs) (λ c. search needs) (λ c. search needs) (λ c κs. search needs) returns-2 (λ c. search needs) returns-3)
+    (tie.spec (λ c. search needs) (λ c κs. search needs) returns (λ c κs. search needs) (λ c. search needs) (λ c. search needs)
+    (λ c. search needs) (λ c. search needs) (λ c κs. search needs) returns-2 (λ c. search needs) returns-3)

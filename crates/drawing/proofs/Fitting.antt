@@ -1,0 +1,87 @@
+-- The answer of a drawing, as the functions reach it. Assumes nothing.
+use Prim.Native.Nat.{ℕ, _≤_, _<_}
+use mathlib.Core.Path.{_≡_, refl, sym, ap, _∙_}
+use mathlib.Core.Bool.{Bool, true, false}
+use mathlib.Core.List.{List}
+use native.Mathlib.Omega.{arith}
+use borrow.Author.Tests.{lt-ltb, le-ltb, ltb-true}
+use lib.Dec.{ltb}
+use lib.ListN.{length}
+use lib.Seq.{sets}
+use Rattle.terms.specs.Terms.{if_then_else_}
+use Rattle.setup.specs.declared.Setup.{Setup}
+use Rattle.setup.specs.Limits.{validSetup}
+use Rattle.records.specs.declared.Record.{Record}
+use Rattle.records.specs.declared.Fault.{Fault}
+use Rattle.records.specs.declared.Listed.{Listed}
+use Rattle.records.specs.declared.Listed.the-variants.{Next, End, Faulty as faulty}
+use Rattle.drawing.specs.declared.Drawn.{Drawn}
+use Rattle.drawing.specs.declared.Drawn.the-variants.{Is, NoRoom, Faulty, BadSetup}
+use Rattle.drawing.specs.Text.{Fills}
+use Rattle.drawing.specs.Walks.{recordsFrom, endFrom}
+use Rattle.drawing.specs.Picture.{sheetOf, pictureOf, fitting, answerFor, bytesFor, Draws}
+use Rattle.drawing.proofs.Filled.{fills-length}
+
+-- a place before the buffer's end says that the whole text is there
+pub fits-is : {was is text : List ℕ} {n : ℕ} → Fills was 0 text is n → n < length is → Is n ≡ fitting text (length was)
+unfolding fitting
+fits-is {was} {is} {text} {n} p h =
+    let kept = fills-length p in
+    let size : n ≡ length text = omega (arith, p .place) in
+    let less : length text < length was = omega (arith, p .place) in
+    rw (lt-ltb (length text) (length was) less) (ap Is size)
+
+pub fits-not : {was is text : List ℕ} {n : ℕ} → Fills was 0 text is n → length is ≤ n → NoRoom ≡ fitting text (length was)
+unfolding fitting
+fits-not {was} {is} {text} {n} p h =
+    let kept = fills-length p in
+    let more : length was ≤ length text = omega (arith, p .place) in
+    rw (le-ltb (length text) (length was) more)
+
+module _ (l : List ℕ) (s : Setup) where
+  pub draws-bad : (was : List ℕ) → validSetup s ≡ false → Draws l s was was BadSetup
+  draws-bad was e = record { answer = rw e; bytes = rw e }
+
+  pub draws-faulty :
+      (was : List ℕ) {fault : Fault} {place : ℕ} → validSetup s ≡ true → endFrom l 0 ≡ faulty fault place → Draws l s was was (Faulty place)
+  unfolding answerFor bytesFor
+  draws-faulty was e f = record { answer = rw (e, f); bytes = rw (e, f) }
+
+  module _ {was is : List ℕ} {r : Drawn} (e : validSetup s ≡ true) where
+    pub draws-end :
+        endFrom l 0 ≡ End → r ≡ fitting (pictureOf (sheetOf s) (recordsFrom l 0)) (length was)
+        → is ≡ sets was 0 (pictureOf (sheetOf s) (recordsFrom l 0)) → Draws l s was is r
+    unfolding answerFor bytesFor
+    draws-end f p q = record { answer = rw (e, f) p; bytes = rw (e, f) q }
+
+    pub draws-next :
+        {a : Record} {next : ℕ} → endFrom l 0 ≡ Next a next → r ≡ fitting (pictureOf (sheetOf s) (recordsFrom l 0)) (length was)
+        → is ≡ sets was 0 (pictureOf (sheetOf s) (recordsFrom l 0)) → Draws l s was is r
+    unfolding answerFor bytesFor
+    draws-next f p q = record { answer = rw (e, f) p; bytes = rw (e, f) q }
+
+-- ---- a picture that is drawn ends before the buffer does
+
+fitting-inside : (text : List ℕ) (room n : ℕ) → fitting text room ≡ Is n → n < room
+unfolding fitting
+fitting-inside text room n e = by (ltb (length text) room) refl e
+  where
+    by : (t : Bool) → ltb (length text) room ≡ t → (if t then Is (length text) else NoRoom) ≡ Is n → n < room
+    by true h f = let g : length text ≡ n = cc in omega (arith, ltb-true (length text) room h)
+    by false h f = let z : _≡_ {A = ℕ} 0 1 = cc in absurd (omega arith)
+
+answer-drawn : (x : Listed) (d : Drawn) (n : ℕ) → answerFor x d ≡ Is n → d ≡ Is n
+unfolding answerFor
+answer-drawn (Next r next) d n e = e
+answer-drawn End d n e = e
+answer-drawn (faulty fault place) d n e = let z : _≡_ {A = ℕ} 0 1 = cc in absurd (omega arith)
+
+valid-drawn : (t : Bool) (d : Drawn) (n : ℕ) → (if t then d else BadSetup) ≡ Is n → d ≡ Is n
+valid-drawn true d n e = e
+valid-drawn false d n e = let z : _≡_ {A = ℕ} 0 1 = cc in absurd (omega arith)
+
+pub draws-inside : {l was is : List ℕ} {s : Setup} {r : Drawn} {n : ℕ} → Draws l s was is r → r ≡ Is n → n < length was
+draws-inside {l} {was} {is} {s} {r} {n} h e =
+    let text = pictureOf (sheetOf s) (recordsFrom l 0) in
+    let drawn = valid-drawn (validSetup s) (answerFor (endFrom l 0) (fitting text (length was))) n (sym (h .answer) ∙ e) in
+    fitting-inside text (length was) n (answer-drawn (endFrom l 0) (fitting text (length was)) n drawn)

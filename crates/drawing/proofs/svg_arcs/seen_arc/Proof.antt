@@ -1,0 +1,23 @@
+-- `drawing::svg_arcs::seen_arc` meets its contract: each part as its call gives it. Assumes nothing.
+use native.Mathlib.Omega.{arith}
+use borrow.Author.Needs.{needs}
+use Rattle.drawing.specs.ArcText.{seenArc}
+use Rattle.drawing.proofs.svg_arcs.seen_arc.Statement.{statement}
+use Rattle.drawing.proofs.svg_arcs.seen_arc.Tie as tie
+
+returns : tie.Need-returns
+unfolding seenArc
+returns c = (
+  rw (c .radius-of .ensures .0, c .before .from-centre2 .ensures .is, c .before .before .from-centre .ensures .is),
+  record {
+    drawable = c .before .before .before .before .pre;
+    start = c .before .before .from-centre .ensures .small;
+    end = c .before .from-centre2 .ensures .small;
+    radius = c .radius-of .ensures .1;
+  },
+)
+
+pub seen-arc-spec : {M : Type 1} → statement M
+seen-arc-spec =
+    tie.close
+    (tie.spec (λ c κs. search needs) (λ c κs. search needs) (λ c κs. search needs) returns)

@@ -1,0 +1,18 @@
+-- `drawing::svg_arcs::turn_seen` meets its contract: view by view. Assumes nothing.
+use borrow.Author.Needs.{needs}
+use Rattle.drawing.specs.ArcText.{turnSeen}
+use Rattle.drawing.proofs.svg_arcs.turn_seen.Statement.{statement}
+use Rattle.drawing.proofs.svg_arcs.turn_seen.Tie as tie
+
+returns : tie.Need-returns
+unfolding turnSeen
+returns c =
+    rw (c .enum-told .given .1)
+
+returns-2 : tie.Need-returns-2
+unfolding turnSeen
+returns-2 c =
+    rw (c .enum-told2 .given .1)
+
+pub turn-seen-spec : {M : Type 1} → statement M
+turn-seen-spec = tie.close (tie.spec (λ c. search needs) (λ c. search needs) returns returns-2)

@@ -1,0 +1,25 @@
+-- `drawing::svg_text::put_number` meets its contract: a sign where the number is below 0, and its digits. Assumes nothing.
+use mathlib.Core.Path.{sym, _∙_}
+use borrow.Author.Needs.{needs}
+use Rattle.drawing.proofs.Digits.{number-up, number-down}
+use Rattle.drawing.proofs.Filled.{fills-then}
+use Rattle.drawing.proofs.svg_text.put_number.Statement.{statement}
+use Rattle.drawing.proofs.svg_text.put_number.Tie as tie
+
+returns : tie.Need-returns
+returns c =
+    let n = c .before .before .before .before .before .before .before .before .before .before .before .before .before .before .before .args .n in
+    let e = sym (rw (c .before .before .before .before .before .before .before .before .before .before .before .zero2 .ensures .is) at (c .before .before .before .before .before .before .before .before .before .before .below .ensures)) ∙ c .before .before .before .before .before .before .before .before .before .if1 .taken in
+    rw (number-down (n .v) (c .before .before .before .before .before .before .before .before .before .before .before .before .before .zero .result) (c .before .before .before .before .before .before .before .before .before .before .before .before .apart .result) (c .before .before .before .before .before .before .before .before .before .before .before .before .before .zero .ensures) (c .before .before .before .before .before .before .before .before .before .before .before .before .apart .ensures) e) (fills-then (c .before .before .before .before .before .before .put-text .ensures) (c .before .before .put-digits .ensures))
+
+returns-2 : tie.Need-returns-2
+returns-2 c =
+    let n = c .before .before .before .before .before .before .before .before .before .before .args .n in
+    let e = sym (rw (c .before .before .before .before .before .before .zero2 .ensures .is) at (c .before .before .before .before .before .below .ensures)) ∙ c .before .before .before .before .if1 .left in
+    rw (number-up (n .v) (c .before .before .before .before .before .before .before .before .zero .result) (c .before .before .before .before .before .before .before .apart .result) (c .before .before .before .before .before .before .before .before .zero .ensures) (c .before .before .before .before .before .before .before .apart .ensures) e) (c .before .before .put-digits2 .ensures)
+
+pub put-number-spec : {M : Type 1} → statement M
+put-number-spec =
+    tie.close
+    (tie.spec (λ c κs. search needs) (λ c κs. search needs) (λ c κs. search needs) (λ c κs. search needs) (λ c. search needs)
+    (λ c κs. search needs) (λ c κs. search needs) (λ c. search needs) returns (λ c κs. search needs) (λ c. search needs) returns-2)

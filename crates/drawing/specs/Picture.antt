@@ -1,0 +1,140 @@
+-- The whole picture of a list under a setup, as SVG text, and what the library answers.
+use Prim.Native.Nat.{ℕ, _+_, _*_, _/_, _≤_}
+use mathlib.Core.Path.{_≡_}
+use mathlib.Core.Bool.{Bool, true, false}
+use mathlib.Core.List.{List}
+use lib.Dec.{ltb}
+use lib.IntN.{pos, negℤ, natAbs, _-ℤ_}
+use lib.ListN.{length}
+use lib.Seq.{sets}
+use Rattle.terms.specs.Terms.{if_then_else_, bytes}
+use Rattle.lengths.specs.declared.Len.{Len}
+use Rattle.lengths.specs.Units.{len, _⊕_, _⊖_}
+use Rattle.points.specs.declared.Point.{Point}
+use Rattle.points.specs.declared.Flat.{Flat}
+use Rattle.points.specs.Near.{Near}
+use Rattle.setup.specs.declared.Setup.{Setup}
+use Rattle.setup.specs.Frame.{pointOf}
+use Rattle.setup.specs.Limits.{validSetup}
+use Rattle.records.specs.declared.Record.{Record}
+use Rattle.records.specs.declared.Listed.{Listed}
+use Rattle.records.specs.declared.Listed.the-variants.{Next, End, Faulty as faulty}
+use Rattle.drawing.specs.declared.View.{View}
+use Rattle.drawing.specs.declared.View.the-variants.{Above, Side}
+use Rattle.drawing.specs.declared.Sheet.{Sheet}
+use Rattle.drawing.specs.declared.Drawn.{Drawn}
+use Rattle.drawing.specs.declared.Drawn.the-variants.{Is, NoRoom, Faulty, BadSetup}
+use Rattle.drawing.specs.Text.{_⧺_, number}
+use Rattle.drawing.specs.Lines.{seenFrom, pair, dot}
+use Rattle.drawing.specs.Shapes.{path}
+use Rattle.drawing.specs.Walks.{recordsFrom, endFrom}
+
+-- a fortieth of the travel's three sides together, at least 4 units, so that the picture looks alike whatever the machine's size
+unfoldable pub gapOf : Point → Point → ℕ
+gapOf low high =
+    (natAbs (high .x .v -ℤ low .x .v) + natAbs (high .y .v -ℤ low .y .v) + natAbs (high .z .v -ℤ low .z .v)) / 40 + 4
+
+-- the travel and the start of a setup, in machine units, and the gap around and between the views
+unfoldable pub sheetOf : Setup → Sheet
+sheetOf s =
+    record {
+      low = pointOf (s .low);
+      high = pointOf (s .high);
+      start = pointOf (s .start);
+      gap = gapOf (pointOf (s .low)) (pointOf (s .high));
+    }
+
+-- the travel of a valid setup is near enough for the sums below
+pub record Fair (sh : Sheet) : Type 0 where
+  pub low : Near 100_000_000 (sh .low)
+  pub high : Near 100_000_000 (sh .high)
+  pub gap : sh .gap ≤ 20_000_000
+
+-- "the travel as a frame", its lower side first
+unfoldable pub side : Flat → Flat → List ℕ
+side low high = bytes "<path class=\"f\" d=\"M" ⧺ pair low ⧺ bytes "H" ⧺ number (high .first .v)
+
+unfoldable pub frame : Flat → Flat → List ℕ
+frame low high =
+    side low high ⧺ bytes "V" ⧺ number (high .second .v) ⧺ bytes "H" ⧺ number (low .first .v) ⧺ bytes "z\"/>\n"
+
+-- "rapids and cuts told apart": a group for each, after the text that opens it
+unfoldable pub layer : List ℕ → View → Bool → Point → List Record → List ℕ
+layer text view rapids start rs = text ⧺ path view rapids start rs
+
+-- the travel, and "the start marked"
+unfoldable pub marks : View → Sheet → List ℕ
+marks view sh =
+    frame (seenFrom view (sh .low)) (seenFrom view (sh .high))
+    ⧺ dot (bytes "<path class=\"s\" d=\"M") (seenFrom view (sh .start))
+
+-- One view, with these marks, and the cuts over the rapids, since a tool often leaves by the way it came. It stands in a
+-- group that is turned so that its second axis is up; that group and the one of the cuts are closed after it.
+unfoldable pub viewOf : View → Sheet → List Record → List ℕ
+viewOf view sh rs =
+    marks view sh
+    ⧺ layer (bytes "<g class=\"r\">\n") view true (sh .start) rs
+    ⧺ layer (bytes "</g>\n<g class=\"c\">\n") view false (sh .start) rs
+
+-- the part of the plane that is shown: both views, one above the other, at one scale
+unfoldable pub cornerOf : Sheet → Flat
+cornerOf sh =
+    record {
+      first = sh .low .x ⊖ len (pos (sh .gap));
+      second = len (negℤ ((sh .high .y ⊕ len (pos (sh .gap))) .v));
+    }
+
+unfoldable pub sizeOf : Sheet → Flat
+sizeOf sh =
+    record {
+      first = sh .high .x ⊖ sh .low .x ⊕ len (pos (2 * sh .gap));
+      second = sh .high .y ⊖ sh .low .y ⊕ (sh .high .z ⊖ sh .low .z) ⊕ len (pos (3 * sh .gap));
+    }
+
+-- how far down the side view stands
+unfoldable pub downOf : Sheet → Len
+downOf sh = sh .high .z ⊖ sh .low .y ⊕ len (pos (sh .gap))
+
+-- Thin lines at any scale. Where a viewer does not know how to keep a line's width, the widths are parts of the sheet.
+unfoldable pub style : List ℕ
+style =
+    bytes
+    "<style>svg{background:#fff}path{fill:none}.f{stroke:#999;stroke-width:.1%}.s{stroke:#6c6;stroke-width:1.2%;stroke-linecap:round}.r{stroke:#c60;stroke-width:.1%;stroke-dasharray:.4% .3%}.c{stroke:#036;stroke-width:.2%}.p{stroke-width:.6%;stroke-linecap:round}@supports(vector-effect:non-scaling-stroke){path{vector-effect:non-scaling-stroke}.f{stroke-width:1px}.s{stroke-width:14px}.r{stroke-width:1px;stroke-dasharray:4px 3px}.c{stroke-width:2px}.p{stroke-width:6px}}</style>\n"
+
+-- the beginning of the text, which says what part of the plane is shown
+unfoldable pub extent : Sheet → List ℕ
+extent sh =
+    bytes "<svg xmlns=\"http://www.w3.org/2000/svg\" viewBox=\"" ⧺ pair (cornerOf sh) ⧺ bytes " " ⧺ pair (sizeOf sh) ⧺ bytes "\">\n"
+
+unfoldable pub opening : Sheet → List ℕ
+opening sh = extent sh ⧺ style ⧺ bytes "<g transform=\"scale(1 -1)\">\n"
+
+-- A matrix, since one browser shortens a long translation.
+unfoldable pub shift : Sheet → List ℕ
+shift sh = bytes "</g>\n</g>\n<g transform=\"matrix(1 0 0 -1 0 " ⧺ number (downOf sh .v) ⧺ bytes ")\">\n"
+
+unfoldable pub pictureOf : Sheet → List Record → List ℕ
+pictureOf sh rs = opening sh ⧺ viewOf Above sh rs ⧺ shift sh ⧺ viewOf Side sh rs ⧺ bytes "</g>\n</g>\n</svg>\n"
+
+-- what is answered of a text and a room, and what becomes of the buffer: the text has to leave at least one byte
+unfoldable pub fitting : List ℕ → ℕ → Drawn
+fitting text room = if ltb (length text) room then Is (length text) else NoRoom
+
+unfoldable pub answerFor : Listed → Drawn → Drawn
+answerFor (Next r next) drawn = drawn
+answerFor End drawn = drawn
+answerFor (faulty fault place) drawn = Faulty place
+
+unfoldable pub bytesFor : Listed → List ℕ → List ℕ → List ℕ
+bytesFor (Next r next) was is = is
+bytesFor End was is = is
+bytesFor (faulty fault place) was is = was
+
+-- The picture of a list under a setup, over a buffer. Where there is no room, the buffer holds the picture's first bytes.
+pub record Draws (l : List ℕ) (s : Setup) (was is : List ℕ) (r : Drawn) : Type 0 where
+  pub answer :
+      r
+      ≡ (if validSetup s then answerFor (endFrom l 0) (fitting (pictureOf (sheetOf s) (recordsFrom l 0)) (length was)) else BadSetup)
+  pub bytes :
+      is
+      ≡ (if validSetup s then bytesFor (endFrom l 0) was (sets was 0 (pictureOf (sheetOf s) (recordsFrom l 0))) else was)

@@ -1,0 +1,232 @@
+// Pictures of a record list, as SVG text: the path seen from above and from the side, in units.
+use crate::Drawn;
+use crate::Sheet;
+use crate::View;
+use crate::svg_lines::put_dot;
+use crate::svg_lines::put_pair;
+use crate::svg_lines::seen;
+use crate::svg_path::last_of;
+use crate::svg_path::put_path;
+use crate::svg_text::put_named;
+use crate::svg_text::put_text;
+use lengths::Len;
+use points::Flat;
+use points::Point;
+use records::Listed;
+use setup::Setup;
+ghost use Prim.Native.Nat.{_≤_};
+ghost use mathlib.Core.Path.{_≡_};
+ghost use mathlib.Core.Bool.{true};
+ghost use Rattle.setup.specs.Limits.{validSetup};
+ghost use lib.ListN.{length};
+ghost use lib.Seq.{sets};
+ghost use Rattle.points.specs.Near.{Near};
+ghost use Rattle.drawing.specs.Text.{Fills};
+ghost use Rattle.drawing.specs.Walks.{recordsFrom};
+ghost use Rattle.drawing.specs.Picture.{sheetOf, gapOf, Fair, cornerOf, sizeOf, downOf, side, frame, layer, marks, viewOf, style, extent, opening, shift, pictureOf, fitting, Draws};
+
+// The travel's lower side, from the left to the right.
+fn put_side(out: &mut [u8], at: usize, low: Flat, high: Flat) -> usize
+    ensures { λ next. ⌜ Fills (now (out .entry)) at (side low high) (now (out .exit)) next ⌝ }
+{
+    let corner = put_pair(out, at, b"<path class=\"f\" d=\"M", low);
+    put_named(out, corner, b"H", high.first)
+}
+
+fn put_frame(out: &mut [u8], at: usize, low: Flat, high: Flat) -> usize
+    ensures { λ next. ⌜ Fills (now (out .entry)) at (frame low high) (now (out .exit)) next ⌝ }
+{
+    let right = put_side(out, at, low, high);
+    let up = put_named(out, right, b"V", high.second);
+    let left = put_named(out, up, b"H", low.first);
+    put_text(out, left, b"z\"/>\n")
+}
+
+fn put_layer(
+    out: &mut [u8],
+    at: usize,
+    text: &[u8],
+    view: View,
+    rapids: bool,
+    start: Point,
+    list: &[u8],
+) -> usize
+    ensures { λ next. ⌜ Fills (now (out .entry)) at (layer (now (text .entry)) view rapids start (recordsFrom (now (list .entry)) 0)) (now (out .exit)) next ⌝ }
+{
+    let next = put_text(out, at, text);
+    put_path(out, next, view, rapids, start, list)
+}
+
+// The travel and the start.
+fn put_marks(out: &mut [u8], at: usize, view: View, sh: Sheet) -> usize
+    ensures { λ next. ⌜ Fills (now (out .entry)) at (marks view sh) (now (out .exit)) next ⌝ }
+{
+    let low = seen(view, sh.low);
+    let high = seen(view, sh.high);
+    let mark = put_frame(out, at, low, high);
+    let start = seen(view, sh.start);
+    put_dot(out, mark, b"<path class=\"s\" d=\"M", start)
+}
+
+// Cuts are drawn over rapids, since a tool often leaves by the way it came.
+fn put_view(out: &mut [u8], at: usize, view: View, sh: Sheet, list: &[u8]) -> usize
+    ensures { λ next. ⌜ Fills (now (out .entry)) at (viewOf view sh (recordsFrom (now (list .entry)) 0)) (now (out .exit)) next ⌝ }
+{
+    let start = sh.start;
+    let rapids = put_marks(out, at, view, sh);
+    let cuts = put_layer(out, rapids, b"<g class=\"r\">\n", view, true, start, list);
+    put_layer(
+        out,
+        cuts,
+        b"</g>\n<g class=\"c\">\n",
+        view,
+        false,
+        start,
+        list,
+    )
+}
+
+fn corner_of(sh: Sheet) -> Flat
+    requires { ⌜ Fair sh ⌝ }
+    ensures { λ r. ⌜ r ≡ cornerOf sh ⌝ }
+{
+    let low = sh.low;
+    let high = sh.high;
+    let gap = Len::of_count(sh.gap);
+    Flat {
+        first: low.x.minus(gap),
+        second: high.y.plus(gap).negated(),
+    }
+}
+
+fn size_of(sh: Sheet) -> Flat
+    requires { ⌜ Fair sh ⌝ }
+    ensures { λ r. ⌜ r ≡ sizeOf sh ⌝ }
+{
+    let low = sh.low;
+    let high = sh.high;
+    let two = Len::of_count(2 * sh.gap);
+    let three = Len::of_count(3 * sh.gap);
+    Flat {
+        first: high.x.minus(low.x).plus(two),
+        second: high.y.minus(low.y).plus(high.z.minus(low.z)).plus(three),
+    }
+}
+
+fn down_of(sh: Sheet) -> Len
+    requires { ⌜ Fair sh ⌝ }
+    ensures { λ r. ⌜ r ≡ downOf sh ⌝ }
+{
+    let low = sh.low;
+    let high = sh.high;
+    high.z.minus(low.y).plus(Len::of_count(sh.gap))
+}
+
+// Lines are thin at any scale: in browsers also where a part is enlarged, elsewhere in parts of the sheet.
+fn put_style(out: &mut [u8], at: usize) -> usize
+    ensures { λ next. ⌜ Fills (now (out .entry)) at style (now (out .exit)) next ⌝ }
+{
+    put_text(
+        out,
+        at,
+        b"<style>svg{background:#fff}path{fill:none}.f{stroke:#999;stroke-width:.1%}.s{stroke:#6c6;stroke-width:1.2%;stroke-linecap:round}.r{stroke:#c60;stroke-width:.1%;stroke-dasharray:.4% .3%}.c{stroke:#036;stroke-width:.2%}.p{stroke-width:.6%;stroke-linecap:round}@supports(vector-effect:non-scaling-stroke){path{vector-effect:non-scaling-stroke}.f{stroke-width:1px}.s{stroke-width:14px}.r{stroke-width:1px;stroke-dasharray:4px 3px}.c{stroke-width:2px}.p{stroke-width:6px}}</style>\n",
+    )
+}
+
+// The beginning of the text, which says what part of the plane is shown.
+fn put_extent(out: &mut [u8], sh: Sheet) -> usize
+    requires { ⌜ Fair sh ⌝ }
+    ensures { λ next. ⌜ Fills (now (out .entry)) 0 (extent sh) (now (out .exit)) next ⌝ }
+{
+    let corner = put_pair(
+        out,
+        0,
+        b"<svg xmlns=\"http://www.w3.org/2000/svg\" viewBox=\"",
+        corner_of(sh),
+    );
+    let size = put_pair(out, corner, b" ", size_of(sh));
+    put_text(out, size, b"\">\n")
+}
+
+fn put_opening(out: &mut [u8], sh: Sheet) -> usize
+    requires { ⌜ Fair sh ⌝ }
+    ensures { λ next. ⌜ Fills (now (out .entry)) 0 (opening sh) (now (out .exit)) next ⌝ }
+{
+    let end = put_extent(out, sh);
+    let next = put_style(out, end);
+    put_text(out, next, b"<g transform=\"scale(1 -1)\">\n")
+}
+
+fn put_shift(out: &mut [u8], at: usize, sh: Sheet) -> usize
+    requires { ⌜ Fair sh ⌝ }
+    ensures { λ next. ⌜ Fills (now (out .entry)) at (shift sh) (now (out .exit)) next ⌝ }
+{
+    let next = put_named(
+        out,
+        at,
+        b"</g>\n</g>\n<g transform=\"matrix(1 0 0 -1 0 ",
+        down_of(sh),
+    );
+    put_text(out, next, b")\">\n")
+}
+
+fn put_picture(out: &mut [u8], sh: Sheet, list: &[u8]) -> usize
+    requires { ⌜ Fair sh ⌝ }
+    ensures { λ next. ⌜ Fills (now (out .entry)) 0 (pictureOf sh (recordsFrom (now (list .entry)) 0)) (now (out .exit)) next ⌝ }
+{
+    let above = put_opening(out, sh);
+    let down = put_view(out, above, View::Above, sh, list);
+    let side = put_shift(out, down, sh);
+    let end = put_view(out, side, View::Side, sh, list);
+    put_text(out, end, b"</g>\n</g>\n</svg>\n")
+}
+
+// A fortieth of the travel's three sides together, at least 4 units.
+fn gap_of(low: Point, high: Point) -> u64
+    requires { ⌜ (Near 100_000_000 low) × (Near 100_000_000 high) ⌝ }
+    ensures { λ r. ⌜ (r ≡ gapOf low high) × (r ≤ 20_000_000) ⌝ }
+{
+    let sides = high.x.apart(low.x) + high.y.apart(low.y) + high.z.apart(low.z);
+    sides / 40 + 4
+}
+
+fn sheet_of(s: Setup) -> Sheet
+    requires { ⌜ validSetup s ≡ true ⌝ }
+    ensures { λ r. ⌜ (r ≡ sheetOf s) × Fair r ⌝ }
+{
+    let low = setup::point_of(s.low);
+    let high = setup::point_of(s.high);
+    Sheet {
+        low,
+        high,
+        start: setup::point_of(s.start),
+        gap: gap_of(low, high),
+    }
+}
+
+fn put_fitting(out: &mut [u8], s: Setup, list: &[u8]) -> Drawn
+    requires { ⌜ validSetup s ≡ true ⌝ }
+    ensures { λ r. ⌜ r ≡ fitting (pictureOf (sheetOf s) (recordsFrom (now (list .entry)) 0)) (length (now (out .entry))) ⌝ }
+    ensures { λ _. ⌜ now (out .exit) ≡ sets (now (out .entry)) 0 (pictureOf (sheetOf s) (recordsFrom (now (list .entry)) 0)) ⌝ }
+{
+    let n = put_picture(out, sheet_of(s), list);
+    if n < out.len() {
+        return Drawn::Is(n);
+    }
+    Drawn::NoRoom
+}
+
+// Draws a list under a setup into a buffer, which has to be longer than the picture.
+pub fn draw(list: &[u8], s: Setup, out: &mut [u8]) -> Drawn
+    ensures { λ r. ⌜ Draws (now (list .entry)) s (now (out .entry)) (now (out .exit)) r ⌝ }
+{
+    if !setup::is_valid(s) {
+        return Drawn::BadSetup;
+    }
+    let end = last_of(list);
+    match end {
+        Listed::Next(_, _) => put_fitting(out, s, list),
+        Listed::End => put_fitting(out, s, list),
+        Listed::Faulty(_, place) => Drawn::Faulty(place),
+    }
+}

@@ -1,0 +1,52 @@
+-- What the code hears of a block's words, by what is left of the order of refusals.
+use Prim.Native.Nat.{ℕ, _+_, _≤_}
+use mathlib.Core.Path.{_≡_}
+use mathlib.Core.List.{List}
+use lib.ListN.{length, drop}
+use Rattle.lines.specs.Blocks.{textFrom, lengthFrom}
+use Rattle.words.specs.declared.Word.{Word}
+use Rattle.setup.specs.declared.Bed.{Bed}
+use Rattle.setup.specs.Fair.{Fair}
+use Rattle.settings.specs.declared.State.{State}
+use Rattle.reading.specs.declared.Reading.{Reading}
+use Rattle.blocks.specs.declared.Said.{Said}
+use Rattle.blocks.specs.Machine.{machineOf}
+use Rattle.blocks.specs.Reach.{Reachable, Steady}
+use Rattle.blocks.specs.Calling.{freely}
+use Rattle.blocks.specs.Exec.{refused, saidBy, exec}
+use Rattle.steps.specs.Steps as Steps
+use Rattle.steps.specs.Steps.{judgedFrom}
+use Rattle.execution.specs.declared.Heard.{Heard}
+use Rattle.execution.specs.declared.Heard.the-variants.{Refused, Says}
+
+-- what the judgement of a block's words comes to: 2 or 1 by value, or what the block says
+pub record Judges (bed : Bed) (held : List Word) (read : Reading) (said : Said) : Type 0 where
+  pub steady : (s : State) (ws : List Word) → Steps.Says (s .modes) ws held read → Fair bed → Reachable bed s → Steady bed s said
+  pub goes :
+      (s : State) (ws : List Word) → Steps.Says (s .modes) ws held read → (left room start : ℕ)
+      → judgedFrom 1 (machineOf bed) (freely left) room s start ws (saidBy (machineOf bed) (s .modes) ws)
+      ≡ judgedFrom 3 (machineOf bed) (freely left) room s start ws said
+
+abbrev pub JudgedAs : Bed → List Word → Reading → Heard → Type 0
+JudgedAs bed held read (Refused refusal byte) =
+    (s : State) (ws : List Word) → Steps.Says (s .modes) ws held read → (left room start : ℕ)
+    → judgedFrom 1 (machineOf bed) (freely left) room s start ws (saidBy (machineOf bed) (s .modes) ws)
+    ≡ refused (record { refusal = refusal; byte = byte })
+JudgedAs bed held read (Says said end) = Judges bed held read said × (end ≡ read .end)
+
+-- what a block at a place of the data says: it is refused before 3 is asked, or all its words can be obeyed
+pub record Hears (bed : Bed) (left : ℕ) (s : State) (bytes : List ℕ) (from : ℕ) (said : Said) (end : ℕ) : Type 0 where
+  pub steady : Steady bed s said
+  pub inside : end ≤ length bytes
+  pub block : end + lengthFrom (drop end bytes) ≡ from + lengthFrom (drop from bytes)
+  pub ws : List Word
+  pub goes :
+      (room start : ℕ)
+      → exec (machineOf bed) (freely left) room s start from (textFrom (drop from bytes))
+      ≡ judgedFrom 3 (machineOf bed) (freely left) room s start ws said
+
+abbrev pub HeardAs : Bed → ℕ → State → List ℕ → ℕ → Heard → Type 0
+HeardAs bed left s bytes from (Refused refusal byte) =
+    (room start : ℕ)
+    → exec (machineOf bed) (freely left) room s start from (textFrom (drop from bytes)) ≡ refused (record { refusal = refusal; byte = byte })
+HeardAs bed left s bytes from (Says said end) = Hears bed left s bytes from said end

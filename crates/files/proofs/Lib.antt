@@ -1,0 +1,4 @@
+pub mod Fates
+pub mod Spelling
+pub mod Naming
+pub mod Zeros

@@ -1,0 +1,18 @@
+-- `files::status::spelt` meets its contract. Assumes nothing.
+use borrow.Author.Needs.{needs}
+use mathlib.Core.Path.{sym}
+use Rattle.files.proofs.Spelling.{spelt}
+use Rattle.files.proofs.status.spelt.Statement.{statement}
+use Rattle.files.proofs.status.spelt.Tie as tie
+
+returns : tie.Need-returns
+returns c =
+    let p = c .before in
+    let b = p .before .before in
+    spelt (b .before .before .args .path .now) (b .buffer .result) (sym (b .buffer .ensures)) (b .before .before .pre) (p .put .ensures)
+
+pub spelt-spec : {M : Type 1} → statement M
+spelt-spec =
+    tie.close
+    (tie.spec (λ c κs. search needs) (λ c. search needs) (λ c κs. search needs) (λ c. search needs) (λ c. search needs) (λ c. search needs)
+    returns)

@@ -1,3 +1,0 @@
-pub mod Laws
-pub mod Opened
-pub mod Comments

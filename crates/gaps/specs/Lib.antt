@@ -1,4 +1,0 @@
-pub mod Gaps
-pub mod Comments
-pub mod Alike
-pub mod Serving

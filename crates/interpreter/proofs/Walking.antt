@@ -1,0 +1,152 @@
+-- The walk at a place of the data: what the block there leads to. Assumes nothing.
+use Prim.Native.Nat.{ℕ, _+_, _≤_, _<_}
+use mathlib.Core.Path.{_≡_, refl, sym, _∙_, ap}
+use mathlib.Core.Bool.{Bool, true, false, _&&_, _||_}
+use mathlib.Core.List.{List, [], _∷_}
+use native.Mathlib.Omega.{arith}
+use native.Mathlib.Decide.{decLt}
+use lib.ListN.{length, drop, drop-of-length-le}
+use Rattle.terms.specs.Terms.{if_then_else_, firstOf}
+use Rattle.refusals.specs.declared.Refusal.the-variants.{NoEnd}
+use Rattle.refusals.specs.declared.Place.{Place}
+use Rattle.lines.specs.Blocks.{Block, blockFrom, lengthFrom, beginsWith, isPercent, isSlashed, textFrom, opens, closes}
+use Rattle.lines.specs.Serving.{blocksFrom}
+use Rattle.lines.proofs.Lines.{at-place, blocks-step, blocks-end}
+use Rattle.programs.specs.Places.{Begins}
+use Rattle.programs.specs.Found.{subsOf}
+use Rattle.settings.specs.declared.State.{State}
+use Rattle.blocks.specs.Machine.{machineOf}
+use Rattle.blocks.specs.Exec.{Calls, callsIn, callTo, unknownCall, tooDeep, atStart, Verdict, accepted, unless, exec}
+use Rattle.blocks.specs.Calling.{freely, called}
+use Rattle.blocks.proofs.Calling.{exec-called}
+use Rattle.blocks.specs.declared.Control.the-variants.{On}
+use Rattle.runs.specs.Walk.{Job, Going, Outcome, refusedAt, just, spentAt, after, isSpent, isSkipped, slashLength, follow, obey, verdictOn, runBlock, reached, walk}
+use Rattle.interpreter.specs.Progressing.{jobOf, programEnds, verdictAt}
+use Rattle.interpreter.specs.declared.Task.{Task}
+use Rattle.interpreter.proofs.Places.{begins-end}
+
+-- a program ends at the data's end, at an opening and at `%` alone
+pub ends-past : (l : List ℕ) (at : ℕ) → length l ≤ at → programEnds (drop at l) ≡ true
+unfolding programEnds
+ends-past l at h = rw (drop-of-length-le l h)
+
+ends-at :
+    (l : List ℕ) (at : ℕ) → at < length l
+    → programEnds (drop at l) ≡ (beginsWith 79 (textFrom (drop at l)) || isPercent (textFrom (drop at l)))
+unfolding programEnds
+ends-at l at h = rw (at-place l at h)
+
+pub ends-opening : (l : List ℕ) (at : ℕ) → at < length l → beginsWith 79 (textFrom (drop at l)) ≡ true → programEnds (drop at l) ≡ true
+ends-opening l at h e = ends-at l at h ∙ rw e
+
+pub ends-percent :
+    (l : List ℕ) (at : ℕ) → at < length l → beginsWith 79 (textFrom (drop at l)) ≡ false
+    → programEnds (drop at l) ≡ isPercent (textFrom (drop at l))
+ends-percent l at h e = ends-at l at h ∙ rw e
+
+pub goes-inside : (l : List ℕ) (at : ℕ) → programEnds (drop at l) ≡ false → at < length l
+goes-inside l at e =
+    elim (decLt at (length l)) [
+      | yes h ↦ h
+      | no h ↦
+          let z : true ≡ false = sym (ends-past l at (omega arith)) ∙ e in
+          let y : _≡_ {A = ℕ} 0 1 = cc in
+          omega arith
+    ]
+
+module _ (job : Job) (left : ℕ) (callee : ℕ → Going → Outcome) (g : Going) where
+  spent-none : isSpent (g .budget) ≡ true → walk job left callee [] g ≡ spentAt (g .state) (job .finish)
+  unfolding walk reached
+  spent-none e = rw e
+
+  spent-block : (b : Block) (bs : List Block) → isSpent (g .budget) ≡ true → walk job left callee (b ∷ bs) g ≡ spentAt (g .state) (record { block = b .number; byte = b .start })
+  unfolding walk reached
+  spent-block b bs e = rw e
+
+  walk-none : isSpent (g .budget) ≡ false → walk job left callee [] g ≡ just (refusedAt NoEnd (job .finish)) (g .state)
+  unfolding walk reached
+  walk-none e = rw e
+
+  module _ (b : Block) (bs : List Block) (e : isSpent (g .budget) ≡ false) where
+    walk-closed : (opens b || closes b) ≡ true → walk job left callee (b ∷ bs) g ≡ just (refusedAt NoEnd (record { block = b .number; byte = b .start })) (g .state)
+    unfolding walk reached
+    walk-closed f = rw (e, f)
+
+    walk-open : (opens b || closes b) ≡ false → walk job left callee (b ∷ bs) g ≡ runBlock (isSkipped job b) job left callee b (walk job left callee bs) g
+    unfolding walk reached
+    walk-open f = rw (e, f)
+
+-- the verdict on a block of a task, but for its call
+abbrev pub freeVerdict : Task → ℕ → Block → ℕ → State → Verdict
+freeVerdict task left b room s = verdictAt (record { bed = task .bed; left = left }) (task .skips) b room s
+
+module _ (l : List ℕ) (task : Task) (left : ℕ) (callee : ℕ → Going → Outcome) (g : Going) (b : Block) (rest : Going → Outcome) where
+  abbrev calls : Calls
+  calls = callsIn (subsOf (task .programs)) left
+
+  abbrev free : Verdict
+  free =
+      exec (machineOf (task .bed)) (freely left) (g .room) (g .state) (b .start) (b .start + slashLength b)
+      (drop (slashLength b) (b .text))
+
+  -- a skipped block is one that is accepted and does nothing, and an executed one is asked for its call last
+  skipped-as :
+      (t : Bool)
+      → runBlock t (jobOf l task) left callee b rest g
+      ≡ obey (called calls (b .start) (if t then accepted (g .state) On [] else free)) b callee rest g
+  unfolding runBlock obey after follow called unless firstOf atStart callTo unknownCall tooDeep verdictOn jobOf callsIn
+  skipped-as true = refl
+  skipped-as false =
+      ap (λ (v : Verdict). obey v b callee rest g)
+      (exec-called (machineOf (task .bed)) calls (g .room) (g .state) (b .start) (b .start + slashLength b) (drop (slashLength b) (b .text)))
+
+  pub run-as :
+      runBlock (isSkipped (jobOf l task) b) (jobOf l task) left callee b rest g
+      ≡ obey (called calls (b .start) (freeVerdict task left b (g .room) (g .state))) b callee rest g
+  unfolding verdictAt isSkipped jobOf
+  run-as = skipped-as (isSlashed b && task .skips)
+
+module _ (l : List ℕ) (task : Task) (left : ℕ) (callee : ℕ → Going → Outcome) (g : Going) (n at : ℕ) where
+  pub walk-spent :
+      Begins l n at → isSpent (g .budget) ≡ true
+      → walk (jobOf l task) left callee (blocksFrom l n at) g ≡ spentAt (g .state) (record { block = n; byte = at })
+  unfolding jobOf
+  walk-spent b e =
+      elim (decLt at (length l)) [
+        | yes h ↦
+            rw (blocks-step l n at h)
+            (spent-block (jobOf l task) left callee g (blockFrom n at (drop at l)) (blocksFrom l (n + 1) (at + lengthFrom (drop at l))) e)
+        | no h ↦
+            let past : length l ≤ at = omega arith in
+            rw (blocks-end l n at past)
+            (spent-none (jobOf l task) left callee g e ∙ ap (λ (place : Place). spentAt (g .state) place) (begins-end b past))
+      ]
+
+  pub walk-ends :
+      Begins l n at → isSpent (g .budget) ≡ false → programEnds (drop at l) ≡ true
+      → walk (jobOf l task) left callee (blocksFrom l n at) g ≡ just (refusedAt NoEnd (record { block = n; byte = at })) (g .state)
+  unfolding jobOf
+  walk-ends b e f =
+      elim (decLt at (length l)) [
+        | yes h ↦
+            rw (blocks-step l n at h)
+            (walk-closed (jobOf l task) left callee g (blockFrom n at (drop at l)) (blocksFrom l (n + 1) (at + lengthFrom (drop at l))) e (sym (ends-at l at h) ∙ f))
+        | no h ↦
+            let past : length l ≤ at = omega arith in
+            rw (blocks-end l n at past)
+            (walk-none (jobOf l task) left callee g e ∙ ap (λ (place : Place). just (refusedAt NoEnd place) (g .state)) (begins-end b past))
+      ]
+
+  pub walk-goes :
+      isSpent (g .budget) ≡ false → programEnds (drop at l) ≡ false
+      → walk (jobOf l task) left callee (blocksFrom l n at) g
+      ≡ obey (called (callsIn (subsOf (task .programs)) left) at (freeVerdict task left (blockFrom n at (drop at l)) (g .room) (g .state)))
+      (blockFrom n at (drop at l)) callee
+      (walk (jobOf l task) left callee (blocksFrom l (n + 1) (at + lengthFrom (drop at l)))) g
+  walk-goes e f =
+      let h = goes-inside l at f in
+      let b = blockFrom n at (drop at l) in
+      let bs = blocksFrom l (n + 1) (at + lengthFrom (drop at l)) in
+      rw (blocks-step l n at h)
+      (walk-open (jobOf l task) left callee g b bs e (sym (ends-at l at h) ∙ f)
+      ∙ run-as l task left callee g b (walk (jobOf l task) left callee bs))

@@ -1,0 +1,17 @@
+-- `interpreter::reporting::first_state` meets its contract. Assumes nothing.
+use mathlib.Core.Path.{_∙_}
+use borrow.Author.Needs.{needs}
+use Rattle.runs.specs.Run.{firstOf}
+use Rattle.interpreter.proofs.reporting.first_state.Statement.{statement}
+use Rattle.interpreter.proofs.reporting.first_state.Tie as tie
+
+returns : tie.Need-returns
+unfolding firstOf
+returns c =
+    c .first-state .ensures
+    ∙ rw (c .before .before .before .start-of .ensures, c .before .before .feed-of .ensures, c .before .speed-of .ensures)
+
+pub first-state-spec : {M : Type 1} → statement M
+first-state-spec =
+    tie.close
+    (tie.spec (λ c κs. search needs) (λ c κs. search needs) (λ c κs. search needs) (λ c κs. search needs) returns)

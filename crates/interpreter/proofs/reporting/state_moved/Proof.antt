@@ -1,0 +1,12 @@
+-- `interpreter::reporting::state_moved` meets its contract. Assumes nothing.
+use borrow.Author.Needs.{needs}
+use Rattle.settings.specs.Settings.{stateMoved}
+use Rattle.interpreter.proofs.reporting.state_moved.Statement.{statement}
+use Rattle.interpreter.proofs.reporting.state_moved.Tie as tie
+
+returns : tie.Need-returns
+unfolding stateMoved
+returns c = rw (c .before .before .before .moved .ensures .is)
+
+pub state-moved-spec : {M : Type 1} → statement M
+state-moved-spec = tie.close (tie.spec (λ c κs. search needs) returns)

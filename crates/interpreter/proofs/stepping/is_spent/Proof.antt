@@ -1,0 +1,13 @@
+-- `interpreter::stepping::is_spent` meets its contract, budget by budget. Assumes nothing.
+use mathlib.Core.Path.{sym, ap}
+use borrow.Author.Needs.{needs}
+use Rattle.runs.specs.Walk.{isSpent}
+use Rattle.interpreter.proofs.stepping.is_spent.Statement.{statement}
+use Rattle.interpreter.proofs.stepping.is_spent.Tie as tie
+
+pub is-spent-spec : {M : Type 1} → statement M
+unfolding isSpent
+is-spent-spec =
+    tie.close
+    (tie.spec (λ c. search needs) (λ c. search needs) (λ c. sym (ap isSpent (c .enum-told .given .1)))
+    (λ c. sym (ap isSpent (c .before .budget .given .1))))

@@ -1,0 +1,12 @@
+-- `interpreter::stepping::progress_after` meets its contract. Assumes nothing.
+use borrow.Author.Needs.{needs}
+use Rattle.interpreter.specs.Progressing.{progressBy}
+use Rattle.interpreter.proofs.stepping.progress_after.Statement.{statement}
+use Rattle.interpreter.proofs.stepping.progress_after.Tie as tie
+
+returns : tie.Need-returns
+unfolding progressBy
+returns c = rw (c .one-less .ensures)
+
+pub progress-after-spec : {M : Type 1} → statement M
+progress-after-spec = tie.close (tie.spec (λ c. search needs) (λ c κs. search needs) returns)

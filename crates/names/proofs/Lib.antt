@@ -1,2 +1,0 @@
-pub mod Fates
-pub mod Spelling

@@ -1,0 +1,133 @@
+// The programs of a data set, found by one scan over its blocks, and a program by its number.
+use crate::Entry;
+use crate::Found;
+use crate::Opening;
+use crate::Program;
+use crate::Programs;
+use crate::Scanned;
+use crate::Verdict;
+use refusals::Place;
+use refusals::Refusal;
+ghost use mathlib.Core.Path.{_≡_};
+ghost use Prim.Native.Nat.{_+_, _≤_, _<_};
+ghost use lib.ListN.{length};
+ghost use Rattle.lines.specs.Blocks.{lengthFrom, blockFrom};
+ghost use Rattle.lines.specs.Serving.{blocksFrom};
+ghost use Rattle.programs.specs.Openings.{scan, programsFrom, known};
+ghost use Rattle.programs.specs.Found.{subsOf, WellFound, Entered};
+ghost use Rattle.programs.specs.Answers.{Gives, foundAs};
+
+// The table with one subprogram more: its number, and the block and byte that follow its opening.
+fn with_program(t: Programs, number: u64, block: usize, byte: usize) -> Programs
+    requires { ⌜ (WellFound t) × (t .count < 10) ⌝ }
+    ensures { λ r. ⌜ Entered t (record { number = number; block = block; byte = byte }) r ⌝ }
+{
+    let at = t.count;
+    let mut next = t;
+    next.subs[at] = Program {
+        number,
+        block,
+        byte,
+    };
+    next.count = at + 1;
+    next
+}
+
+// The openings from a block on, whose number and place are given. Each byte of a block without an opening is passed once;
+// the scan is left from inside a block, at an opening that is refused or at the closing `%`.
+fn scan_openings(s: &[u8], from: usize, number: usize, found: Programs) -> Scanned
+    requires { ⌜ (from ≤ length (now s)) × (number ≤ from + 1) ⌝ }
+    requires { ⌜ WellFound found ⌝ }
+    ensures { λ r. ⌜ Gives (scan (found .main) (blocksFrom (now (s .entry)) number from) (subsOf found)) r ⌝ }
+{
+    let mut programs = found;
+    let mut at = from;
+    let mut block = number;
+    let mut verdict = Verdict::Fine;
+    'blocks: while at < s.len() {
+        let mut first = true;
+        while at < s.len() {
+            let b = s[at];
+            if first {
+                if lines::is_percent(s, at) {
+                    break 'blocks;
+                }
+                if b == b'O' {
+                    match crate::entry_of(programs, crate::read_opening(s, at + 1)) {
+                        Entry::Refuses(refusal) => {
+                            verdict = Verdict::Refused(refusal, Place { block, byte: at });
+                            break 'blocks;
+                        }
+                        Entry::Enters(n) => {
+                            block += 1;
+                            at = lines::next_block(s, at);
+                            programs = with_program(programs, n, block, at);
+                            continue 'blocks;
+                        }
+                    }
+                }
+            }
+            first = false;
+            at += 1;
+            if b == b'\n' {
+                block += 1;
+                continue 'blocks;
+            }
+        }
+    }
+    Scanned { verdict, programs }
+}
+
+// The programs of data whose first block is `%` alone: the main program, under an opening in the second block or without
+// one, and the subprograms.
+pub fn find_programs(s: &[u8]) -> Scanned
+    requires { ⌜ 0 < length (now s) ⌝ }
+    ensures { λ r. ⌜ Gives (programsFrom (blockFrom 1 0 (now (s .entry))) (blocksFrom (now (s .entry)) 2 (0 + lengthFrom (now (s .entry))))) r ⌝ }
+{
+    let at = lines::next_block(s, 0);
+    if !lines::begins_with(s, at, b'O') {
+        let main = Program {
+            number: 0,
+            block: 2,
+            byte: at,
+        };
+        return scan_openings(s, at, 2, crate::only_main(main));
+    }
+    match crate::read_opening(s, at + 1) {
+        Opening::Bad => Scanned {
+            verdict: Verdict::Refused(Refusal::BadParameter, Place { block: 2, byte: at }),
+            programs: crate::only_main(Program {
+                number: 0,
+                block: 2,
+                byte: at,
+            }),
+        },
+        Opening::Number(number) => {
+            let next = lines::next_block(s, at);
+            let main = Program {
+                number,
+                block: 3,
+                byte: next,
+            };
+            scan_openings(s, next, 3, crate::only_main(main))
+        }
+    }
+}
+
+// The subprogram of a number. The main program is none.
+pub fn find(t: Programs, n: u64) -> Found
+    requires { ⌜ WellFound t ⌝ }
+    ensures { λ r. ⌜ r ≡ foundAs (known (subsOf t) n) ⌝ }
+{
+    let subs = t.subs;
+    let count = t.count;
+    let mut i: usize = 0;
+    while i < count {
+        let p = subs[i];
+        if p.number == n {
+            return Found::At(p);
+        }
+        i += 1;
+    }
+    Found::Missing
+}
