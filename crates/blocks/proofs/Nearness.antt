@@ -17,6 +17,7 @@ use Rattle.codes.specs.declared.Motion.the-variants.{Drilling}
 use Rattle.codes.specs.declared.Plane.{Plane}
 use Rattle.codes.specs.declared.Plane.the-variants.{G17, G18, G19}
 use Rattle.words.specs.declared.Given.{Given}
+use Rattle.words.specs.declared.Values.{Values}
 use Rattle.points.specs.declared.Point.{Point}
 use Rattle.points.specs.declared.Flat.{Flat}
 use Rattle.points.specs.Points.{moved, flat, inside}
@@ -37,10 +38,8 @@ use Rattle.centres.specs.Bounds.{Chord}
 use Rattle.centres.proofs.Reaching.{centre-reach}
 use Rattle.cycles.specs.declared.Hole.{Hole}
 use Rattle.cycles.specs.Cycles.{holeOf, passes}
-use Rattle.cycles.specs.Ways.{staysIn}
-use Rattle.cycles.specs.Bounds.{Holes, Passing}
-use Rattle.cycles.specs.Writing.{Framed, Puts}
-use Rattle.cycles.proofs.Paths.{inside-near}
+use Rattle.cycles.specs.Bounds.{Passing}
+use Rattle.arcs.proofs.Paths.{inside-near}
 use Rattle.letters.specs.declared.BlockCode.the-variants.{Moving}
 use Rattle.blocks.specs.declared.Said.{Said}
 use Rattle.blocks.specs.Motions.{centreWords, centreFor, arcTo, radiusFits}
@@ -69,9 +68,6 @@ module _ (bed : Bed) (fair : Fair bed) where
 
   pub high-near : Near 1_100_000_000 (bed .travel .high)
   high-near = before-near (bed .offset) (bed .travel .high) (fair .offset) (fair .high)
-
-  pub framed : Framed (bed .offset) (bed .travel)
-  framed = record { offset = fair .offset; lowest = omega (arith, fair .low); highest = omega (arith, fair .high) }
 
   module _ (p : Point) (e : inside (bed .travel) p ≡ true) where
     pub near-inside : Near 1_100_000_000 p
@@ -141,6 +137,37 @@ module _ (by p : Point) where
     centre-second G18 h = omega (arith, sum-bal (p .x .v) (by .x .v), sum-bal (c .second .v) (by .x .v))
     centre-second G19 h = omega (arith, sum-bal (p .z .v) (by .z .v), sum-bal (c .second .v) (by .z .v))
 
+-- the centre of an arc is near its start, by its words and by the radius
+module _ (left : Bool) (s : State) (v : Values) (end : Point) where
+  abbrev here : Flat
+  here = flat (s .modes .plane) (s .at)
+
+  abbrev there : Flat
+  there = flat (s .modes .plane) end
+
+  abbrev radius : ℤ
+  radius = v .r .v .v
+
+  pub centre-beside :
+      Near 1_100_000_000 (s .at) → Near 2_100_000_000 end → Within 1_000_000_000 radius → Near 1_000_000_000 (centreWords v)
+      → radiusFits s v end ≡ true → Reach 1_000_000_000 (centreFor left s v end) here
+  unfolding centreFor radiusFits
+  centre-beside near far most words fits = go (v .r .stands) fits
+    where
+      chord : Chord radius here there
+      chord =
+          record {
+            radius = most;
+            start = flat-near (s .modes .plane) (s .at) near;
+            end = flat-near (s .modes .plane) end far;
+          }
+
+      go :
+          (t : Bool) → (not t || radiusHolds radius here there) ≡ true
+          → Reach 1_000_000_000 (if t then centreBy left radius here there else flat (s .modes .plane) (moved (centreWords v) (s .at))) here
+      go true f = centre-reach left radius here there (record { chord = chord; holds = f })
+      go false f = moved-reach (centreWords v) (s .at) words (s .modes .plane)
+
 -- both coordinates of a centre fit four signed bytes
 pub both-fit : (a b : ℤ) → Short a → Short b → (fitsFour a && fitsFour b) ≡ true
 both-fit a b h k = ap₂ _&&_ (short-four a h) (short-four b k)
@@ -208,19 +235,6 @@ module _ (bed : Bed) (s : State) (b : Said) where
       unfolding holeOf
       hole-dwell = omega (arith, steady .said .sizes .moving (Drilling cycle) e)
 
-      pub puts :
-          staysIn (bed .travel) (w .at) (passes (hole cycle) (w .modes .distance) origin (w .at) (b .values)) ≡ true
-          → Puts (bed .offset) (hole cycle) (w .modes .distance) origin (w .at) (b .values)
-      puts stays =
-          record {
-            travel = bed .travel;
-            frame = framed bed (steady .fair);
-            passing = passing cycle e;
-            stays = stays;
-            feed = hole-feed;
-            dwell = hole-dwell;
-          }
-
     from-machine : Near 100_000_000 (moved (bed .offset) (w .at))
     from-machine = near-machine bed (steady .fair) (w .at) from-inside
 
@@ -234,30 +248,8 @@ module _ (bed : Bed) (s : State) (b : Said) where
       abbrev start : Flat
       start = flat (w .modes .plane) (w .at)
 
-      -- the centre is near the start, by its words and by the radius
       pub centre-close : Reach 1_000_000_000 (centreFor left w (b .values) end) start
-      unfolding centreFor radiusFits
-      centre-close = go (b .values .r .stands) fits
-        where
-          r : ℤ
-          r = b .values .r .v .v
-
-          to : Flat
-          to = flat (w .modes .plane) end
-
-          chord : Chord r start to
-          chord =
-              record {
-                radius = steady .said .sizes .r;
-                start = flat-near (w .modes .plane) (w .at) (aims .from);
-                end = flat-near (w .modes .plane) end end-near;
-              }
-
-          go :
-              (t : Bool) → (not t || radiusHolds r start to) ≡ true
-              → Reach 1_000_000_000 (if t then centreBy left r start to else flat (w .modes .plane) (moved (centreWords (b .values)) (w .at))) start
-          go true f = centre-reach left r start to (record { chord = chord; holds = f })
-          go false f = moved-reach (centreWords (b .values)) (w .at) words-near (w .modes .plane)
+      centre-close = centre-beside left w (b .values) end (aims .from) end-near (steady .said .sizes .r) words-near fits
 
       pub bounds : Bounds (bed .travel) (w .at) (arcTo left w (b .values) end)
       unfolding arcTo

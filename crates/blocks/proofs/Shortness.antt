@@ -9,22 +9,22 @@ use Rattle.terms.proofs.Laws.{both-left, both-right}
 use Rattle.lengths.specs.declared.Len.{Len}
 use Rattle.lengths.specs.View.{Short}
 use Rattle.points.specs.declared.Point.{Point}
-use Rattle.points.specs.declared.Flat.{Flat}
-use Rattle.points.specs.declared.Travel.{Travel}
 use Rattle.points.specs.Points.{moved, flat, inside}
 use Rattle.points.specs.Near.{Near}
 use Rattle.records.specs.declared.Arc.{Arc}
 use Rattle.records.specs.declared.Record.{Record}
 use Rattle.records.specs.declared.Record.the-variants.{RP, LN, AR, AL, DW, SP, SO, PA, EN}
 use Rattle.records.specs.Layout.{pointNumbers, arcNumbers, numbersOf}
-use Rattle.records.specs.Path.{Path, straight, clockwise, counter, still, pathOf, pathEnd, endOf, pathStaysIn, arcMoved, recordMoved}
+use Rattle.records.specs.Path.{pathOf, pathEnd, endOf, pathStaysIn, arcMoved, recordMoved}
 use Rattle.records.specs.Writing.{AllShort, ListShort}
 use Rattle.setup.specs.declared.Bed.{Bed}
 use Rattle.setup.specs.Frame.{originAt}
 use Rattle.setup.specs.Fair.{Fair}
 use Rattle.settings.specs.declared.State.{State}
 use Rattle.settings.specs.Target.{target}
-use Rattle.arcs.specs.Arcs.{centreOf, radius², extremesInside, leftWay, rightWay, arcStays, pathStays, centreFits}
+use Rattle.arcs.specs.Arcs.{leftWay, rightWay, pathStays, centreFits}
+use Rattle.arcs.proofs.Paths as Paths
+use Rattle.arcs.proofs.Paths.{arc-ends}
 use Rattle.blocks.specs.Machine.{machineOf}
 use Rattle.blocks.specs.declared.Said.{Said}
 use Rattle.blocks.specs.Motions.{arcTo, radiusFits}
@@ -82,33 +82,13 @@ module _ (bed : Bed) where
   all-fit [] h = refl
   all-fit (r ∷ rs) h = ap₂ _&&_ (one-fits r (h .0)) (all-fit rs (h .1))
 
--- ---- a path that stays ends inside
-
-module _ (t : Travel) (from : Point) where
-  arc-ends : (way : Point → Arc → Flat → Bool) (a : Arc) → arcStays way t from a ≡ true → inside t (a .end) ≡ true
-  unfolding arcStays
-  arc-ends way a e =
-      both-left (inside t (a .end))
-      (extremesInside (way from a) (centreOf a) (radius² from a) (flat (a .plane) (t .low)) (flat (a .plane) (t .high))) e
-
-  path-ends : (path : Path) → inside t from ≡ true → pathStays t from path ≡ true → inside t (pathEnd from path) ≡ true
-  unfolding pathStays pathEnd
-  path-ends (straight p) h e = e
-  path-ends (clockwise a) h e = arc-ends rightWay a e
-  path-ends (counter a) h e = arc-ends leftWay a e
-  path-ends still h e = h
-
 module _ (bed : Bed) where
+  -- a path that stays ends inside
   pub stays-inside :
       (from : Point) (rs : List Record) → inside (bed .travel) from ≡ true → pathStaysIn (machineOf bed .stays) from rs ≡ true
       → inside (bed .travel) (endOf from rs) ≡ true
-  unfolding pathStaysIn endOf machineOf
-  stays-inside from [] h e = h
-  stays-inside from (r ∷ rs) h e =
-      let next = pathEnd from (pathOf r) in
-      let now = pathStays (bed .travel) from (pathOf r) in
-      let rest = pathStaysIn (machineOf bed .stays) next rs in
-      stays-inside next rs (path-ends (bed .travel) from (pathOf r) h (both-left now rest e)) (both-right now rest e)
+  unfolding machineOf
+  stays-inside = Paths.stays-inside (bed .travel)
 
   -- ---- and its numbers are short
 

@@ -7,7 +7,7 @@ use lib.Seq.{sets}
 use Rattle.points.specs.declared.Point.{Point}
 use Rattle.records.specs.declared.Record.{Record}
 use Rattle.records.specs.Layout.{roomOf}
-use Rattle.cycles.specs.Writing.{movedBytes}
+use Rattle.records.specs.Writing.{movedBytes}
 use Rattle.blocks.specs.Exec.{Verdict, refused, accepted}
 use Rattle.blocks.specs.declared.Executed.{Executed}
 use Rattle.blocks.specs.declared.Executed.the-variants.{Refused, Accepted}

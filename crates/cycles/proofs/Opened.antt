@@ -9,7 +9,6 @@ use Rattle.records.proofs.Opened.{opened as records-opened}
 use Rattle.settings.proofs.Opened.{opened as settings-opened}
 use Rattle.arcs.proofs.Opened.{opened as arcs-opened}
 use Rattle.cycles.specs.Cycles.{levelR, levelZ, holeOf, levelsHold, levelFor, returnLevel, dwelling, upUnder, leaving, passTo, passesAt, passCount, passes}
-use Rattle.cycles.specs.Ways.{wayOf, passesWay}
 
 unfoldable pub opened : Unit {0}
 unfolding
@@ -35,6 +34,4 @@ unfolding
     passesAt
     passCount
     passes
-    wayOf
-    passesWay
 opened = tt

@@ -1,18 +1,21 @@
 -- The bounds that a run keeps where a cycle is done, and what the functions under them answer.
-use Prim.Native.Nat.{ℕ, _≤_}
+use Prim.Native.Nat.{ℕ, _+_, _≤_}
 use mathlib.Core.Path.{_≡_}
-use lib.ListN.{length}
+use mathlib.Core.List.{List, _∷_}
+use lib.ListN.{length, drop}
 use Rattle.lengths.specs.declared.Len.{Len}
+use Rattle.codes.specs.declared.Cycle.{Cycle}
+use Rattle.codes.specs.declared.Return.{Return}
 use Rattle.lengths.specs.View.{Within}
 use Rattle.words.specs.declared.Given.{Given}
 use Rattle.words.specs.declared.Values.{Values}
 use Rattle.points.specs.declared.Point.{Point}
 use Rattle.points.specs.declared.Travel.{Travel}
 use Rattle.points.specs.Near.{Near}
-use Rattle.records.specs.Layout.{roomOf}
+use Rattle.records.specs.declared.Record.{Record}
 use Rattle.settings.specs.Bounds.{Aims}
 use Rattle.cycles.specs.declared.Hole.{Hole}
-use Rattle.cycles.specs.Cycles.{passTo, passCount}
+use Rattle.cycles.specs.Cycles.{leaving, passTo, passCount}
 
 -- what the levels of a hole lead from
 pub record Holes (origin from : Point) (v : Values) : Type 0 where
@@ -31,12 +34,15 @@ pub record Counts (k : Given) (n : ℕ) : Type 0 where
   pub is : n ≡ passCount k
   pub few : n ≤ 9_999
 
--- the room of one pass, at any level and wherever it is
-pub record PassRoom (h : Hole) (n : ℕ) : Type 0 where
-  pub is : (level : Len) (p : Point) → n ≡ roomOf (passTo h level p)
-  pub most : n ≤ 84
+-- the records of the way back up, and those of one pass, at any level and wherever it is
+pub record UpLength (cycle : Cycle) (back : Return) (n : ℕ) : Type 0 where
+  pub is : (h : Hole) (p : Point) → h .back ≡ back → n ≡ length (leaving cycle h p)
+  pub most : n ≤ 2
 
--- the records of one pass, at any level and wherever it is
 pub record PassLength (h : Hole) (n : ℕ) : Type 0 where
   pub is : (level : Len) (p : Point) → n ≡ length (passTo h level p)
   pub most : n ≤ 6
+
+-- the record at a place of a list, by what the list is from there on
+abbrev pub Stands : List Record → ℕ → Record → Type 0
+Stands rs i r = drop i rs ≡ r ∷ drop (i + 1) rs

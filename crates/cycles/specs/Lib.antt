@@ -1,4 +1,2 @@
 pub mod Cycles
-pub mod Ways
 pub mod Bounds
-pub mod Writing

@@ -5,16 +5,18 @@ use codes::Distance;
 use codes::Return;
 use lengths::Len;
 use points::Point;
-use points::Travel;
+use records::Record;
 use settings::State;
 use words::Given;
 use words::Values;
 ghost use mathlib.Core.Path.{_≡_};
 ghost use Rattle.lengths.specs.View.{Within};
+ghost use Prim.Native.Nat.{_<_};
+ghost use mathlib.Core.List.{_++_};
+ghost use lib.ListN.{length};
 ghost use Rattle.records.specs.Path.{endOf};
-ghost use Rattle.cycles.specs.Cycles.{holeOf, levelsHold, returnLevel, passTo, passes};
-ghost use Rattle.cycles.specs.Ways.{staysIn, passesWay};
-ghost use Rattle.cycles.specs.Bounds.{Holes, Counts, Passing};
+ghost use Rattle.cycles.specs.Cycles.{holeOf, levelsHold, returnLevel, dwelling, leaving, passTo};
+ghost use Rattle.cycles.specs.Bounds.{Holes, Counts, UpLength, PassLength, Stands};
 
 // What a cycle does at each pass. The levels are heights in the frame of the common offset; z and dwell are missing
 // where no Z and no P stands.
@@ -26,12 +28,6 @@ pub struct Hole {
     pub z: Given,
     pub dwell: Given,
     pub feed: Len,
-}
-
-// Where the passes lead: to a point, or out of the travel.
-pub enum Way {
-    Ends(Point),
-    Leaves,
 }
 
 // The hole of a block. R leads from the initial level, and Z from R.
@@ -89,20 +85,91 @@ pub fn pass_count(k: Given) -> u64
     if k.stands { k.v.apart(Len::zero()) } else { 1 }
 }
 
-// Whether a pass at X, Y of a point stays in the travel. Each of its records leads straight to a height over the point, and
-// a box holds a straight line whose ends it holds. G85 and G89 reach R twice.
-fn pass_stays(t: Travel, h: Hole, level: Len, p: Point) -> bool
-    ensures { λ b. ⌜ ((from : Point) → b ≡ staysIn t from (passTo h level p)) ⌝ }
+// How many records lead back up: under G98, G85 and G89 have a second one.
+fn up_count(cycle: Cycle, back: Return) -> usize
+    ensures { λ n. ⌜ UpLength cycle back n ⌝ }
+{
+    match cycle {
+        Cycle::G81 => 1,
+        Cycle::G82 => 1,
+        _ => match back {
+            Return::ToInitial => 2,
+            Return::ToR => 1,
+        },
+    }
+}
+
+// How many records a pass has, wherever it is.
+pub fn row_count(h: Hole) -> usize
+    ensures { λ n. ⌜ PassLength h n ⌝ }
 {
     let z = h.z;
-    if z.stands {
-        points::is_inside(t, points::at_height(p, level))
-            & points::is_inside(t, points::at_height(p, h.r))
-            & points::is_inside(t, points::at_height(p, z.v))
-            & points::is_inside(t, points::at_height(p, return_level(h)))
-    } else {
-        points::is_inside(t, points::at_height(p, h.initial))
+    let dwell = h.dwell;
+    let cycle = h.cycle;
+    let back = h.back;
+    if !z.stands {
+        return 1;
     }
+    if dwell.stands {
+        return 4 + up_count(cycle, back);
+    }
+    3 + up_count(cycle, back)
+}
+
+// The records of the way back up: the second one is the rapid that G98 adds to G85 and G89.
+fn row_up(h: Hole, i: usize, p: Point) -> Record
+    requires { ⌜ i < length (leaving (h .cycle) h p) ⌝ }
+    ensures { λ r. ⌜ Stands (leaving (h .cycle) h p) i r ⌝ }
+{
+    let cycle = h.cycle;
+    let feed = h.feed;
+    if i == 1 {
+        return Record::RP(points::at_height(p, h.initial));
+    }
+    match cycle {
+        Cycle::G81 => Record::RP(points::at_height(p, return_level(h))),
+        Cycle::G82 => Record::RP(points::at_height(p, return_level(h))),
+        Cycle::G85 => Record::LN(points::at_height(p, h.r), feed),
+        Cycle::G89 => Record::LN(points::at_height(p, h.r), feed),
+    }
+}
+
+// The records after the cut to Z: the dwell, where a P stands, and the way back up.
+fn row_after_cut(h: Hole, i: usize, p: Point) -> Record
+    requires { ⌜ i < length (dwelling (h .dwell) ++ leaving (h .cycle) h p) ⌝ }
+    ensures { λ r. ⌜ Stands (dwelling (h .dwell) ++ leaving (h .cycle) h p) i r ⌝ }
+{
+    let dwell = h.dwell;
+    let ms = dwell.v;
+    if !dwell.stands {
+        return row_up(h, i, p);
+    }
+    if i == 0 {
+        return Record::DW(ms);
+    }
+    row_up(h, i - 1, p)
+}
+
+// The i-th record of a pass at X, Y of a point, which comes at a level.
+pub fn row_at(h: Hole, i: usize, level: Len, p: Point) -> Record
+    requires { ⌜ i < length (passTo h level p) ⌝ }
+    ensures { λ r. ⌜ Stands (passTo h level p) i r ⌝ }
+{
+    let z = h.z;
+    let feed = h.feed;
+    if !z.stands {
+        return Record::RP(points::at_height(p, h.initial));
+    }
+    if i == 0 {
+        return Record::RP(points::at_height(p, level));
+    }
+    if i == 1 {
+        return Record::RP(points::at_height(p, h.r));
+    }
+    if i == 2 {
+        return Record::LN(points::at_height(p, z.v), feed);
+    }
+    row_after_cut(h, i - 3, p)
 }
 
 // Where a pass leaves the tool.
@@ -115,26 +182,4 @@ pub fn pass_end(h: Hole, p: Point) -> Point
     } else {
         points::at_height(p, h.initial)
     }
-}
-
-// Where all passes lead. G91 adds X and Y at each pass, up to 9,999 times: the first pass that leaves the travel ends the
-// search, so that no point lies further from the travel than one word leads.
-pub fn passes_way(t: Travel, h: Hole, d: Distance, origin: Point, from: Point, v: Values) -> Way
-    requires { ⌜ Passing t origin from v ⌝ }
-    ensures { λ w. ⌜ w ≡ passesWay t h d origin from v ⌝ }
-{
-    let back = return_level(h);
-    let mut left = pass_count(v.k);
-    let mut level = h.initial;
-    let mut at = from;
-    while 0 < left {
-        let p = settings::target_point(d, origin, at, v);
-        if !pass_stays(t, h, level, p) {
-            return Way::Leaves;
-        }
-        at = pass_end(h, p);
-        level = back;
-        left -= 1;
-    }
-    Way::Ends(at)
 }

@@ -1,1 +1,8 @@
+pub mod Opened
+pub mod Verdicts
+pub mod Still
+pub mod Small
+pub mod Judged
 pub mod Listening
+pub mod Ready
+pub mod Written

@@ -23,8 +23,8 @@ use Rattle.blocks.specs.Reach.{Reachable}
 use Rattle.blocks.specs.Calling.{freely}
 use Rattle.blocks.specs.Exec.{inMain, saidBy, exec}
 use Rattle.blocks.proofs.Calling.{free-main}
-use Rattle.steps.specs.Steps.{Says, judgedFrom}
-use Rattle.steps.proofs.Verdicts.{reading-stops, stands}
+use Rattle.execution.specs.Steps.{Says, judgedFrom}
+use Rattle.execution.proofs.Verdicts.{reading-stops, stands}
 use Rattle.execution.specs.declared.Heard.{Heard}
 use Rattle.execution.specs.declared.Heard.the-variants as heard
 use Rattle.execution.specs.Hearing.{Judges, JudgedAs, Hears, HeardAs}

@@ -14,8 +14,8 @@ use Rattle.blocks.specs.Machine.{machineOf}
 use Rattle.blocks.specs.Reach.{Reachable, Steady}
 use Rattle.blocks.specs.Calling.{freely}
 use Rattle.blocks.specs.Exec.{refused, saidBy, exec}
-use Rattle.steps.specs.Steps as Steps
-use Rattle.steps.specs.Steps.{judgedFrom}
+use Rattle.execution.specs.Steps as Steps
+use Rattle.execution.specs.Steps.{judgedFrom}
 use Rattle.execution.specs.declared.Heard.{Heard}
 use Rattle.execution.specs.declared.Heard.the-variants.{Refused, Says}
 

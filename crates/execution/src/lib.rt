@@ -1,23 +1,31 @@
 // One block, from its words to its verdict and its records.
+mod checking;
+mod effects;
 mod hearing;
+mod order;
 
+use blocks::Control;
 use blocks::Executed;
 use blocks::Said;
 use refusals::Refusal;
 use settings::State;
 use setup::Bed;
-ghost use mathlib.Core.List.{List};
+use work::Aim;
+use work::Brief;
+use work::Extent;
+use work::Work;
 ghost use Prim.Native.Nat.{ℕ, _-_, _≤_, _+_};
+ghost use mathlib.Core.List.{List};
 ghost use lib.ListN.{length, drop};
+ghost use Rattle.lines.specs.Blocks.{textFrom, lengthFrom};
 ghost use Rattle.words.specs.declared.Word.{Word};
+ghost use Rattle.setup.specs.Fair.{Fair};
 ghost use Rattle.blocks.specs.Machine.{machineOf};
 ghost use Rattle.blocks.specs.Reach.{Steady, Reachable};
-ghost use Rattle.blocks.specs.Exec.{working, exec};
+ghost use Rattle.blocks.specs.Exec.{exec};
 ghost use Rattle.blocks.specs.Calling.{freely};
 ghost use Rattle.blocks.specs.Doing.{Does};
-ghost use Rattle.steps.specs.Steps.{judgedFrom};
-ghost use Rattle.lines.specs.Blocks.{textFrom, lengthFrom};
-ghost use Rattle.setup.specs.Fair.{Fair};
+ghost use Rattle.execution.specs.Steps.{judgedFrom};
 
 // What a block stands on: the bed, and the levels left for calls.
 pub struct Ground {
@@ -37,9 +45,26 @@ pub enum Heard {
     Says(Said, usize),
 }
 
+// A block whose motion is planned: where the run goes, the settings in which it moves, what its words lead by, and its records: that of
+// the spindle, those of the motion, and that of the M code.
+pub struct Planned {
+    pub control: Control,
+    pub works: State,
+    pub aim: Aim,
+    pub first: Brief,
+    pub work: Work,
+    pub last: Brief,
+}
+
+// What the test of a planned block comes to: a refusal, or what all its records come to.
+pub enum Checked {
+    Refused(Refusal),
+    Comes(Extent),
+}
+
 // What a block says is tested in the order of refusals: 3, 4 for a cycle, and then its path. 5 and 6 are tested where its call is
 // followed: a block that calls is refused by nothing after them.
-fn obey(
+fn check_block(
     list: &mut [u8],
     at: usize,
     bed: Bed,
@@ -53,21 +78,17 @@ fn obey(
     ensures { λ r. ⌜ ((left : ℕ) (ws : List Word) → Does (bed .offset) (judgedFrom 3 (machineOf bed) (freely left) (length (now (list .entry)) - at) s start ws b) (now (list .entry)) at after (now (list .exit)) r) ⌝ }
 {
     let code = b.code;
-    let modes = b.modes;
+    let misc = b.misc;
     let v = b.values;
-    if steps::lacks_parameter(code, v) {
+    if order::lacks_parameter(code, v) {
         return Executed::Refused(Refusal::ParameterUndefined, start);
     }
-    let control = steps::control_of(b);
-    let w = steps::working(s, b);
-    if steps::cannot_drill(b, w.turning) {
+    let works = effects::working(s, b);
+    if order::cannot_drill(b, works.turning) {
         return Executed::Refused(Refusal::CannotExecute, start);
     }
-    let origins = bed.origins;
-    let k = modes.origin;
-    let origin = origins[k];
-    let plan = moves::plan_of(code, b.named, w, origin, v);
-    making::lead(list, at, bed, start, after, s, b, control, w, origin, plan)
+    let planned = checking::plan_block(bed, s, b, works);
+    checking::write_block(list, at, bed, start, after, misc, planned)
 }
 
 // Executes the block at a place of the data. Its records go to the place `at` of the list. A block that is refused leaves the list as it
@@ -92,7 +113,7 @@ pub fn exec(
         Heard::Refused(refusal, byte) => Executed::Refused(refusal, byte),
         Heard::Says(said, end) => {
             let after = lines::next_block(s, end);
-            obey(list, at, bed, spot.start, after, state, said)
+            check_block(list, at, bed, spot.start, after, state, said)
         }
     }
 }

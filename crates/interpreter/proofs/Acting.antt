@@ -12,7 +12,7 @@ use Rattle.setup.specs.declared.Bed.{Bed}
 use Rattle.records.specs.declared.Record.{Record}
 use Rattle.records.specs.Layout.{roomOf, listBytes}
 use Rattle.settings.specs.declared.State.{State}
-use Rattle.cycles.specs.Writing.{movedBytes}
+use Rattle.records.specs.Writing.{movedBytes}
 use Rattle.blocks.specs.declared.Control.{Control}
 use Rattle.blocks.specs.declared.Control.the-variants.{On, Call, Back, Stop}
 use Rattle.blocks.specs.Exec as Exec

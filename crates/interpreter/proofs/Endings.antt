@@ -14,9 +14,9 @@ use Rattle.records.specs.Path.{recordMoved}
 use Rattle.records.specs.Serving.{Wrote}
 use Rattle.records.proofs.Laid.{mark-room, list-length}
 use Rattle.settings.specs.declared.State.{State}
-use Rattle.cycles.specs.Writing.{movedBytes}
-use Rattle.cycles.proofs.Rooms.{room-append}
-use Rattle.cycles.proofs.Written.{moved-room, put-then}
+use Rattle.records.specs.Writing.{movedBytes}
+use Rattle.records.proofs.Moved.{room-append}
+use Rattle.records.proofs.Moved.{moved-room, put-then}
 use Rattle.refusals.specs.declared.Place.{Place}
 use Rattle.blocks.specs.Reach.{Reachable}
 use Rattle.runs.specs.Walk.{Going, How, ended, returned, unfinished, refusedAt, Outcome, nowhere, just, spentAt, after, goingOn, thenRest}

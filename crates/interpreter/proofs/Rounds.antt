@@ -18,7 +18,7 @@ use Rattle.lines.specs.Serving.{blocksFrom}
 use Rattle.lines.proofs.Lines.{length-some}
 use Rattle.setup.specs.Fair.{Fair}
 use Rattle.records.specs.Layout.{roomOf, listBytes}
-use Rattle.cycles.specs.Writing.{movedBytes}
+use Rattle.records.specs.Writing.{movedBytes}
 use Rattle.programs.specs.declared.Program.{Program}
 use Rattle.programs.specs.declared.Programs.{Programs}
 use Rattle.programs.specs.Openings.{known}

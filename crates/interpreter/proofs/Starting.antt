@@ -31,7 +31,7 @@ use Rattle.setup.proofs.Valid.{valid-feed, valid-speed, start-inside}
 use Rattle.records.specs.Layout.{roomOf, listBytes}
 use Rattle.settings.specs.declared.State.{State}
 use Rattle.settings.specs.Settings.{firstState, firstModes, stateMoved}
-use Rattle.cycles.specs.Writing.{movedBytes}
+use Rattle.records.specs.Writing.{movedBytes}
 use Rattle.programs.specs.declared.Programs.{Programs}
 use Rattle.programs.specs.declared.Scanned.{Scanned}
 use Rattle.programs.specs.declared.Verdict.{Verdict}

@@ -17,7 +17,7 @@ use Rattle.setup.specs.Fair.{Fair}
 use Rattle.records.specs.declared.Record.{Record}
 use Rattle.records.specs.Layout.{roomOf}
 use Rattle.settings.specs.declared.State.{State}
-use Rattle.cycles.specs.Writing.{movedBytes}
+use Rattle.records.specs.Writing.{movedBytes}
 use Rattle.programs.specs.declared.Program.{Program}
 use Rattle.programs.specs.declared.Programs.{Programs}
 use Rattle.programs.specs.Openings.{known}

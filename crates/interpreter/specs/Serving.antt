@@ -8,7 +8,7 @@ use Rattle.lines.specs.Blocks.{blockFrom, lengthFrom}
 use Rattle.lines.specs.Serving.{blocksFrom}
 use Rattle.points.specs.declared.Point.{Point}
 use Rattle.records.specs.Layout.{roomOf}
-use Rattle.cycles.specs.Writing.{movedBytes}
+use Rattle.records.specs.Writing.{movedBytes}
 use Rattle.programs.specs.declared.Programs.{Programs}
 use Rattle.programs.specs.Openings.{table, programsFrom}
 use Rattle.programs.specs.Found.{subsOf, WellFound}

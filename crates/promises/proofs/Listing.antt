@@ -22,7 +22,7 @@ use Rattle.records.specs.Path.{endOf, pathStaysIn, recordMoved}
 use Rattle.records.specs.Writing.{ListShort}
 use Rattle.settings.specs.declared.State.{State}
 use Rattle.settings.specs.Settings.{firstModes, firstState}
-use Rattle.cycles.proofs.Rooms.{room-append}
+use Rattle.records.proofs.Moved.{room-append}
 use Rattle.blocks.specs.Machine.{machineOf}
 use Rattle.blocks.specs.Exec.{callsIn}
 use Rattle.blocks.specs.Reach.{Reachable}

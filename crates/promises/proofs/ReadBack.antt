@@ -20,7 +20,7 @@ use Rattle.records.specs.Reading.{after, readAll}
 use Rattle.records.specs.Writing.{ListShort}
 use Rattle.records.proofs.Laid.{list-length}
 use Rattle.records.proofs.Back.{round-trip, whole-list}
-use Rattle.cycles.proofs.Written.{moved-room}
+use Rattle.records.proofs.Moved.{moved-room}
 use Rattle.runs.specs.Walk.{How, ended, returned, unfinished, nowhere, just}
 use Rattle.runs.specs.Walk as Walk
 use Rattle.runs.specs.Run.{firstOf, outcome, recordsOf, answerBy, answerOf}

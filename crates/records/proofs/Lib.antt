@@ -2,6 +2,7 @@ pub mod Opened
 pub mod Still
 pub mod Laid
 pub mod Written
+pub mod Moved
 pub mod Found
 pub mod Back
 pub mod Again

@@ -1,6 +1,6 @@
 pub mod Layout
-pub mod Writing
 pub mod Reading
 pub mod Path
+pub mod Writing
 pub mod Displacing
 pub mod Serving

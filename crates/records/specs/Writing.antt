@@ -1,9 +1,14 @@
 -- What writing asks and leaves.
-use mathlib.Core.List.{List, [], _∷_}
+use Prim.Native.Nat.{ℕ, _+_, _≤_}
+use mathlib.Core.List.{List, [], _∷_, map}
+use lib.ListN.{length}
 use Rattle.lengths.specs.View.{Short}
 use Rattle.lengths.specs.declared.Len.{Len}
+use Rattle.points.specs.declared.Point.{Point}
+use Rattle.points.specs.Near.{Near}
 use Rattle.records.specs.declared.Record.{Record}
-use Rattle.records.specs.Layout.{numbersOf}
+use Rattle.records.specs.Layout.{numbersOf, listBytes, roomOf}
+use Rattle.records.specs.Path.{recordMoved}
 
 -- "numbers are four bytes, little end first, signed": each of these is one that four bytes hold
 abbrev pub AllShort : List Len → Type 0
@@ -13,3 +18,13 @@ AllShort (n ∷ ns) = Short (n .v) × AllShort ns
 abbrev pub ListShort : List Record → Type 0
 ListShort [] = Unit {0}
 ListShort (r ∷ rs) = AllShort (numbersOf r) × ListShort rs
+
+-- the bytes of records in machine units: "points and centres are machine units"
+abbrev pub movedBytes : Point → List Record → List ℕ
+movedBytes by rs = listBytes (map (recordMoved by) rs)
+
+-- records that can be written at a place: there is room, and each number fits four bytes in machine units
+pub record RoomFor (list : List ℕ) (at : ℕ) (by : Point) (rs : List Record) : Type 0 where
+  pub room : at + roomOf rs ≤ length list
+  pub offset : Near 1_000_000_000 by
+  pub short : ListShort (map (recordMoved by) rs)

@@ -1,9 +1,9 @@
--- `execution::exec` meets its contract: what is heard of the block is refused, or obeyed. Assumes nothing.
+-- `execution::exec` meets its contract: what is heard of the block is refused, or check-blocked. Assumes nothing.
 use borrow.Author.Needs.{needs}
 use native.Mathlib.Omega.{arith}
 use mathlib.Core.Path.{sym, _∙_, ap}
 use Rattle.execution.specs.Hearing.{Hears, HeardAs}
-use Rattle.steps.proofs.Verdicts.{does-refused, does-as}
+use Rattle.execution.proofs.Verdicts.{does-refused, does-as}
 use Rattle.execution.proofs.exec.Statement.{statement}
 use Rattle.execution.proofs.exec.Tie as tie
 
@@ -14,8 +14,8 @@ says c = rw (c .before .heard2 .given .1) at (c .before .before .before .hear-bl
 next-block-requires : tie.Need-next-block-requires
 next-block-requires c κs = says c .inside
 
-obey-requires : tie.Need-obey-requires
-obey-requires c κs = (c .before .before .before .before .before .before .before .before .before .pre .1 .0, says (c .before .before) .steady)
+check-block-requires : tie.Need-check-block-requires
+check-block-requires c κs = (c .before .before .before .before .before .before .before .before .before .pre .1 .0, says (c .before .before) .steady)
 
 returns : tie.Need-returns
 returns c =
@@ -27,9 +27,9 @@ returns-2 c =
     let told = c .before .before .before .before .before in
     let a = c .before .before .before .before .before .before .before .before .before .before .before .before .args in
     let h = says told in
-    does-as (h .goes _ (a .spot .start)) (rw (c .before .before .before .before .next-block .ensures ∙ h .block) at (c .before .before .obey .ensures (a .ground .left) (h .ws)))
+    does-as (h .goes _ (a .spot .start)) (rw (c .before .before .before .before .next-block .ensures ∙ h .block) at (c .before .before .check-block .ensures (a .ground .left) (h .ws)))
 
 pub exec-spec : {M : Type 1} → statement M
 exec-spec =
     tie.close
-    (tie.spec (λ c κs. search needs) (λ c. search needs) (λ c. search needs) next-block-requires obey-requires returns (λ c. search needs) returns-2)
+    (tie.spec (λ c κs. search needs) (λ c. search needs) (λ c. search needs) next-block-requires check-block-requires returns (λ c. search needs) returns-2)

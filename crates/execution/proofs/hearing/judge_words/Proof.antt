@@ -7,9 +7,9 @@ use Rattle.words.specs.Packed.{wordsIn}
 use Rattle.blocks.specs.declared.Said.{Said}
 use Rattle.blocks.specs.Machine.{machineOf}
 use Rattle.blocks.specs.Calling.{freely}
-use Rattle.steps.specs.Steps.{judgedFrom}
-use Rattle.steps.proofs.Verdicts.{values-past, unused-stops, bad-stops}
-use Rattle.steps.proofs.Hearing.{judged-is, said-is, steady}
+use Rattle.execution.specs.Steps.{judgedFrom}
+use Rattle.execution.proofs.Verdicts.{values-past, unused-stops, bad-stops}
+use Rattle.execution.proofs.Judged.{judged-is, said-is, steady}
 use Rattle.execution.proofs.hearing.judge_words.Statement.{statement}
 use Rattle.execution.proofs.hearing.judge_words.Tie as tie
 

@@ -1,9 +1,0 @@
--- `moves::is_larger` meets its contract. Assumes nothing.
-use borrow.Author.Needs.{needs}
-use Rattle.moves.proofs.is_larger.Statement.{statement}
-use Rattle.moves.proofs.is_larger.Tie as tie
-
-pub is-larger-spec : {M : Type 1} → statement M
-is-larger-spec =
-    tie.close
-    (tie.spec (λ c κs. search needs) (λ c κs. search needs) (λ c. rw (c .below .ensures, c .before .zero .ensures .is)))
