@@ -1,16 +1,17 @@
 -- How blocks follow each other, byte by byte: what a walk over places needs.
 use Prim.Native.Nat.{ℕ, zero, suc, _+_, _-_, _≤_, _<_}
 use mathlib.Core.Path.{_≡_, refl, sym, _∙_, ap}
-use mathlib.Core.Bool.{true, false, _&&_, _||_}
+use mathlib.Core.Bool.{Bool, true, false, _&&_, _||_}
 use mathlib.Core.List.{List, [], _∷_}
 use native.Mathlib.Omega.{arith}
 use native.Mathlib.Numerals.{add-one}
 use native.Mathlib.Decide.{ℕ-discrete}
-use borrow.Author.Tests.{eq-eqb, ne-eqb}
+use borrow.Author.Tests.{eq-eqb, ne-eqb, eqb-false}
 use lib.Dec.{eqb}
 use lib.ListN.{length, drop, getD, drop-of-length-le}
 use lib.Seq.{drop-cons, drop-drop}
 use Rattle.terms.specs.Terms.{if_then_else_}
+use Rattle.terms.proofs.Laws.{either-left, either-right}
 use Rattle.lines.specs.Blocks.{beginsWith, textFrom, noText, lengthFrom, blockFrom, blocksAfter, isPercent}
 use Rattle.lines.specs.Serving.{blocksFrom}
 
@@ -36,6 +37,15 @@ length-at-lf l at h e = rw (at-place l at) (length-lf (getD l at 0) (drop (at + 
 pub length-at-more :
     (l : List ℕ) (at : ℕ) → at < length l → (getD l at 0 ≡ 10 → ⊥) → lengthFrom (drop at l) ≡ suc (lengthFrom (drop (at + 1) l))
 length-at-more l at h e = rw (at-place l at) (length-more (getD l at 0) (drop (at + 1) l) e)
+
+-- one byte more with no LF among those before it, as a test of several bytes tells it
+pub length-past :
+    (l : List ℕ) (at k : ℕ) (t : Bool) → at + k < length l → (t ≡ false → lengthFrom (drop at l) ≡ k + lengthFrom (drop (at + k) l))
+    → (t || eqb (getD l (at + k) 0) 10) ≡ false → lengthFrom (drop at l) ≡ k + 1 + lengthFrom (drop (at + (k + 1)) l)
+length-past l at k t h f e =
+    let more = length-at-more l (at + k) h (eqb-false (getD l (at + k) 0) 10 (either-right t _ e)) in
+    let same : at + k + 1 ≡ at + (k + 1) = omega arith in
+    omega (arith, f (either-left t _ e), more, ap (λ (n : ℕ). lengthFrom (drop n l)) same)
 
 pub length-at-end : (l : List ℕ) (at : ℕ) → length l ≤ at → lengthFrom (drop at l) ≡ 0
 unfolding lengthFrom

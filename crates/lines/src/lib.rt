@@ -4,6 +4,7 @@ mod gaps;
 pub use gaps::comment_end;
 pub use gaps::only_gaps;
 ghost use mathlib.Core.Path.{_≡_};
+ghost use mathlib.Core.Bool.{false};
 ghost use Prim.Native.Nat.{_+_, _≤_, _<_};
 ghost use lib.ListN.{length, drop};
 ghost use Rattle.lines.specs.Blocks.{noText, textFrom, lengthFrom, beginsWith, isPercent};
@@ -35,12 +36,43 @@ pub fn text_ends(s: &[u8], at: usize) -> bool
     s[next] == b'\n'
 }
 
+// Whether an LF stands among the eight bytes from a place on. All eight are asked about at once, so that the compiler reads them as one
+// number.
+fn ends_soon(s: &[u8], at: usize) -> bool
+    requires { ⌜ at + 8 ≤ length (now s) ⌝ }
+    ensures { λ r. ⌜ (r ≡ false → lengthFrom (drop at (now (s .entry))) ≡ 8 + lengthFrom (drop (at + 8) (now (s .entry)))) ⌝ }
+{
+    (s[at] == b'\n')
+        | (s[at + 1] == b'\n')
+        | (s[at + 2] == b'\n')
+        | (s[at + 3] == b'\n')
+        | (s[at + 4] == b'\n')
+        | (s[at + 5] == b'\n')
+        | (s[at + 6] == b'\n')
+        | (s[at + 7] == b'\n')
+}
+
+// A place of the same block that is at most eight bytes from its end, or the same place.
+fn near_end(s: &[u8], at: usize) -> usize
+    requires { ⌜ at ≤ length (now s) ⌝ }
+    ensures { λ r. ⌜ (r ≤ length (now (s .entry))) × (r + lengthFrom (drop r (now (s .entry))) ≡ at + lengthFrom (drop at (now (s .entry)))) ⌝ }
+{
+    let mut i = at;
+    while 8 <= s.len() - i {
+        if ends_soon(s, i) {
+            return i;
+        }
+        i += 8;
+    }
+    i
+}
+
 // The place of the next block, for a place in the block before it.
 pub fn next_block(s: &[u8], at: usize) -> usize
     requires { ⌜ at ≤ length (now s) ⌝ }
     ensures { λ r. ⌜ r ≡ at + lengthFrom (drop at (now (s .entry))) ⌝ }
 {
-    let mut i = at;
+    let mut i = near_end(s, at);
     while i < s.len() {
         let b = s[i];
         i += 1;

@@ -91,20 +91,6 @@ module _ {l : List ℕ} {from number : ℕ} {first now : Programs} {at block : �
                 ∙ ap (λ (k : ℕ). scan (first .main) (blocksFrom l (block + 1) k) (subsOf now)) g;
           }
 
-      -- after the last block nothing is left, whatever its number
-      pub passed-last : (next : ℕ) → (getD l at 0 ≡ 79 → ⊥) → at + lengthFrom (drop at l) ≡ next → length l ≤ next → Scan l from number first now next block
-      passed-last next f g k =
-          record {
-            inside = omega (arith, next-inside l at (s .inside));
-            counted = omega (arith, s .counted);
-            ready = s .ready;
-            main = s .main;
-            left =
-                s .left ∙ scan-plain (first .main) l block at (subsOf now) h e f
-                ∙ ap (λ (k : ℕ). scan (first .main) (blocksFrom l (block + 1) k) (subsOf now)) g
-                ∙ scan-end (first .main) l (block + 1) next (subsOf now) k ∙ sym (scan-end (first .main) l block next (subsOf now) k);
-          }
-
       module _ (f : getD l at 0 ≡ 79) (entry : Entry) (was : entryOf (now .main) (subsOf now) (numberAfterO (textFrom (drop (at + 1) l))) ≡ entry) where
         at-opening :
             scan (first .main) (blocksFrom l number from) (subsOf first)
@@ -133,42 +119,6 @@ module _ {l : List ℕ} {from number : ℕ} {first now : Programs} {at block : �
             main = d .main ∙ s .main;
             left = at-opening f (Enters n) was ∙ rw (d .subs, ← g);
           }
-
--- a block that is neither the closing `%` nor an opening
-abbrev pub Plain : List ℕ → ℕ → Type 0
-Plain l start = (isPercent (textFrom (drop start l)) ≡ false) × (getD l start 0 ≡ 79 → ⊥)
-
--- A block that began at a place is passed byte by byte: the next one begins where it would from the byte reached, which is
--- the block's first, or else the block is plain.
-pub record Passing (l : List ℕ) (start at : ℕ) (isFirst : Bool) : Type 0 where
-  pub inside : at ≤ length l
-  pub begun : start ≤ at
-  pub left : start + lengthFrom (drop start l) ≡ at + lengthFrom (drop at l)
-  pub here : isFirst ≡ true → at ≡ start
-  pub plain : isFirst ≡ false → Plain l start
-
-pub passing-start : (l : List ℕ) (at : ℕ) → at ≤ length l → Passing l at at true
-passing-start l at h =
-    record { inside = h; begun = omega arith; left = refl; here = λ e. refl; plain = λ e. absurd (false≢true (sym e)) }
-
--- the first byte is looked at, and no other
-pub first-plain : (l : List ℕ) {start at : ℕ} → at ≡ start → isPercent (textFrom (drop at l)) ≡ false → (getD l at 0 ≡ 79 → ⊥) → Plain l start
-first-plain l e p f = rw (← e) (p, f)
-
-pub past-plain : {l : List ℕ} {start at : ℕ} (isFirst : Bool) → Passing l start at isFirst → start < at → Plain l start
-past-plain true p h = absurd (omega (arith, p .here refl))
-past-plain false p h = p .plain refl
-
-module _ {l : List ℕ} {start at : ℕ} {isFirst : Bool} (p : Passing l start at isFirst) where
-  pub passing-more : at < length l → Plain l start → (getD l at 0 ≡ 10 → ⊥) → Passing l start (at + 1) false
-  passing-more h t f =
-      record {
-        inside = omega arith;
-        begun = omega (arith, p .begun);
-        left = omega (arith, p .left, length-at-more l at h f);
-        here = λ e. absurd (false≢true e);
-        plain = λ e. t;
-      }
 
 -- the main program: without an opening, or under one in the second block
 module _ (l : List ℕ) (at : ℕ) where

@@ -33,8 +33,7 @@ fn with_program(t: Programs, number: u64, block: usize, byte: usize) -> Programs
     next
 }
 
-// The openings from a block on, whose number and place are given. Each byte of a block without an opening is passed once;
-// the scan is left from inside a block, at an opening that is refused or at the closing `%`.
+// The openings from a block on, whose number and place are given, up to one that is refused or to the closing `%`.
 fn scan_openings(s: &[u8], from: usize, number: usize, found: Programs) -> Scanned
     requires { ⌜ (from ≤ length (now s)) × (number ≤ from + 1) ⌝ }
     requires { ⌜ WellFound found ⌝ }
@@ -43,39 +42,33 @@ fn scan_openings(s: &[u8], from: usize, number: usize, found: Programs) -> Scann
     let mut programs = found;
     let mut at = from;
     let mut block = number;
-    let mut verdict = Verdict::Fine;
-    'blocks: while at < s.len() {
-        let mut first = true;
-        while at < s.len() {
-            let b = s[at];
-            if first {
-                if lines::is_percent(s, at) {
-                    break 'blocks;
-                }
-                if b == b'O' {
-                    match crate::entry_of(programs, crate::read_opening(s, at + 1)) {
-                        Entry::Refuses(refusal) => {
-                            verdict = Verdict::Refused(refusal, Place { block, byte: at });
-                            break 'blocks;
-                        }
-                        Entry::Enters(n) => {
-                            block += 1;
-                            at = lines::next_block(s, at);
-                            programs = with_program(programs, n, block, at);
-                            continue 'blocks;
-                        }
-                    }
-                }
+    while at < s.len() {
+        if lines::is_percent(s, at) {
+            break;
+        }
+        let next = lines::next_block(s, at);
+        if s[at] != b'O' {
+            at = next;
+            block += 1;
+            continue;
+        }
+        match crate::entry_of(programs, crate::read_opening(s, at + 1)) {
+            Entry::Refuses(refusal) => {
+                let verdict = Verdict::Refused(refusal, Place { block, byte: at });
+                return Scanned { verdict, programs };
             }
-            first = false;
-            at += 1;
-            if b == b'\n' {
+            Entry::Enters(n) => {
+                at = next;
                 block += 1;
-                continue 'blocks;
+                programs = with_program(programs, n, block, at);
+                continue;
             }
         }
     }
-    Scanned { verdict, programs }
+    Scanned {
+        verdict: Verdict::Fine,
+        programs,
+    }
 }
 
 // The programs of data whose first block is `%` alone: the main program, under an opening in the second block or without

@@ -1,3 +1,4 @@
+-- `lines::next_block` meets its contract: from each place reached the block ends where it did. Assumes nothing.
 use Prim.Native.Nat.{_+_, _-_, _≤_}
 use mathlib.Core.Path.{_≡_}
 use native.Mathlib.Omega.{arith}
@@ -14,15 +15,15 @@ abbrev μ-loop : tie.MeasureT-loop
 μ-loop s at i₀ i = length s - i
 
 returns : tie.Need-returns Inv-loop μ-loop
-returns c = let d = c .before .before .before in omega (arith, length-at-lf (d .before .args .s .now) (d .loop .i) (omega arith) (c .if1 .taken))
+returns c = let d = c .before .before .before in omega (arith, length-at-lf (d .before .before .before .args .s .now) (d .loop .i) (omega arith) (c .if1 .taken))
 
 loop-again : tie.Need-loop-again Inv-loop μ-loop
-loop-again c = let d = c .before .before .before in omega (arith, length-at-more (d .before .args .s .now) (d .loop .i) (omega arith) (c .if1 .left))
+loop-again c = let d = c .before .before .before in omega (arith, length-at-more (d .before .before .before .args .s .now) (d .loop .i) (omega arith) (c .if1 .left))
 
 returns-2 : tie.Need-returns-2 Inv-loop μ-loop
-returns-2 c = omega (arith, length-at-end (c .before .before .args .s .now) (c .before .loop .i) (omega arith))
+returns-2 c = omega (arith, length-at-end (c .before .before .before .before .args .s .now) (c .before .loop .i) (omega arith))
 
 pub next-block-spec : {M : Type 1} → statement M
 next-block-spec =
     tie.close
-    (tie.spec Inv-loop μ-loop (λ c. omega arith) (λ c. omega arith) (λ c. omega arith) returns (λ c. omega arith) loop-again returns-2)
+    (tie.spec Inv-loop μ-loop (λ c κs. omega arith) (λ c. omega arith) (λ c. omega arith) (λ c. omega arith) returns (λ c. omega arith) loop-again returns-2)
