@@ -4,9 +4,13 @@ use points::Point;
 use records::Arc;
 use records::Record;
 ghost use mathlib.Core.Path.{_≡_};
-ghost use Prim.Native.Nat.{_*_, _≤_};
+ghost use mathlib.Core.Bool.{_&&_};
+ghost use Prim.Native.Nat.{_*_, _^_, _≤_};
+ghost use Rattle.lengths.specs.Units.{fitsFour};
+ghost use Rattle.points.specs.Near.{Near};
 ghost use Rattle.points.specs.Points.{flat};
-ghost use Rattle.records.specs.Path.{pathOf};
+ghost use Rattle.records.specs.Path.{pathOf, recordMoved};
+ghost use Rattle.records.specs.Displacing.{Loose};
 ghost use Rattle.arcs.specs.Root.{root};
 ghost use Rattle.arcs.specs.Turning.{left};
 ghost use Rattle.arcs.specs.Arcs.{distance², centreOf, radius², roundEnough, arcHolds, centreFits};
@@ -98,13 +102,21 @@ pub fn arc_holds(from: Point, a: Arc) -> bool
     is_round_enough(r, squared_distance(centre, at))
 }
 
-// Whether a record in machine units can be written: an arc's centre fits four bytes.
-pub fn centre_fits(r: Record) -> bool
-    ensures { λ b. ⌜ b ≡ centreFits (pathOf r) ⌝ }
+// Whether a record can be written in machine units: an arc's centre fits four bytes there.
+pub fn centre_fits(by: Point, r: Record) -> bool
+    requires { ⌜ (Near (2 ^ 61) by) × Loose (pathOf r) ⌝ }
+    ensures { λ b. ⌜ b ≡ centreFits (pathOf (recordMoved by r)) ⌝ }
 {
     match r {
-        Record::AR(a) => a.first.fits_four() & a.second.fits_four(),
-        Record::AL(a) => a.first.fits_four() & a.second.fits_four(),
+        Record::AR(a) => is_written(records::displaced_arc(by, a)),
+        Record::AL(a) => is_written(records::displaced_arc(by, a)),
         _ => true,
     }
+}
+
+// Whether four bytes hold the numbers of an arc's centre.
+fn is_written(a: Arc) -> bool
+    ensures { λ b. ⌜ b ≡ (fitsFour (a .first .v) && fitsFour (a .second .v)) ⌝ }
+{
+    a.first.fits_four() & a.second.fits_four()
 }

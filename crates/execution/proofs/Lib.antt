@@ -1,6 +1,5 @@
 pub mod Opened
 pub mod Verdicts
-pub mod Still
 pub mod Small
 pub mod Judged
 pub mod Listening

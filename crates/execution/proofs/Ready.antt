@@ -47,7 +47,7 @@ use Rattle.execution.specs.declared.Planned.{Planned}
 use Rattle.execution.specs.declared.Checked.{Checked}
 use Rattle.execution.specs.declared.Checked.the-variants as Checked
 use Rattle.execution.specs.Steps.{plannedRecords, Plans, noneYet, checkedBy}
-use Rattle.execution.proofs.Still.{AllStill, spindle-still, last-still, still-ends, still-stays, brief-few}
+use Rattle.work.proofs.Briefs.{AllStill, brief-still, still-ends, still-stays, brief-few}
 
 -- ---- a pass whose record comes from the words of the block
 
@@ -170,12 +170,6 @@ module _ {bed : Bed} {s : State} {b : Said} {p : Planned} (h : Plans bed s b p) 
   abbrev after : List Record
   after = briefRecords (p .last)
 
-  before-still : AllStill before
-  before-still = rw (h .first) (spindle-still s b)
-
-  after-still : AllStill after
-  after-still = rw (h .last) (last-still (b .misc))
-
   pub at-is : from ≡ s .at
   unfolding working
   at-is = rw (h .works)
@@ -212,7 +206,7 @@ module _ {bed : Bed} {s : State} {b : Said} {p : Planned} (h : Plans bed s b p) 
   module _ {e : Extent} (is : e ≡ grown (noneYet from) before) where
     here : e .end ≡ from
     unfolding grown
-    here = rw is (still-ends from before before-still)
+    here = rw is (still-ends from before (brief-still (p .first)))
 
     pub testable : p .work .sound ≡ true → Testable (bed .travel) (p .work) (p .aim) e
     unfolding grown
@@ -230,7 +224,7 @@ module _ {bed : Bed} {s : State} {b : Said} {p : Planned} (h : Plans bed s b p) 
     unfolding plannedRecords
     on-way =
         ap (wayOf (bed .travel) (noneYet from)) (append-assoc before work after)
-        ∙ way-on (bed .travel) (noneYet from) before (work ++ after) (still-stays (bed .travel) from before before-still)
+        ∙ way-on (bed .travel) (noneYet from) before (work ++ after) (still-stays (bed .travel) from before (brief-still (p .first)))
         ∙ ap (λ (x : Extent). wayOf (bed .travel) x (work ++ after)) (sym is)
 
     pub block-leaves :
@@ -247,7 +241,7 @@ module _ {bed : Bed} {s : State} {b : Said} {p : Planned} (h : Plans bed s b p) 
         let c = way-ends (bed .travel) e work (f ∙ ap (λ (x : Point). wayOf (bed .travel) e (workRecords (p .work) (p .aim) x)) here) in
         checked-in sound
         (on-way ∙ way-on (bed .travel) e work after (c .stays) ∙ ap (λ (y : Extent). wayOf (bed .travel) y after) (sym (c .is))
-        ∙ way-still (bed .travel) x after after-still ∙ ap Ends (sym g))
+        ∙ way-still (bed .travel) x after (brief-still (p .last)) ∙ ap Ends (sym g))
 
     -- and what comes after the work fits too
     pub work-little :

@@ -25,7 +25,7 @@ use Rattle.settings.specs.declared.State.{State}
 use Rattle.letters.specs.declared.BlockCode.{BlockCode}
 use Rattle.letters.specs.declared.BlockCode.the-variants.{Calling, Returning, Dwelling, Moving}
 use Rattle.letters.proofs.BlockCode.{the-type as code-type}
-use Rattle.work.specs.declared.Brief.the-variants.{Is, Nothing}
+use Rattle.work.specs.declared.Brief.the-variants.{Speed, SpindleOff, Pause, End, Nothing}
 use Rattle.work.specs.Work.{briefRecords}
 use Rattle.blocks.specs.declared.Said.{Said}
 use Rattle.blocks.specs.Exec.{working, spindleRecords, lastRecords, lacksCentre, drills, isG17}
@@ -70,7 +70,7 @@ module _ (s : State) (b : Said) {n : ℕ} (is : n ≡ miscNumber (b .misc)) wher
   abbrev speaks : Bool
   speaks = s .turning && b .values .s .stands || eqb n 3
 
-  pub spindle-one : {speed : Len} → speed ≡ working s b .speed → speaks ≡ true → briefRecords (Is (SP speed)) ≡ spindleRecords s b
+  pub spindle-one : {speed : Len} → speed ≡ working s b .speed → speaks ≡ true → briefRecords (Speed speed) ≡ spindleRecords s b
   unfolding spindleRecords isM briefRecords
   spindle-one f e = rw (rw is at e, f)
 
@@ -79,17 +79,17 @@ module _ (s : State) (b : Said) {n : ℕ} (is : n ≡ miscNumber (b .misc)) wher
   spindle-none e = rw (rw is at e)
 
 module _ (m : Misc) {n : ℕ} (is : n ≡ miscNumber m) where
-  pub last-off : eqb n 5 ≡ true → briefRecords (Is SO) ≡ lastRecords m
+  pub last-off : eqb n 5 ≡ true → briefRecords SpindleOff ≡ lastRecords m
   unfolding lastRecords isM briefRecords
   last-off e = rw (rw is at e)
 
   module _ (f : eqb n 5 ≡ false) where
-    pub last-pause : eqb n 0 ≡ true → briefRecords (Is PA) ≡ lastRecords m
+    pub last-pause : eqb n 0 ≡ true → briefRecords Pause ≡ lastRecords m
     unfolding lastRecords isM briefRecords
     last-pause e = rw (rw is at f, rw is at e)
 
     module _ (g : eqb n 0 ≡ false) where
-      pub last-end : (eqb n 2 || eqb n 30) ≡ true → briefRecords (Is EN) ≡ lastRecords m
+      pub last-end : (eqb n 2 || eqb n 30) ≡ true → briefRecords End ≡ lastRecords m
       unfolding lastRecords isM briefRecords
       last-end e = rw (rw is at f, rw is at g, rw is at e)
 

@@ -39,7 +39,7 @@ use Rattle.execution.specs.declared.Planned.{Planned}
 use Rattle.execution.specs.declared.Checked.{Checked}
 use Rattle.execution.specs.declared.Checked.the-variants as Checked
 use Rattle.execution.specs.Steps.{judgedFrom, settledAt, plannedRecords, Plans, noneYet, checkedBy}
-use Rattle.execution.proofs.Still.{still-ends, spindle-still}
+use Rattle.work.proofs.Briefs.{brief-still, still-ends}
 use Rattle.execution.proofs.Ready.{at-is, made-is, sound-is, leading}
 use Rattle.execution.proofs.Verdicts.{does-refused, does-accepted, sound-past, sound-stops, fits-past, stays-past, stays-stops, room-stops, room-past}
 
@@ -167,5 +167,5 @@ module _ {bed : Bed} {s : State} {b : Said} {p : Planned} (h : Plans bed s b p) 
           let first = briefRecords (p .first) in
           let work = workRecords (p .work) (p .aim) from in
           let parts = stays-both (bed .travel) from first work (stays-both (bed .travel) from (first ++ work) (briefRecords (p .last)) stay .0) in
-          let still : endOf from first ≡ from = rw (h .first) (still-ends from (spindleRecords s b) (spindle-still s b)) in
+          let still : endOf from first ≡ from = still-ends from first (brief-still (p .first)) in
           record { travel = bed .travel; leading = leading h; stays = rw still at (parts .1) }

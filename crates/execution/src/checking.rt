@@ -101,9 +101,9 @@ fn put_block(list: &mut [u8], at: usize, offset: Point, p: Planned) -> usize
     let aim = p.aim;
     let first = p.first;
     let last = p.last;
-    let spun = work::put_brief(list, at, offset, first);
+    let spun = work::put_brief(list, at, first);
     let moved = work::put_work(list, spun, offset, work, aim, works.at);
-    work::put_brief(list, moved, offset, last)
+    work::put_brief(list, moved, last)
 }
 
 // Writes a planned block whose path stays, where there is room for all its records.

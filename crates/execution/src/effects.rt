@@ -9,7 +9,6 @@ use blocks::Said;
 use codes::Misc;
 use lengths::Len;
 use points::Point;
-use records::Record;
 use settings::State;
 use words::Given;
 use work::Brief;
@@ -43,7 +42,7 @@ pub fn spindle_record(s: State, b: Said, speed: Len) -> Brief
     let values = b.values;
     let word = values.s;
     if (s.turning & word.stands) | (codes::misc_number(misc) == 3) {
-        return Brief::Is(Record::SP(speed));
+        return Brief::Speed(speed);
     }
     Brief::Nothing
 }
@@ -54,13 +53,13 @@ pub fn last_record(misc: Misc) -> Brief
 {
     let n = codes::misc_number(misc);
     if n == 5 {
-        return Brief::Is(Record::SO);
+        return Brief::SpindleOff;
     }
     if n == 0 {
-        return Brief::Is(Record::PA);
+        return Brief::Pause;
     }
     if (n == 2) | (n == 30) {
-        return Brief::Is(Record::EN);
+        return Brief::End;
     }
     Brief::Nothing
 }

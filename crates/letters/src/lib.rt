@@ -56,7 +56,7 @@ pub fn block_code(misc: Misc, dwells: bool, motion: Motion) -> BlockCode
     }
 }
 
-fn turns(motion: Motion) -> bool
+pub fn turns(motion: Motion) -> bool
     ensures { λ r. ⌜ r ≡ turns motion ⌝ }
 {
     match motion {

@@ -17,7 +17,7 @@ use Rattle.records.specs.declared.Record.the-variants.{RP, LN, AR, AL, D
 use Rattle.records.specs.Layout.{kindOf, kindLength, pointNumbers, arcNumbers, numbersOf, recordBytes, listBytes, roomOf}
 use Rattle.records.specs.Path.{pathOf, arcMoved, recordMoved}
 use Rattle.records.specs.Displacing.{LooseArc, Loose}
-use Rattle.records.specs.Writing.{AllShort, ListShort, movedBytes, RoomFor}
+use Rattle.records.specs.Writing.{AllShort, ListShort, movedBytes, Displaceable, RoomFor}
 use Rattle.records.specs.Serving.{Wrote}
 use Rattle.records.proofs.Laid.{list-length}
 use Rattle.records.proofs.Written.{wrote-then, wrote-none, wrote-length}
@@ -28,10 +28,6 @@ pub room-append : (a b : List Record) → roomOf (a ++ b) ≡ roomOf a + roomOf 
 unfolding roomOf
 room-append [] b = omega arith
 room-append (r ∷ a) b = omega (arith, room-append a b)
-
-pub room-one : (r : Record) → kindLength (kindOf r) ≡ roomOf (r ∷ [])
-unfolding roomOf
-room-one r = omega arith
 
 pub kind-few : (r : Record) → kindLength (kindOf r) ≤ 27
 kind-few (RP p) = omega arith
@@ -162,27 +158,15 @@ loose by SO h k = tt
 loose by PA h k = tt
 loose by EN h k = tt
 
-module _ {was : List ℕ} {at : ℕ} (by : Point) (r : Record) where
-  pub one-sums : RoomFor was at by (r ∷ []) → (Near (2 ^ 61) by) × Loose (pathOf r)
-  one-sums h = (omega (arith, h .offset), loose by r (h .offset) (h .short .0))
+module _ (by : Point) (r : Record) where
+  -- each sum that writing it asks for fits 64 bits
+  pub one-sums : Displaceable by r → (Near (2 ^ 61) by) × Loose (pathOf r)
+  one-sums h = (omega (arith, h .offset), loose by r (h .offset) (h .short))
 
-  module _ {q : Record} (e : q ≡ recordMoved by r) where
-    pub one-fits : RoomFor was at by (r ∷ []) → (at + kindLength (kindOf q) ≤ length was) × AllShort (numbersOf q)
+  module _ {was : List ℕ} {at : ℕ} (h : RoomFor was at by (r ∷ [])) where
+    pub one-fits : at + kindLength (kindOf r) ≤ length was
     unfolding roomOf
-    one-fits h = (rw (ap kindOf e ∙ moved-kind by r) (omega (arith, h .room)), rw e (h .short .0))
+    one-fits = omega (arith, h .room)
 
-    pub one-put : {is : List ℕ} {next : ℕ} → Wrote was at (recordBytes q) is next → Wrote was at (movedBytes by (r ∷ [])) is next
-    one-put w = put-one by r (rw e at w)
-
--- ---- the next record of a list that can be written
-
-module _ (by : Point) {list : List ℕ} {at : ℕ} (r : Record) (rs : List Record) where
-  pub first-ready : RoomFor list at by (r ∷ rs) → RoomFor list at by (r ∷ [])
-  first-ready h = ready-left by (r ∷ []) rs h
-
-  module _ {mid : List ℕ} {k : ℕ} (w : Wrote list at (movedBytes by (r ∷ [])) mid k) where
-    pub rest-ready : RoomFor list at by (r ∷ rs) → RoomFor mid k by rs
-    rest-ready h = ready-right by (r ∷ []) rs w h
-
-    pub rest-put : {is : List ℕ} {next : ℕ} → Wrote mid k (movedBytes by rs) is next → Wrote list at (movedBytes by (r ∷ rs)) is next
-    rest-put q = put-then by (r ∷ []) rs w q
+    pub one-short : Displaceable by r
+    one-short = record { offset = h .offset; short = h .short .0 }

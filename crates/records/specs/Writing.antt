@@ -23,6 +23,11 @@ ListShort (r ∷ rs) = AllShort (numbersOf r) × ListShort rs
 abbrev pub movedBytes : Point → List Record → List ℕ
 movedBytes by rs = listBytes (map (recordMoved by) rs)
 
+-- a record that can be written in machine units: each number fits four bytes there
+pub record Displaceable (by : Point) (r : Record) : Type 0 where
+  pub offset : Near 1_000_000_000 by
+  pub short : AllShort (numbersOf (recordMoved by r))
+
 -- records that can be written at a place: there is room, and each number fits four bytes in machine units
 pub record RoomFor (list : List ℕ) (at : ℕ) (by : Point) (rs : List Record) : Type 0 where
   pub room : at + roomOf rs ≤ length list

@@ -4,7 +4,7 @@ mod kinds;
 mod leading;
 
 use codes::Plane;
-pub use displacing::displaced;
+pub use displacing::displaced_arc;
 pub use kinds::has_plane;
 pub use kinds::head_length;
 pub use kinds::kind_length;

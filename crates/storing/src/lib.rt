@@ -10,11 +10,12 @@ ghost use mathlib.Core.Path.{_≡_};
 ghost use mathlib.Core.List.{[], _∷_, _++_};
 ghost use lib.ListN.{length};
 ghost use Rattle.lengths.specs.View.{Short};
-ghost use Rattle.records.specs.Layout.{kindOf, markOf, planeByte, planeBytes, pointNumbers, arcNumbers, numbersOf, numberBytes, recordBytes, kindLength};
-ghost use Rattle.records.specs.Writing.{AllShort};
+ghost use Rattle.records.specs.Layout.{kindOf, markOf, planeByte, planeBytes, pointNumbers, arcNumbers, numbersOf, numberBytes, kindLength};
+ghost use Rattle.records.specs.Path.{recordMoved};
+ghost use Rattle.records.specs.Writing.{AllShort, Displaceable, movedBytes, RoomFor};
 ghost use Rattle.records.specs.Serving.{Wrote};
 
-fn put_number(list: &mut [u8], at: usize, n: Len) -> usize
+pub fn put_number(list: &mut [u8], at: usize, n: Len) -> usize
     requires { ⌜ at + 4 ≤ length (now list) ⌝ }
     requires { ⌜ Short (n .v) ⌝ }
     ensures { λ next. ⌜ Wrote (now (list .entry)) at (numberBytes (n ∷ [])) (now (list .exit)) next ⌝ }
@@ -61,7 +62,7 @@ fn put_arc(list: &mut [u8], at: usize, a: Arc) -> usize
     put_number(list, feed, a.feed)
 }
 
-fn put_mark(list: &mut [u8], at: usize, kind: Kind) -> usize
+pub fn put_mark(list: &mut [u8], at: usize, kind: Kind) -> usize
     requires { ⌜ at + 2 ≤ length (now list) ⌝ }
     ensures { λ next. ⌜ Wrote (now (list .entry)) at (markOf kind) (now (list .exit)) next ⌝ }
 {
@@ -71,20 +72,20 @@ fn put_mark(list: &mut [u8], at: usize, kind: Kind) -> usize
     at + 2
 }
 
-// What comes after the mark.
-fn put_body(list: &mut [u8], at: usize, r: Record) -> usize
+// What comes after the mark, in machine units: the offset is added as the record is written, so that no displaced copy of it is made.
+fn put_body(list: &mut [u8], at: usize, by: Point, r: Record) -> usize
     requires { ⌜ at + kindLength (kindOf r) ≤ length (now list) + 2 ⌝ }
-    requires { ⌜ AllShort (numbersOf r) ⌝ }
-    ensures { λ next. ⌜ Wrote (now (list .entry)) at (planeBytes r ++ numberBytes (numbersOf r)) (now (list .exit)) next ⌝ }
+    requires { ⌜ Displaceable by r ⌝ }
+    ensures { λ next. ⌜ Wrote (now (list .entry)) at (planeBytes (recordMoved by r) ++ numberBytes (numbersOf (recordMoved by r))) (now (list .exit)) next ⌝ }
 {
     match r {
-        Record::RP(p) => put_point(list, at, p),
+        Record::RP(p) => put_point(list, at, points::moved(by, p)),
         Record::LN(p, feed) => {
-            let next = put_point(list, at, p);
+            let next = put_point(list, at, points::moved(by, p));
             put_number(list, next, feed)
         }
-        Record::AR(a) => put_arc(list, at, a),
-        Record::AL(a) => put_arc(list, at, a),
+        Record::AR(a) => put_arc(list, at, records::displaced_arc(by, a)),
+        Record::AL(a) => put_arc(list, at, records::displaced_arc(by, a)),
         Record::DW(ms) => put_number(list, at, ms),
         Record::SP(speed) => put_number(list, at, speed),
         Record::SO => at,
@@ -93,12 +94,11 @@ fn put_body(list: &mut [u8], at: usize, r: Record) -> usize
     }
 }
 
-// Writes a record at a place; every other byte of the list stays as it is.
-pub fn put(list: &mut [u8], at: usize, r: Record) -> usize
-    requires { ⌜ at + kindLength (kindOf r) ≤ length (now list) ⌝ }
-    requires { ⌜ AllShort (numbersOf r) ⌝ }
-    ensures { λ next. ⌜ Wrote (now (list .entry)) at (recordBytes r) (now (list .exit)) next ⌝ }
+// Writes a record at a place, in machine units; every other byte of the list stays as it is.
+pub fn put(list: &mut [u8], at: usize, by: Point, r: Record) -> usize
+    requires { ⌜ RoomFor (now list) at by (r ∷ []) ⌝ }
+    ensures { λ next. ⌜ Wrote (now (list .entry)) at (movedBytes by (r ∷ [])) (now (list .exit)) next ⌝ }
 {
     let body = put_mark(list, at, records::kind_of(r));
-    put_body(list, body, r)
+    put_body(list, body, by, r)
 }

@@ -4,3 +4,4 @@ pub mod Plans
 pub mod Plain
 pub mod Extents
 pub mod Passing
+pub mod Briefs

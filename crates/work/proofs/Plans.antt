@@ -1,7 +1,12 @@
 -- What the code plans stands for the motion that the rules give. Assumes nothing.
 use Prim.Native.Nat.{ℕ, zero, suc, _≤_}
 use mathlib.Core.Path.{_≡_, refl, sym, _∙_, ap, ap₂}
-use mathlib.Core.Bool.{Bool, true, false, not, _||_}
+use mathlib.Core.Bool.{Bool, true, false, false≢true, not, _||_}
+use denote.Enum.Declared.{tagOf}
+use types.Run.{OneOf, miss}
+use Rattle.codes.proofs.Motion.{the-type as motion-type}
+use Rattle.codes.specs.declared.Motion.{Motion}
+use Rattle.letters.specs.Letters.{turns}
 use mathlib.Core.List.{List, [], _∷_, _++_}
 use native.Mathlib.Omega.{arith}
 use borrow.Author.Tests.{not-true, not-false}
@@ -9,7 +14,7 @@ use Rattle.terms.specs.Terms.{if_then_else_}
 use Rattle.lengths.specs.declared.Len.{Len}
 use Rattle.codes.specs.declared.Cycle.{Cycle}
 use Rattle.codes.specs.declared.Distance.{Distance}
-use Rattle.codes.specs.declared.Motion.the-variants.{Drilling}
+use Rattle.codes.specs.declared.Motion.the-variants.{Off, G00, G01, G02, G03, Drilling}
 use Rattle.words.specs.declared.Values.{Values}
 use Rattle.points.specs.declared.Point.{Point}
 use Rattle.points.specs.Points.{atHeight}
@@ -27,7 +32,7 @@ use Rattle.cycles.proofs.Passes.{without-z, lastLevel, ends-at, same-place}
 use Rattle.blocks.specs.Motions.{Moves, noMoves, one, impossible, endStands, centreGiven, arcStands, arcTo, radiusFits, arcMoves, cycleDone, cycleMoves, motionOf}
 use Rattle.work.specs.declared.Work.{Work}
 use Rattle.work.specs.declared.Pass.the-variants.{One, Drill}
-use Rattle.work.specs.Work.{rowsOf, passesOf, workRecords, leads, aimOf, noWork, oneWork, straightRecord, arcRecord}
+use Rattle.work.specs.Work.{rowsOf, passesOf, workRecords, leads, aimOf, noWork, oneWork, straightRecord, arcRecord, isClockwise, liesLeft}
 use Rattle.work.specs.Needs.{ArcFrom, RecordFrom, Makes}
 
 -- ---- no record, and one
@@ -86,12 +91,12 @@ module _ (s : State) (origin : Point) (v : Values) where
       fits : {x : Bool} → f ≡ x → radiusFits s v end ≡ x
       fits e = let same : f ≡ radiusFits s v end = rw to at fit in sym same ∙ e
 
-      turns : arcStands v ≡ true
-      turns = stands (not-false (t || u) some)
+      goes : arcStands v ≡ true
+      goes = stands (not-false (t || u) some)
 
       pub arc-impossible : {w : Work} → not f ≡ true → w ≡ noWork false → Makes (arc clockwise left) s origin v w
       unfolding arcMoves
-      arc-impossible e g = makes-none false g (rw (turns, fits (not-true f e)))
+      arc-impossible e g = makes-none false g (rw (goes, fits (not-true f e)))
 
       module _ (e : not f ≡ false) {a : Arc} (by : a ≡ arcTo left s v q) {sound : Bool} (holds : sound ≡ arcHolds (s .at) a) where
         arc-is : a ≡ arcTo left s v end
@@ -102,7 +107,7 @@ module _ (s : State) (origin : Point) (v : Values) where
 
         moves-are : (make : Arc → Record) → arcRecord clockwise ≡ make → arc clockwise left ≡ record { records = make a ∷ []; sound = sound }
         unfolding arcMoves
-        moves-are make g = rw (turns, fits (not-false f e), g, holds, arc-is)
+        moves-are make g = rw (goes, fits (not-false f e), g, holds, arc-is)
 
         pub arc-clockwise : {w : Work} → clockwise ≡ true → w ≡ oneWork (AR a) sound → Makes (arc clockwise left) s origin v w
         unfolding arcRecord
@@ -111,6 +116,27 @@ module _ (s : State) (origin : Point) (v : Values) where
         pub arc-counter : {w : Work} → clockwise ≡ false → w ≡ oneWork (AL a) sound → Makes (arc clockwise left) s origin v w
         unfolding arcRecord
         arc-counter g i = makes-one sound (AL a) i (moves-are AL (rw g)) from
+
+  -- ---- by the code that is on
+
+  module _ (named : Bool) where
+    pub motion-turns : (m : Motion) → turns m ≡ true → {t u : Bool} → t ≡ isClockwise m → u ≡ liesLeft t v → motionOf m named s origin v ≡ arc t u
+    unfolding motionOf turns isClockwise liesLeft arcRecord
+    motion-turns Off e f g = absurd (false≢true e)
+    motion-turns G00 e f g = absurd (false≢true e)
+    motion-turns G01 e f g = absurd (false≢true e)
+    motion-turns G02 e f g = rw (g, f)
+    motion-turns G03 e f g = rw (g, f)
+    motion-turns (Drilling cycle) e f g = absurd (false≢true e)
+
+    pub motion-rests : (m : Motion) → OneOf (0 ∷ 3 ∷ 4 ∷ []) (tagOf motion-type m) → turns m ≡ false → motionOf m named s origin v ≡ noMoves
+    unfolding motionOf turns
+    motion-rests Off h e = refl
+    motion-rests G00 h e = absurd (miss (0 ∷ 3 ∷ 4 ∷ []) 1 tt h)
+    motion-rests G01 h e = absurd (miss (0 ∷ 3 ∷ 4 ∷ []) 2 tt h)
+    motion-rests G02 h e = absurd (false≢true (sym e))
+    motion-rests G03 h e = absurd (false≢true (sym e))
+    motion-rests (Drilling cycle) h e = absurd (miss (0 ∷ 3 ∷ 4 ∷ []) 5 tt h)
 
 -- ---- the passes of a cycle
 

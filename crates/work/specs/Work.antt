@@ -1,6 +1,6 @@
 -- How the code holds what a block makes: so many passes of the same few records, and what they come to.
 use Prim.Native.Nat.{ℕ, zero, suc, _+_}
-use mathlib.Core.Bool.{Bool, true, false}
+use mathlib.Core.Bool.{Bool, true, false, not}
 use mathlib.Core.List.{List, [], _∷_, _++_}
 use lib.ListN.{length}
 use Rattle.terms.specs.Terms.{if_then_else_}
@@ -10,7 +10,7 @@ use Rattle.points.specs.declared.Travel.{Travel}
 use Rattle.words.specs.declared.Values.{Values}
 use Rattle.records.specs.declared.Arc.{Arc}
 use Rattle.records.specs.declared.Record.{Record}
-use Rattle.records.specs.declared.Record.the-variants.{RP, LN, AR, AL, PA}
+use Rattle.records.specs.declared.Record.the-variants.{RP, LN, AR, AL, SP, SO, PA, EN}
 use Rattle.records.specs.Layout.{roomOf}
 use Rattle.records.specs.Path.{pathOf, endOf, recordMoved}
 use Rattle.settings.specs.declared.State.{State}
@@ -18,11 +18,14 @@ use Rattle.settings.specs.Target.{target}
 use Rattle.arcs.specs.Arcs.{centreFits}
 use Rattle.arcs.specs.Staying.{staysIn}
 use Rattle.cycles.specs.Cycles.{passTo}
+use Rattle.blocks.specs.Motions.{isLarger}
+use Rattle.codes.specs.declared.Motion.{Motion}
+use Rattle.codes.specs.declared.Motion.the-variants.{Off, G00, G01, G02, G03, Drilling}
 use Rattle.work.specs.declared.Pass.{Pass}
 use Rattle.work.specs.declared.Pass.the-variants.{One, Drill}
 use Rattle.work.specs.declared.Work.{Work}
 use Rattle.work.specs.declared.Brief.{Brief}
-use Rattle.work.specs.declared.Brief.the-variants.{Is, Nothing}
+use Rattle.work.specs.declared.Brief.the-variants.{Speed, SpindleOff, Pause, End, Nothing}
 use Rattle.work.specs.declared.Aim.{Aim}
 use Rattle.work.specs.declared.Extent.{Extent}
 use Rattle.work.specs.declared.Way.{Way}
@@ -64,9 +67,24 @@ unfoldable pub arcRecord : Bool → Arc → Record
 arcRecord true = AR
 arcRecord false = AL
 
+-- G02 turns clockwise; the centre of an arc by its radius lies to the left for the larger clockwise arc and the smaller other one
+unfoldable pub isClockwise : Motion → Bool
+isClockwise Off = false
+isClockwise G00 = false
+isClockwise G01 = false
+isClockwise G02 = true
+isClockwise G03 = false
+isClockwise (Drilling cycle) = false
+
+unfoldable pub liesLeft : Bool → Values → Bool
+liesLeft clockwise v = if clockwise then isLarger v else not (isLarger v)
+
 -- the record before the motion, or the one after it
 unfoldable pub briefRecords : Brief → List Record
-briefRecords (Is r) = r ∷ []
+briefRecords (Speed speed) = SP speed ∷ []
+briefRecords SpindleOff = SO ∷ []
+briefRecords Pause = PA ∷ []
+briefRecords End = EN ∷ []
 briefRecords Nothing = []
 
 -- the centre of a pass's record fits four bytes in machine units; a hole has none

@@ -6,6 +6,7 @@ mod writing;
 
 use codes::Distance;
 use cycles::Hole;
+use lengths::Len;
 pub use planning::centre_given;
 pub use planning::cycle_done;
 pub use planning::end_stands;
@@ -34,7 +35,10 @@ pub struct Work {
 
 // The record before the motion or after it, where there is one: of the spindle or of the M code.
 pub enum Brief {
-    Is(Record),
+    Speed(Len),
+    SpindleOff,
+    Pause,
+    End,
     Nothing,
 }
 

@@ -19,7 +19,7 @@ ghost use Rattle.settings.specs.Bounds.{Aims};
 ghost use Rattle.codes.specs.declared.Motion.the-variants.{Drilling};
 ghost use Rattle.letters.specs.declared.BlockCode.the-variants.{Moving};
 ghost use Rattle.blocks.specs.Motions.{noMoves, one, endStands, centreGiven, arcStands, cycleDone, centreWords, centreFor, radiusFits, arcTo, arcMoves, isLarger, motionOf, movesOf};
-ghost use Rattle.work.specs.Work.{noWork, oneWork, straightRecord, arcRecord};
+ghost use Rattle.work.specs.Work.{noWork, oneWork, straightRecord, arcRecord, isClockwise, liesLeft};
 ghost use Rattle.work.specs.Needs.{Poised, Aiming, Fitting, Counted, Makes};
 
 // Whether a word of the end stands.
@@ -207,17 +207,40 @@ fn cycle_work(cycle: Cycle, named: bool, s: State, origin: Point, v: Values) -> 
     }
 }
 
+fn is_clockwise(motion: Motion) -> bool
+    ensures { λ r. ⌜ r ≡ isClockwise motion ⌝ }
+{
+    match motion {
+        Motion::G02 => true,
+        _ => false,
+    }
+}
+
+// Whether the centre of an arc by its radius lies to the left of the way from start to end.
+fn lies_left(clockwise: bool, v: Values) -> bool
+    ensures { λ r. ⌜ r ≡ liesLeft clockwise v ⌝ }
+{
+    if clockwise {
+        is_larger(v)
+    } else {
+        !is_larger(v)
+    }
+}
+
+// Both arcs are made at one place, and asked for first, so that the compiler joins `arc_work` to it and copies nothing for it elsewhere.
 fn motion_work(motion: Motion, named: bool, s: State, origin: Point, v: Values) -> Work
     requires { ⌜ (Poised s origin v) × Counted (Moving motion) v ⌝ }
     ensures { λ w. ⌜ Makes (motionOf motion named s origin v) s origin v w ⌝ }
 {
+    if letters::turns(motion) {
+        let clockwise = is_clockwise(motion);
+        return arc_work(clockwise, lies_left(clockwise, v), s, origin, v);
+    }
     match motion {
-        Motion::Off => no_work(true),
         Motion::G00 => straight_work(false, s, origin, v),
         Motion::G01 => straight_work(true, s, origin, v),
-        Motion::G02 => arc_work(true, is_larger(v), s, origin, v),
-        Motion::G03 => arc_work(false, !is_larger(v), s, origin, v),
         Motion::Drilling(cycle) => cycle_work(cycle, named, s, origin, v),
+        _ => no_work(true),
     }
 }
 

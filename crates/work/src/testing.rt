@@ -8,10 +8,9 @@ use crate::Work;
 use crate::rows;
 use points::Point;
 use points::Travel;
-use records::Record;
-ghost use Prim.Native.Nat.{_^_};
+use records::Kind;
+ghost use Prim.Native.Nat.{_+_, _^_, _≤_};
 ghost use mathlib.Core.Path.{_≡_};
-ghost use mathlib.Core.List.{[], _∷_};
 ghost use Rattle.points.specs.Near.{Near};
 ghost use Rattle.work.specs.Work.{rowsOf, workRecords, briefRecords, passFits, grown, wayOf};
 ghost use Rattle.work.specs.Needs.{PassLoose, PassReady, Little, Testable};
@@ -23,31 +22,33 @@ pub fn work_fits(offset: Point, w: Work) -> bool
 {
     let pass = w.pass;
     match pass {
-        Pass::One(r) => arcs::centre_fits(records::displaced(offset, r)),
+        Pass::One(r) => arcs::centre_fits(offset, r),
         Pass::Drill(_) => true,
     }
 }
 
-// One record more.
-fn with_record(e: Extent, r: Record) -> Extent
-    requires { ⌜ Little e ⌝ }
-    ensures { λ x. ⌜ x ≡ grown e (r ∷ []) ⌝ }
+// One record more that leads nowhere, and takes so many bytes.
+fn longer(e: Extent, bytes: usize) -> Extent
+    requires { ⌜ (Little e) × (bytes ≤ 27) ⌝ }
+    ensures { λ x. ⌜ x ≡ record { end = e .end; room = e .room + bytes; count = e .count + 1 } ⌝ }
 {
-    let end = records::path_end(e.end, r);
+    let end = e.end;
     Extent {
         end,
-        room: e.room + records::room(r),
+        room: e.room + bytes,
         count: e.count + 1,
     }
 }
 
+// But for the spindle's such a record is its mark alone.
 pub fn with_brief(e: Extent, b: Brief) -> Extent
     requires { ⌜ Little e ⌝ }
     ensures { λ x. ⌜ x ≡ grown e (briefRecords b) ⌝ }
 {
     match b {
-        Brief::Is(r) => with_record(e, r),
         Brief::Nothing => e,
+        Brief::Speed(_) => longer(e, records::kind_length(Kind::SP)),
+        _ => longer(e, records::kind_length(Kind::SO)),
     }
 }
 

@@ -6,26 +6,29 @@ use crate::Work;
 use crate::rows;
 use lengths::Len;
 use points::Point;
-use records::Record;
-ghost use mathlib.Core.List.{[], _∷_};
+use records::Kind;
+ghost use Prim.Native.Nat.{_+_, _≤_};
+ghost use lib.ListN.{length};
 ghost use Rattle.records.specs.Serving.{Wrote};
-ghost use Rattle.records.specs.Writing.{movedBytes, RoomFor};
+ghost use Rattle.records.specs.Layout.{listBytes, roomOf};
+ghost use Rattle.records.specs.Writing.{ListShort, movedBytes, RoomFor};
 ghost use Rattle.work.specs.Work.{rowsOf, workRecords, briefRecords};
 ghost use Rattle.work.specs.Needs.{Writable};
 
-fn put_record(list: &mut [u8], at: usize, offset: Point, r: Record) -> usize
-    requires { ⌜ RoomFor (now list) at offset (r ∷ []) ⌝ }
-    ensures { λ next. ⌜ Wrote (now (list .entry)) at (movedBytes offset (r ∷ [])) (now (list .exit)) next ⌝ }
-{
-    storing::put(list, at, records::displaced(offset, r))
-}
-
-pub fn put_brief(list: &mut [u8], at: usize, offset: Point, b: Brief) -> usize
-    requires { ⌜ RoomFor (now list) at offset (briefRecords b) ⌝ }
-    ensures { λ next. ⌜ Wrote (now (list .entry)) at (movedBytes offset (briefRecords b)) (now (list .exit)) next ⌝ }
+// A record that leads nowhere is the same in machine units.
+pub fn put_brief(list: &mut [u8], at: usize, b: Brief) -> usize
+    requires { ⌜ at + roomOf (briefRecords b) ≤ length (now list) ⌝ }
+    requires { ⌜ ListShort (briefRecords b) ⌝ }
+    ensures { λ next. ⌜ Wrote (now (list .entry)) at (listBytes (briefRecords b)) (now (list .exit)) next ⌝ }
 {
     match b {
-        Brief::Is(r) => put_record(list, at, offset, r),
+        Brief::Speed(speed) => {
+            let next = storing::put_mark(list, at, Kind::SP);
+            storing::put_number(list, next, speed)
+        }
+        Brief::SpindleOff => storing::put_mark(list, at, Kind::SO),
+        Brief::Pause => storing::put_mark(list, at, Kind::PA),
+        Brief::End => storing::put_mark(list, at, Kind::EN),
         Brief::Nothing => at,
     }
 }
@@ -39,7 +42,7 @@ fn put_pass(list: &mut [u8], at: usize, offset: Point, pass: Pass, level: Len, t
     let mut next = at;
     let mut i = 0;
     while i < n {
-        next = put_record(list, next, offset, rows::row_at(pass, i, level, to));
+        next = storing::put(list, next, offset, rows::row_at(pass, i, level, to));
         i += 1;
     }
     next

@@ -1,22 +1,19 @@
 -- `work::testing::work_fits` meets its contract: by the kind of the pass. Assumes nothing.
 use borrow.Author.Needs.{needs}
-use mathlib.Core.Path.{_∙_}
 use Rattle.work.specs.Work.{passFits}
 use Rattle.work.proofs.testing.work_fits.Statement.{statement}
 use Rattle.work.proofs.testing.work_fits.Tie as tie
 
-displaced-requires : tie.Need-displaced-requires
-displaced-requires c κs = (c .before .before .before .pre .0, rw (c .before .pass .given .1) at (c .before .before .before .pre .1))
+centre-fits-requires : tie.Need-centre-fits-requires
+centre-fits-requires c κs = (c .before .before .before .pre .0, rw (c .before .pass .given .1) at (c .before .before .before .pre .1))
 
 returns : tie.Need-returns
 unfolding passFits
-returns c = rw (c .before .before .before .pass .given .1) (c .centre-fits .ensures ∙ rw (c .before .displaced .ensures))
+returns c = rw (c .before .before .pass .given .1) (c .centre-fits .ensures)
 
 returns-2 : tie.Need-returns-2
 unfolding passFits
 returns-2 c = rw (c .enum-told .given .1)
 
 pub work-fits-spec : {M : Type 1} → statement M
-work-fits-spec =
-    tie.close
-    (tie.spec (λ c. search needs) displaced-requires (λ c κs. search needs) (λ c. search needs) returns returns-2)
+work-fits-spec = tie.close (tie.spec (λ c. search needs) centre-fits-requires (λ c. search needs) returns returns-2)

@@ -25,15 +25,15 @@ loop-holds c = going-starts (c .before .before .args .offset) refl (c .before .b
 row-at-requires : tie.Need-row-at-requires Inv-loop μ-loop
 row-at-requires c κs = let a = c .before .before .before .before .before .args in omega (arith, c .before .before .before .row-count .ensures .0 (a .level) (a .to))
 
-put-record-requires : tie.Need-put-record-requires Inv-loop μ-loop
-put-record-requires c κs =
+put-requires : tie.Need-put-requires Inv-loop μ-loop
+put-requires c κs =
     let a = c .before .before .before .before .before .before .args in
     going-asks (a .offset) (c .before .before .before .loop .inv) (c .row-at .result ∷ []) (drop (c .before .before .before .loop .i + 1) (rowsOf (a .pass) (a .level) (a .to))) (c .row-at .ensures)
 
 loop-again : tie.Need-loop-again Inv-loop μ-loop
 loop-again c =
     let a = c .before .before .before .before .before .before .before .before .before .args in
-    going-on (a .offset) (c .before .before .before .before .before .before .loop .inv) (c .before .before .before .row-at .result ∷ []) (drop (c .before .before .before .before .before .before .loop .i + 1) (rowsOf (a .pass) (a .level) (a .to))) (c .before .before .before .row-at .ensures) (c .before .before .put-record .ensures)
+    going-on (a .offset) (c .before .before .before .before .before .before .loop .inv) (c .before .before .before .row-at .result ∷ []) (drop (c .before .before .before .before .before .before .loop .i + 1) (rowsOf (a .pass) (a .level) (a .to))) (c .before .before .before .row-at .ensures) (c .before .before .put .ensures)
 
 returns : tie.Need-returns Inv-loop μ-loop
 returns c =
@@ -47,4 +47,4 @@ same-length c = wrote-length (returns c)
 pub put-pass-spec : {M : Type 1} → statement M
 put-pass-spec =
     tie.close
-    (tie.spec Inv-loop μ-loop (λ c κs. search needs) loop-holds row-at-requires put-record-requires (λ c. omega arith) (λ c. omega arith) loop-again same-length returns)
+    (tie.spec Inv-loop μ-loop (λ c κs. search needs) loop-holds row-at-requires put-requires (λ c. omega arith) (λ c. omega arith) loop-again same-length returns)
