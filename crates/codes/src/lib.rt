@@ -1,7 +1,7 @@
 // The codes of document 01, "Codes": what a G or an M number means.
 
 ghost use mathlib.Core.Path.{_≡_};
-ghost use Rattle.codes.specs.Codes.{codeOf, miscOf, groupOf, miscNumber, clash};
+ghost use Rattle.codes.specs.Codes.{codeOf, miscOf, groupOf, miscNumber};
 
 pub enum Cycle {
     G81,
@@ -143,13 +143,4 @@ pub fn misc_number(m: Misc) -> u64
         Misc::M99 => 99,
         Misc::Other => 100,
     }
-}
-
-// Whether two codes may not stand in one block.
-pub fn clash(c: Code, d: Code) -> bool
-    ensures { λ r. ⌜ r ≡ clash c d ⌝ }
-{
-    let a = group_of(c);
-    let b = group_of(d);
-    (a == b) | ((a == 1) & (b == 7)) | ((a == 7) & (b == 1))
 }
