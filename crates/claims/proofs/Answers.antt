@@ -16,8 +16,7 @@ use Rattle.runs.specs.Walk.{Going, returned, unfinished, Outcome}
 use Rattle.runs.specs.Run.{outcome, recordsOf, answerBy, answerOf}
 use Rattle.claims.specs.Blockwise.{Close, notYet, atEnd, atRefusal, Sofar, recordsBy, howSofar, outcomeSofar, firstBlocks}
 use Rattle.claims.specs.Answers.{Answered, finished, notFinished, refusal}
-use Rattle.claims.proofs.Counted.{Suits}
-use Rattle.claims.proofs.Runs.{open-how, gives, suited}
+use Rattle.claims.proofs.Runs.{Suits, open-how, gives, suited}
 
 -- the whole is never "not finished"
 pub never-unfinished : (s : Setup) (bytes : List ℕ) (room : ℕ) → outcome s bytes room Whole .how ≡ unfinished → ⊥

@@ -19,7 +19,6 @@ use Rattle.programs.specs.declared.Entry.the-variants.{Refuses, Enters}
 use Rattle.programs.specs.Openings.{Table, table, openingOf, programAfter, entryOf, entered, scanBlock, scan, mainAs, programsFrom}
 use Rattle.programs.specs.Openings as Openings
 use Rattle.programs.proofs.Entries.{entry-refusal}
-use Rattle.runs.specs.Walk.{refusedAt}
 use Rattle.claims.specs.Blockwise.{tableIn}
 use Rattle.claims.specs.Answers.{earlyNumbers, numberedIn}
 

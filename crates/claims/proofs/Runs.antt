@@ -1,38 +1,328 @@
--- A data set under a setup: its outcome is where the run block by block stands, for every budget.
-use Prim.Native.Nat.{ℕ}
-use mathlib.Core.Path.{_≡_, refl, sym, ap, subst}
-use mathlib.Core.Bool.{Bool, true, false, not}
-use mathlib.Core.List.{List, [], _∷_}
+-- The run block by block (specs/Blockwise.antt) gives what the rules of the run give, for every budget: a data set's outcome is where
+-- the run block by block stands. Every run comes to its end or to a refusal after some number of blocks.
+use Prim.Native.Nat.{ℕ, zero, suc, _+_, _-_}
+use mathlib.Core.Path.{_≡_, refl, sym, _∙_, ap, ap₂, subst}
+use mathlib.Core.Bool.{Bool, true, false, false≢true, not, _||_}
+use mathlib.Core.List.{List, [], _∷_, _++_, append-assoc, append-nil}
 use native.Mathlib.Omega.{arith}
-use lib.Dec.{ltb}
+use lib.Dec.{eqb, ltb}
 use lib.ListN.{length}
+use borrow.Author.Tests.{ne-eqb}
 use Rattle.terms.specs.Terms.{if_then_else_, any}
 use Rattle.refusals.specs.declared.Refusal.{Refusal}
-use Rattle.refusals.specs.declared.Refusal.the-variants.{FirstBlock, BadSetup, DataTooLong}
+use Rattle.refusals.specs.declared.Refusal.the-variants.{NoEnd, FirstBlock, BadSetup, DataTooLong}
 use Rattle.refusals.specs.declared.Place.{Place}
 use Rattle.setup.specs.declared.Setup.{Setup}
 use Rattle.setup.specs.Limits.{validSetup}
 use Rattle.setup.specs.Frame.{bedOf, switchOn}
 use Rattle.setup.proofs.Valid as Valid
+use Rattle.records.specs.declared.Record.{Record}
+use Rattle.records.specs.Layout.{roomOf}
 use Rattle.settings.specs.declared.State.{State}
 use Rattle.settings.specs.Settings.{firstModes, firstState}
 use Rattle.blocks.specs.Machine.{machineOf}
 use Rattle.blocks.specs.Reach.{Reachable}
-use Rattle.lines.specs.Blocks.{Block, blocksOf, closes}
+use Rattle.blocks.specs.Exec.{Verdict, refused, accepted, callsIn}
+use Rattle.blocks.specs.declared.Control.{Control}
+use Rattle.blocks.specs.declared.Control.the-variants.{On, Call, Back, Stop}
+use Rattle.lines.specs.Blocks.{Block, blocksOf, closes, opens}
 use Rattle.programs.specs.declared.Program.{Program}
-use Rattle.programs.specs.Openings.{Table, table, programsFrom, blocksAt}
+use Rattle.programs.specs.Openings.{Table, table, placeOf, known, programsFrom, blocksAt}
 use Rattle.programs.specs.Openings as Openings
 use Rattle.runs.specs.declared.Budget.{Budget}
 use Rattle.runs.specs.declared.Budget.the-variants.{Whole, First}
-use Rattle.runs.specs.Walk.{Job, unfinished, refusedAt, Outcome, nowhere, just, after}
+use Rattle.runs.specs.Walk.{Job, Going, How, ended, returned, unfinished, refusedAt, Outcome, nowhere, just, spentAt, isSpent, oneLess, after, goingOn, thenRest, follow, obey, isSkipped, verdictOn, runBlock, reached, walk, blocksFor, callees}
 use Rattle.runs.specs.Run.{firstOf, finishOf, runTable, runBlocks, outcome}
-use Rattle.claims.specs.Blockwise.{BlockDone, Close, notYet, atEnd, atRefusal, Sofar, more, recordsBy, howSofar, nextSofar, outcomeSofar, tableIn, subsOf, jobFor, standAt, refusedAtOnce, begunBy, begun, firstBlocks}
+use Rattle.claims.specs.Blockwise.{BlockDone, Stand, levels, Turn, refuses, goes, ends, past, inCallee, returning, led, turnBy, verdictIn, turnUnder, turnUnless, turnIn, turnAt, Close, notYet, atEnd, atRefusal, Sofar, afterTurn, turnedUnless, oneMore, more, recordsBy, howSofar, placeAhead, nextSofar, outcomeSofar, tableIn, subsOf, jobFor, standAt, refusedAtOnce, begunBy, begun, firstBlocks}
 use Rattle.claims.specs.Answers.{earlyNumbers, numberedIn}
-use Rattle.claims.proofs.Blockwise.{whole, unwound, going}
-use Rattle.claims.proofs.Turns.{Over, more-over}
-use Rattle.claims.proofs.Counted.{during, Suits, counted}
-use Rattle.claims.proofs.Finishes.{level-finishes}
+use Rattle.claims.proofs.Verdicts.{accepts, call-has-level, main-does-not-return}
+use Rattle.claims.proofs.Turns.{doneWith, turn-cases, Over, more-over, records-last}
 use Rattle.claims.proofs.Early.{Only, table-number}
+
+-- ---- a program that returns goes on in the one that called it
+
+unfoldable pub bound : Outcome → (Going → Outcome) → Outcome
+bound o rest = after (o .made) (thenRest (o .how) (o .last) (o .next) rest)
+
+bound-twice :
+    (made : List Record) (how : How) (s : State) (next : Place) (f g : Going → Outcome)
+    → bound (after made (thenRest how s next f)) g ≡ after made (thenRest how s next (λ x. bound (f x) g))
+unfolding bound after thenRest
+bound-twice made ended s next f g = simp append-nil
+bound-twice made (returned x) s next f g = rw append-assoc
+bound-twice made unfinished s next f g = simp append-nil
+bound-twice made (refusedAt refusal place) s next f g = simp append-nil
+
+abbrev pub during : List BlockDone → Stand → Sofar
+during ds st = record { executed = ds; stand = st; over = notYet }
+
+-- with a budget a run executes so many blocks: as many as it allows, or as many as bring it to its end or to a refusal
+abbrev pub Suits : Budget → ℕ → Sofar → Type 0
+Suits (First k) n x = k ≡ n
+Suits Whole n x = Over x
+
+one-less : (budget : Budget) (n : ℕ) (x : Sofar) → Suits budget (suc n) x → (isSpent budget ≡ false) × Suits (oneLess budget) n x
+unfolding isSpent oneLess
+one-less Whole n x c = (refl, c)
+one-less (First k) n x c = (ne-eqb k 0 (λ e. omega arith), omega arith)
+
+after-none :
+    (made : List Record) (how : How) (s : State) (next : Place)
+    → after made (record { how = how; made = []; last = s; next = next }) ≡ record { how = how; made = made; last = s; next = next }
+unfolding after
+after-none made how s next = rw append-nil
+
+after-done :
+    (ds : List BlockDone) (d : BlockDone) (o : Outcome) → after (recordsBy ds) (after (d .made) o) ≡ after (recordsBy (ds ++ d ∷ [])) o
+unfolding after
+after-done ds d o = rw (records-last ds d, append-assoc)
+
+module _ (job : Job) where
+  abbrev pub program : ℕ → List Block → Going → Outcome
+  program left = walk job left (callees job left)
+
+  -- the outcome of a program, and of those that called it, behind its return
+  unfoldable pub unwound : List (List Block) → Outcome → Outcome
+  unwound [] o = o
+  unwound (rest ∷ callers) o = bound o (λ g. unwound callers (program (levels callers) rest g))
+
+  abbrev pub going : Stand → Budget → Going
+  going st budget = record { state = st .state; room = st .room; budget = budget }
+
+  -- what the rules of the run give from a stand
+  unfoldable pub whole : Stand → Budget → Outcome
+  whole st budget = unwound (st .callers) (program (levels (st .callers)) (st .ahead) (going st budget))
+
+  -- what the rules give after the next block, which a run reaches with these settings
+  unfoldable onward : State → Budget → Turn → Outcome
+  onward s budget (refuses refusal place) = just (refusedAt refusal place) s
+  onward s budget (goes d st) = after (d .made) (whole st (oneLess budget))
+  onward s budget (ends d st) = after (d .made) (just ended (st .state))
+
+  -- so a call, and the block after it; and what is over is over in every caller, where `o` did not return
+  unwound-bound :
+      (callers : List (List Block)) (o : Outcome) (rest : Going → Outcome)
+      → unwound callers (bound o rest) ≡ bound o (λ g. unwound callers (rest g))
+  unfolding unwound bound
+  unwound-bound [] o rest = refl
+  unwound-bound (bs ∷ callers) o rest =
+      bound-twice (o .made) (o .how) (o .last) (o .next) rest (λ g. unwound callers (program (levels callers) bs g))
+
+  -- ---- one block
+
+  call-leads :
+      (left : ℕ) (callers : List (List Block)) (bs : List Block) (n : ℕ) (g : Going) → levels callers ≡ left → eqb left 0 ≡ false
+      → unwound callers (follow (Call n) (callees job left) (program left bs) g)
+      ≡ whole
+      (inCallee (record { state = g .state; room = g .room; ahead = bs; callers = callers })
+      (blocksFor (job .blocks) (known (job .programs) n))) (g .budget)
+  unfolding follow callees whole inCallee bound unwound
+  call-leads zero callers bs n g l e = absurd (false≢true (sym e))
+  call-leads (suc left) callers bs n g l e =
+      let blocks : List Block = blocksFor (job .blocks) (known (job .programs) n) in
+      let below : left ≡ 4 - suc (length callers) = omega arith in
+      unwound-bound callers (program left blocks g) (program (suc left) bs)
+      ∙ ap₂ (λ (a b : ℕ). bound (program a blocks g) (λ h. unwound callers (program b bs h))) below (sym l)
+
+  module _ (st : Stand) (budget : Budget) where
+    abbrev out : Outcome → Outcome
+    out = unwound (st .callers)
+
+    abbrev left : ℕ
+    left = levels (st .callers)
+
+    abbrev over-here : How → Place → Type 0
+    over-here how next = out (record { how = how; made = []; last = st .state; next = next }) ≡ record { how = how; made = []; last = st .state; next = next }
+
+    refused-out : (r : Refusal) (place : Place) → over-here (refusedAt r place) nowhere
+    unfolding bound after thenRest
+    refused-out r place = unwound-bound (st .callers) (just (refusedAt r place) (st .state)) (λ g. just ended (st .state))
+
+    back-leads :
+        (callers : List (List Block)) (bs : List Block) (s : State) (room : ℕ) (d : BlockDone) → (callers ≡ [] → ⊥)
+        → after (d .made) (unwound callers (just (returned (record { state = s; room = room; budget = oneLess budget })) s))
+        ≡ onward (st .state) budget (returning callers (record { state = s; room = room; ahead = bs; callers = callers }) d)
+    unfolding unwound bound after thenRest returning onward whole
+    back-leads [] bs s room d h = absurd (h refl)
+    back-leads (rest ∷ callers) bs s room d h = refl
+
+    -- an accepted block, by where it leads
+    accepted-leads :
+        (b : Block) (bs : List Block) (s : State) (control : Control) (made : List Record) → verdictIn job st b ≡ accepted s control made
+        → after made (out (follow control (callees job left) (program left bs) (goingOn (going st budget) s made)))
+        ≡ onward (st .state) budget (led control job (past st bs s made) (doneWith b made))
+    unfolding goingOn past led onward follow whole bound after thenRest callsIn
+    accepted-leads b bs s On made e = refl
+    accepted-leads b bs s (Call n) made e =
+        ap (after made)
+        (call-leads left (st .callers) bs n (goingOn (going st budget) s made) refl (call-has-level (accepts job st b e) n refl))
+    accepted-leads b bs s Back made e =
+        back-leads (st .callers) bs s (st .room - roomOf made) (doneWith b made)
+        (λ main. main-does-not-return (accepts job st b e) (rw main) refl)
+    accepted-leads b bs s Stop made e = ap (after made) (unwound-bound (st .callers) (just ended s) (λ g. just ended s))
+
+    -- a verdict
+    obeyed :
+        (b : Block) (bs : List Block) (v : Verdict) → verdictIn job st b ≡ v
+        → out (obey v b (callees job left) (program left bs) (going st budget)) ≡ onward (st .state) budget (turnBy v job st b bs)
+    unfolding obey turnBy onward bound after thenRest
+    obeyed b bs (refused blame) e = refused-out (blame .refusal) (record { block = b .number; byte = blame .byte })
+    obeyed b bs (accepted s control made) e =
+        unwound-bound (st .callers) (record { how = returned (going st budget); made = made; last = s; next = nowhere })
+        (λ g. follow control (callees job left) (program left bs) (goingOn (going st budget) s made))
+        ∙ accepted-leads b bs s control made e
+
+    -- a block that is skipped or not
+    ran :
+        (skips : Bool) (b : Block) (bs : List Block)
+        → out (runBlock skips job left (callees job left) b (program left bs) (going st budget))
+        ≡ onward (st .state) budget (turnUnder skips job st b bs)
+    unfolding runBlock turnUnder onward past goingOn whole after verdictIn verdictOn
+    ran true b bs = refl
+    ran false b bs = obeyed b bs (verdictIn job st b) refl
+
+    -- a block that is reached
+    reaches :
+        (closed : Bool) (b : Block) (bs : List Block)
+        → out
+        (reached false closed (placeOf b) (runBlock (isSkipped job b) job left (callees job left) b (program left bs)) (going st budget))
+        ≡ onward (st .state) budget (turnUnless closed job st b bs)
+    unfolding reached turnUnless onward
+    reaches true b bs = refused-out NoEnd (placeOf b)
+    reaches false b bs = ran (isSkipped job b) b bs
+
+    from-here :
+        (ahead : List Block) → isSpent budget ≡ false
+        → out (program left ahead (going st budget)) ≡ onward (st .state) budget (turnIn ahead job st)
+    unfolding walk reached turnIn onward
+    from-here [] e = rw e (refused-out NoEnd (job .finish))
+    from-here (b ∷ bs) e = rw e (reaches (opens b || closes b) b bs)
+
+    one-block : isSpent budget ≡ false → whole st budget ≡ onward (st .state) budget (turnAt job st)
+    unfolding whole turnAt
+    one-block e = from-here (st .ahead) e
+
+    spent : isSpent budget ≡ true → whole st budget ≡ spentAt (st .state) (placeAhead (st .ahead) (job .finish))
+    unfolding whole walk reached placeAhead bound after thenRest
+    spent e = go (st .ahead)
+      where
+        stops : (place : Place) → over-here unfinished place
+        stops place = unwound-bound (st .callers) (spentAt (st .state) place) (λ g. just ended (st .state))
+
+        go : (ahead : List Block) → out (program left ahead (going st budget)) ≡ spentAt (st .state) (placeAhead ahead (job .finish))
+        go [] = rw e (stops (job .finish))
+        go (b ∷ bs) = rw e (stops (placeOf b))
+
+  -- ---- so many blocks
+
+  past-turn :
+      (budget : Budget) (n : ℕ)
+      → ((ds : List BlockDone) (st : Stand) → Suits (oneLess budget) n (more job n (during ds st))
+      → after (recordsBy ds) (whole st (oneLess budget)) ≡ outcomeSofar job (more job n (during ds st)))
+      → (ds : List BlockDone) (st : Stand) (t : Turn) → Suits (oneLess budget) n (more job n (afterTurn (during ds st) t))
+      → after (recordsBy ds) (onward (st .state) budget t) ≡ outcomeSofar job (more job n (afterTurn (during ds st) t))
+  unfolding onward afterTurn outcomeSofar howSofar nextSofar
+  past-turn budget n rest ds st (refuses refusal place) c =
+      after-none (recordsBy ds) (refusedAt refusal place) (st .state) nowhere
+      ∙ ap (outcomeSofar job)
+      (sym (more-over job n (afterTurn (during ds st) (refuses refusal place)) (λ e. let z : _≡_ {A = ℕ} 0 1 = cc in omega arith)))
+  past-turn budget n rest ds st (goes d st′) c = after-done ds d (whole st′ (oneLess budget)) ∙ rest (ds ++ d ∷ []) st′ c
+  past-turn budget n rest ds st (ends d st′) c =
+      after-done ds d (just ended (st′ .state))
+      ∙ after-none (recordsBy (ds ++ d ∷ [])) ended (st′ .state) nowhere
+      ∙ ap (outcomeSofar job)
+      (sym (more-over job n (afterTurn (during ds st) (ends d st′)) (λ e. let z : _≡_ {A = ℕ} 0 1 = cc in omega arith)))
+
+  counted :
+      (n : ℕ) (budget : Budget) (ds : List BlockDone) (st : Stand) → Suits budget n (more job n (during ds st))
+      → after (recordsBy ds) (whole st budget) ≡ outcomeSofar job (more job n (during ds st))
+  unfolding isSpent more oneMore turnedUnless outcomeSofar howSofar nextSofar
+  counted zero Whole ds st c = absurd (c refl)
+  counted zero (First k) ds st c =
+      rw c
+      (ap (after (recordsBy ds)) (spent st (First zero) refl)
+      ∙ after-none (recordsBy ds) unfinished (st .state) (placeAhead (st .ahead) (job .finish)))
+  counted (suc n) budget ds st c =
+      let less = one-less budget n (more job (suc n) (during ds st)) c in
+      ap (after (recordsBy ds)) (one-block st budget (less .0))
+      ∙ past-turn budget n (counted n (oneLess budget)) ds st (turnAt job st) (less .1)
+
+  -- ---- an end: programs have blocks in a row, and calls go down
+
+  -- some number of blocks brings the run to its end or to a refusal, whatever was executed before
+  record Finishes (st : Stand) : Type 0 where
+    blocks : ℕ
+    over : (ds : List BlockDone) → Over (more job blocks (during ds st))
+
+  abbrev OnFinishes : Turn → Type 0
+  OnFinishes (refuses refusal place) = Unit {0}
+  OnFinishes (goes d st) = Finishes st
+  OnFinishes (ends d st) = Unit {0}
+
+  turn-finishes : (st : Stand) (t : Turn) → turnAt job st ≡ t → OnFinishes t → Finishes st
+  unfolding afterTurn more oneMore turnedUnless
+  turn-finishes st (refuses refusal place) e h = record { blocks = 1; over = λ ds. rw e (λ k. let z : _≡_ {A = ℕ} 0 1 = cc in omega arith) }
+  turn-finishes st (goes d st′) e h =
+      record {
+        blocks = suc (h .blocks);
+        over = λ ds. subst (λ (u : Turn). Over (more job (h .blocks) (afterTurn (during ds st) u))) (sym e) (h .over (ds ++ d ∷ []));
+      }
+  turn-finishes st (ends d st′) e h = record { blocks = 1; over = λ ds. rw e (λ k. let z : _≡_ {A = ℕ} 0 1 = cc in omega arith) }
+
+  -- a place in programs from which every run finishes
+  abbrev Place-finishes : List Block → List (List Block) → Type 0
+  Place-finishes ahead callers =
+      (s : State) (room : ℕ) → Finishes (record { state = s; room = room; ahead = ahead; callers = callers })
+
+  -- a program's callers, from wherever it returns
+  abbrev CallersFinish : List (List Block) → Type 0
+  CallersFinish [] = Unit {0}
+  CallersFinish (rest ∷ above) = Place-finishes rest above
+
+  -- every program with so many levels left finishes, where its callers do
+  abbrev LevelFinishes : ℕ → Type 0
+  LevelFinishes left =
+      (ahead : List Block) (callers : List (List Block)) → levels callers ≡ left → CallersFinish callers → Place-finishes ahead callers
+
+  abbrev Below : ℕ → Type 0
+  Below zero = Unit {0}
+  Below (suc left) = LevelFinishes left
+
+  led-finishes :
+      (left : ℕ) (bs : List Block) (callers : List (List Block)) (control : Control) (s : State) (room : ℕ) (d : BlockDone)
+      → levels callers ≡ left → ((n : ℕ) → control ≡ Call n → eqb left 0 ≡ false) → Below left → Place-finishes bs callers → CallersFinish callers
+      → OnFinishes (led control job (record { state = s; room = room; ahead = bs; callers = callers }) d)
+  unfolding led inCallee returning
+  led-finishes left bs callers On s room d l deep below here above = here s room
+  led-finishes zero bs callers (Call n) s room d l deep below here above = absurd (false≢true (sym (deep n refl)))
+  led-finishes (suc left) bs callers (Call n) s room d l deep below here above =
+      below (blocksFor (job .blocks) (known (job .programs) n)) (bs ∷ callers) (omega arith) here s room
+  led-finishes left bs [] Back s room d l deep below here above = tt
+  led-finishes left bs (rest ∷ callers) Back s room d l deep below here above = above s room
+  led-finishes left bs callers Stop s room d l deep below here above = tt
+
+  block-finishes :
+      (left : ℕ) → Below left → (ahead : List Block) (callers : List (List Block)) → levels callers ≡ left → CallersFinish callers
+      → ((b : Block) (bs : List Block) → ahead ≡ b ∷ bs → Place-finishes bs callers) → Place-finishes ahead callers
+  unfolding past callsIn
+  block-finishes left below ahead callers l above here s room =
+      let st : Stand = record { state = s; room = room; ahead = ahead; callers = callers } in
+      turn-finishes st (turnAt job st) refl
+      (turn-cases OnFinishes job st (λ place e. tt) (λ b bs blame e k. tt) (λ b bs e k. here b bs e s (room - roomOf []))
+      (λ b bs s′ control made e k m.
+      led-finishes left bs callers control s′ (room - roomOf made) (doneWith b made) l
+      (λ n c. rw l at (call-has-level (accepts job st b k) n c)) below (here b bs e) above))
+
+  program-finishes : (left : ℕ) → Below left → LevelFinishes left
+  program-finishes left below [] callers l above =
+      block-finishes left below [] callers l above (λ b bs e. let z : _≡_ {A = ℕ} 0 1 = cc in absurd (omega arith))
+  program-finishes left below (b ∷ bs) callers l above =
+      block-finishes left below (b ∷ bs) callers l above
+      (λ b′ bs′ e. let rest : bs ≡ bs′ = cc in rw (← rest) (program-finishes left below bs callers l above))
+
+  level-finishes : (left : ℕ) → LevelFinishes left
+  level-finishes zero = program-finishes zero tt
+  level-finishes (suc left) = program-finishes (suc left) (level-finishes left)
 
 -- the blocks of the data, by the table of programs
 by-table :
@@ -73,7 +363,7 @@ module _ (s : Setup) (bytes : List ℕ) (room : ℕ) (budget : Budget) (P : Sofa
     table-begins :
         (t : Table) → validSetup s ≡ true → tableIn (blocksOf bytes) ≡ t → Only earlyNumbers t
         → P (begunBy t s (blocksOf bytes) room) (runTable s bytes (blocksOf bytes) room budget t)
-    unfolding begunBy runTable jobFor whole unwound going standAt subsOf
+    unfolding begunBy runTable jobFor whole unwound standAt subsOf
     table-begins (Openings.refusedAt r place) v e only = at-once r place (only r place refl)
     table-begins (table main subs) v e only =
         subst
@@ -120,7 +410,7 @@ module _ (s : Setup) (bytes : List ℕ) (room : ℕ) where
       sym
       (ap (outcomeSofar (jobFor s bytes))
       (more-over (jobFor s bytes) n (refusedAtOnce s room r place) (λ e. let z : _≡_ {A = ℕ} 0 1 = cc in omega arith))))
-      (λ blocks v c. counted (jobFor s bytes) n budget [] (standAt s room blocks) (record { four = refl }) c)
+      (λ blocks v c. counted (jobFor s bytes) n budget [] (standAt s room blocks) c)
 
   pub first-n : (n : ℕ) → outcome s bytes room (First n) ≡ outcomeSofar (jobFor s bytes) (firstBlocks s bytes room n)
   first-n n = gives n (First n) refl
@@ -132,7 +422,7 @@ module _ (s : Setup) (bytes : List ℕ) (room : ℕ) where
   suited Whole =
       begun-cases s bytes room Whole (λ x o. (n : ℕ) × Over (more (jobFor s bytes) n x))
       (λ r place early. (0, λ e. let z : _≡_ {A = ℕ} 0 1 = cc in omega arith))
-      (λ blocks v. let f = level-finishes (jobFor s bytes) 4 blocks [] tt (firstOf s) room in (f .blocks, f .over []))
+      (λ blocks v. let f = level-finishes (jobFor s bytes) 4 blocks [] refl tt (firstOf s) room in (f .blocks, f .over []))
 
   pub how-first : (n : ℕ) → outcome s bytes room (First n) .how ≡ howSofar (firstBlocks s bytes room n .over)
   unfolding outcomeSofar

@@ -19,8 +19,7 @@ use Rattle.runs.specs.Walk.{unfinished, Outcome}
 use Rattle.runs.specs.Run.{outcome, recordsOf, answerBy, answerOf, standingOf}
 use Rattle.claims.specs.Blockwise.{Stand, Turn, refuses, goes, ends, turnAt, Close, notYet, Sofar, afterTurn, oneMore, howSofar, placeAhead, nextSofar, outcomeSofar, jobFor, begun, firstBlocks}
 use Rattle.claims.specs.Answers.{TurnsAt, OneMore, stays, refusing, going, ending, SameTold}
-use Rattle.claims.proofs.Turns.{Over, open-or-over, turns-ahead, open-turn, one-over, more-last}
-use Rattle.claims.proofs.Counted.{records-last}
+use Rattle.claims.proofs.Turns.{Over, open-or-over, turns-ahead, open-turn, one-over, more-last, records-last}
 use Rattle.claims.proofs.Runs.{open-how, gives, first-n, suited, how-first}
 
 -- a budget with which so many blocks may be executed
