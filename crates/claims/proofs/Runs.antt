@@ -6,7 +6,7 @@ use mathlib.Core.Bool.{Bool, true, false, false≢true, not, _||_}
 use mathlib.Core.List.{List, [], _∷_, _++_, append-assoc, append-nil}
 use native.Mathlib.Omega.{arith}
 use lib.Dec.{eqb, ltb}
-use lib.ListN.{length}
+use lib.ListN.{length, drop}
 use borrow.Author.Tests.{ne-eqb}
 use Rattle.terms.specs.Terms.{if_then_else_, any}
 use Rattle.refusals.specs.declared.Refusal.{Refusal}
@@ -15,6 +15,8 @@ use Rattle.refusals.specs.declared.Place.{Place}
 use Rattle.setup.specs.declared.Setup.{Setup}
 use Rattle.setup.specs.Limits.{validSetup}
 use Rattle.setup.specs.Frame.{bedOf, switchOn}
+use Rattle.setup.specs.declared.Bed.{Bed}
+use Rattle.setup.specs.Fair.{Fair}
 use Rattle.setup.proofs.Valid as Valid
 use Rattle.records.specs.declared.Record.{Record}
 use Rattle.records.specs.Layout.{roomOf}
@@ -22,6 +24,8 @@ use Rattle.settings.specs.declared.State.{State}
 use Rattle.settings.specs.Settings.{firstModes, firstState}
 use Rattle.blocks.specs.Machine.{machineOf}
 use Rattle.blocks.specs.Reach.{Reachable}
+use Rattle.blocks.specs.Keeping.{Keeps}
+use Rattle.blocks.proofs.Accepting.{accepted-kept}
 use Rattle.blocks.specs.Exec.{Verdict, refused, accepted, callsIn}
 use Rattle.blocks.specs.declared.Control.{Control}
 use Rattle.blocks.specs.declared.Control.the-variants.{On, Call, Back, Stop}
@@ -31,12 +35,12 @@ use Rattle.programs.specs.Openings.{Table, table, placeOf, known, programsFrom,
 use Rattle.programs.specs.Openings as Openings
 use Rattle.runs.specs.declared.Budget.{Budget}
 use Rattle.runs.specs.declared.Budget.the-variants.{Whole, First}
-use Rattle.runs.specs.Walk.{Job, Going, How, ended, returned, unfinished, refusedAt, Outcome, nowhere, just, spentAt, isSpent, oneLess, after, goingOn, thenRest, follow, obey, isSkipped, verdictOn, runBlock, reached, walk, blocksFor, callees}
+use Rattle.runs.specs.Walk.{Job, Going, How, ended, returned, unfinished, refusedAt, Outcome, nowhere, just, spentAt, isSpent, oneLess, after, goingOn, thenRest, follow, obey, isSkipped, slashLength, verdictOn, runBlock, reached, walk, blocksFor, callees}
 use Rattle.runs.specs.Run.{firstOf, finishOf, runTable, runBlocks, outcome}
 use Rattle.claims.specs.Blockwise.{BlockDone, Stand, levels, Turn, refuses, goes, ends, past, inCallee, returning, led, turnBy, verdictIn, turnUnder, turnUnless, turnIn, turnAt, Close, notYet, atEnd, atRefusal, Sofar, afterTurn, turnedUnless, oneMore, more, recordsBy, howSofar, placeAhead, nextSofar, outcomeSofar, tableIn, subsOf, jobFor, standAt, refusedAtOnce, begunBy, begun, firstBlocks}
 use Rattle.claims.specs.Answers.{earlyNumbers, numberedIn}
 use Rattle.claims.proofs.Verdicts.{accepts, call-has-level, main-does-not-return}
-use Rattle.claims.proofs.Turns.{doneWith, turn-cases, Over, more-over, records-last}
+use Rattle.claims.proofs.Turns.{doneWith, withMachine, turn-cases, Over, more-over, records-last, run-holds}
 use Rattle.claims.proofs.Early.{Only, table-number}
 
 -- ---- a program that returns goes on in the one that called it
@@ -398,6 +402,11 @@ open-how atEnd e = let z : _≡_ {A = ℕ} 0 1 = cc in absurd (omega arith)
 open-how (atRefusal r place) e = let z : _≡_ {A = ℕ} 0 1 = cc in absurd (omega arith)
 
 module _ (s : Setup) (bytes : List ℕ) (room : ℕ) where
+  -- a run that is refused before its first block stays so
+  pub once-over : (n : ℕ) (r : Refusal) (place : Place) → more (jobFor s bytes) n (refusedAtOnce s room r place) ≡ refusedAtOnce s room r place
+  unfolding refusedAtOnce
+  once-over n r place = more-over (jobFor s bytes) n (refusedAtOnce s room r place) (λ e. let z : _≡_ {A = ℕ} 0 1 = cc in omega arith)
+
   -- with a budget that suits n, the first n executed blocks
   pub gives :
       (n : ℕ) (budget : Budget) → Suits budget n (firstBlocks s bytes room n)
@@ -406,10 +415,7 @@ module _ (s : Setup) (bytes : List ℕ) (room : ℕ) where
   gives n budget =
       begun-cases s bytes room budget
       (λ x o. Suits budget n (more (jobFor s bytes) n x) → o ≡ outcomeSofar (jobFor s bytes) (more (jobFor s bytes) n x))
-      (λ r place early c.
-      sym
-      (ap (outcomeSofar (jobFor s bytes))
-      (more-over (jobFor s bytes) n (refusedAtOnce s room r place) (λ e. let z : _≡_ {A = ℕ} 0 1 = cc in omega arith))))
+      (λ r place early c. sym (ap (outcomeSofar (jobFor s bytes)) (once-over n r place)))
       (λ blocks v c. counted (jobFor s bytes) n budget [] (standAt s room blocks) c)
 
   pub first-n : (n : ℕ) → outcome s bytes room (First n) ≡ outcomeSofar (jobFor s bytes) (firstBlocks s bytes room n)
@@ -438,9 +444,21 @@ module _ (s : Setup) (bytes : List ℕ) (room : ℕ) where
 pub first-reached : (s : Setup) → validSetup s ≡ true → Reachable (bedOf s) (firstOf s)
 unfolding firstOf firstState firstModes bedOf
 first-reached s v =
-    record {
-      at = Valid.start-inside s v;
-      origin = omega arith;
-      feed = Valid.valid-feed s v;
-      speed = Valid.valid-speed s v;
-    }
+    record { at = Valid.start-inside s v; origin = omega arith; feed = Valid.valid-feed s v; speed = Valid.valid-speed s v }
+
+-- and every block of it keeps to those states
+module _ (bed : Bed) (fair : Fair bed) (job : Job) where
+  pub block-keeps :
+      (st : Stand) (b : Block) (s : State) (control : Control) (made : List Record)
+      → verdictIn (withMachine (machineOf bed) job) st b ≡ accepted s control made → Reachable bed (st .state)
+      → Keeps bed (st .room) (st .state) s made
+  unfolding verdictIn verdictOn
+  block-keeps st b s control made e reach =
+      accepted-kept bed (callsIn (job .programs) (levels (st .callers))) (st .room) (st .state) (b .start) fair reach
+      (b .start + slashLength b) (drop (slashLength b) (b .text)) s control made e
+
+  pub reach-kept :
+      (n : ℕ) (x : Sofar) → Reachable bed (x .stand .state) → Reachable bed (more (withMachine (machineOf bed) job) n x .stand .state)
+  reach-kept n x reach =
+      run-holds (λ rs s left. Reachable bed s) (withMachine (machineOf bed) job)
+      (λ rs st b s control made e h. block-keeps st b s control made e h .state) n x reach

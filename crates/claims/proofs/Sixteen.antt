@@ -25,7 +25,6 @@ use Rattle.settings.specs.declared.State.{State}
 use Rattle.blocks.specs.Machine.{machineOf}
 use Rattle.blocks.specs.Reach.{Reachable}
 use Rattle.blocks.specs.Exec.{callsIn}
-use Rattle.blocks.proofs.Accepting.{accepted-kept}
 use Rattle.runs.specs.declared.Budget.{Budget}
 use Rattle.runs.specs.declared.Budget.the-variants.{Whole, First}
 use Rattle.runs.specs.Walk.{Job, How, ended, returned, unfinished, refusedAt, Outcome, nowhere, just, slashLength, verdictOn}
@@ -34,22 +33,10 @@ use Rattle.runs.specs.Run as Run
 use Rattle.claims.specs.Blockwise.{Stand, levels, refuses, verdictIn, turnAt, notYet, Sofar, more, jobFor, standAt, refusedAtOnce, firstBlocks}
 use Rattle.claims.specs.Answers.{earlyNumbers, blockNumbers, numberedIn, RefusedBlock, RefusedWhere, atOnce, atBlock, OneMore, stays as no-more, refusing, going, ending}
 use Rattle.claims.proofs.Verdicts.{exec-number}
-use Rattle.claims.proofs.Turns.{doneWith, withMachine, turn-cases, led-cases, more-over, run-holds}
-use Rattle.claims.proofs.Runs.{during, begun-cases, first-reached}
+use Rattle.claims.proofs.Turns.{doneWith, withMachine, turn-cases, led-cases}
+use Rattle.claims.proofs.Runs.{during, begun-cases, once-over, first-reached, reach-kept}
 use Rattle.claims.proofs.Stepping.{still-open, one-more}
 use Rattle.claims.proofs.Refused.{refused-adds-nothing}
-
--- the machine of a bed keeps to the states that a run of it can reach
-pub reach-kept :
-    (bed : Bed) (fair : Fair bed) (job : Job) (n : ℕ) (x : Sofar) → Reachable bed (x .stand .state)
-    → Reachable bed (more (withMachine (machineOf bed) job) n x .stand .state)
-unfolding verdictIn verdictOn
-reach-kept bed fair job n x reach =
-    run-holds (λ rs s left. Reachable bed s) (withMachine (machineOf bed) job)
-    (λ rs st b s control made e h.
-    accepted-kept bed (callsIn (job .programs) (levels (st .callers))) (st .room) (st .state) (b .start) fair h (b .start + slashLength b)
-    (drop (slashLength b) (b .text)) s control made e .state)
-    n x reach
 
 turn-number :
     (bed : Bed) (fair : Fair bed) (job : Job) (st : Stand) → Reachable bed (st .state)
@@ -105,8 +92,7 @@ module _ (s : Setup) (six : length (s .origins) ≡ 6) (bytes : List ℕ) (room 
       more (jobFor s bytes) n x .over ≡ notYet → (r : Refusal) (place : Place)
       → turnAt (jobFor s bytes) (more (jobFor s bytes) n x .stand) ≡ refuses r place → numberedIn blockNumbers r ≡ true)
       (λ q at early open′.
-      let e = ap (λ (x : Sofar). x .over)
-      (more-over (jobFor s bytes) n (refusedAtOnce s room q at) (λ k. let never : _≡_ {A = ℕ} 0 1 = cc in omega arith)) in
+      let e = ap (λ (x : Sofar). x .over) (once-over s bytes room n q at) in
       let never : _≡_ {A = ℕ} 0 1 = cc in
       absurd (omega arith))
       (λ blocks v open′.
