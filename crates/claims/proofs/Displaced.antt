@@ -115,11 +115,7 @@ module _ (by : Axes) (s : Setup) where
 
   start-same : startOf t ≡ startOf s
   unfolding startOf offset movedBack
-  start-same =
-      let x = shift (s .start .x) (s .exofs .x) (by .x) in
-      let y = shift (s .start .y) (s .exofs .y) (by .y) in
-      let z = shift (s .start .z) (s .exofs .z) (by .z) in
-      λ i. record { x = len (x i); y = len (y i); z = len (z i) }
+  start-same = simp shift
 
   first-same : firstOf t ≡ firstOf s
   unfolding firstOf

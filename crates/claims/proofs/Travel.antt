@@ -20,7 +20,7 @@ use Rattle.claims.specs.Travel.{machineTravel, inTravel}
 use Rattle.claims.proofs.Verdicts.{accepts, accepted-path}
 use Rattle.claims.proofs.Turns.{run-holds}
 use Rattle.claims.proofs.Paths.{end-both, stays-both}
-use Rattle.claims.proofs.Displacing.{travelMoved, there-and-back, paths-same, ends-moved}
+use Rattle.claims.proofs.Displacing.{travelMoved, there-and-back, paths-same}
 use Rattle.claims.proofs.Runs.{gives, suited, begun-with}
 
 -- the records so far stay in the travel, and the tool stands where they end
@@ -75,7 +75,7 @@ same-stays s from rs =
     ap
     (λ (t : Travel). pathStaysIn (λ p r. pathStays t p (pathOf r)) (moved (offset s) from) (map (recordMoved (offset s)) rs))
     (sym (same-travel s))
-    ∙ paths-same (offset s) (travelOf s) from rs
+    ∙ paths-same (offset s) (travelOf s) from rs .0
 
 -- "No recorded path leaves the travel": the records in machine units and the setup's own travel, the path beginning where
 -- the record before ended, the first at the setup's start
@@ -96,5 +96,5 @@ pub stands-at-its-records :
 unfolding standingOf stateMoved recordsOf
 stands-at-its-records s bytes room budget =
     ap (moved (offset s)) (outcome-stayed s bytes room budget .ends)
-    ∙ sym (ends-moved (offset s) (startOf s) (outcome s bytes room budget .made))
+    ∙ sym (paths-same (offset s) (travelOf s) (startOf s) (outcome s bytes room budget .made) .1)
     ∙ ap (λ (p : Point). endOf p (recordsOf s bytes room budget)) (same-start s)
