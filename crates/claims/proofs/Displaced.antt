@@ -48,11 +48,9 @@ use Rattle.claims.specs.Travel.{inTravel}
 use Rattle.claims.specs.Displaced.{displaced, allMoved, standingMoved, stayIn, LeavesFirst}
 use Rattle.claims.proofs.Verdicts.{otherTests, accepts, twin}
 use Rattle.claims.proofs.Turns.{doneWith, withMachine, turn-cases, led-cases, Over, open-or-over, open-turn, one-over, records-last}
-use Rattle.claims.proofs.Paths.{stays-both}
-use Rattle.claims.proofs.Displacing.{state-twice, records-twice}
 use Rattle.claims.proofs.Runs.{Suits, gives, first-n, suited, how-first, first-reached, reach-kept, begun-with}
-use Rattle.claims.proofs.Travel.{run-stayed, same-start, same-stays}
-use Rattle.claims.proofs.Stepping.{one-later, still-open, Allows, allowed}
+use Rattle.claims.proofs.Travel.{state-twice, records-twice, stays-both, run-stayed, same-start, same-stays}
+use Rattle.claims.proofs.Answers.{one-later, still-open, Allows, allowed}
 
 -- ---- one block on two machines that differ in their tests alone
 

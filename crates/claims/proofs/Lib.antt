@@ -2,12 +2,8 @@ pub mod Verdicts
 pub mod Turns
 pub mod Early
 pub mod Runs
-pub mod Paths
-pub mod Displacing
 pub mod Travel
-pub mod Stepping
 pub mod Answers
-pub mod Refused
 pub mod Sixteen
 pub mod Displaced
 pub mod Opened

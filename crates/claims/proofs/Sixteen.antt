@@ -35,8 +35,8 @@ use Rattle.claims.specs.Answers.{earlyNumbers, blockNumbers, numberedIn,
 use Rattle.claims.proofs.Verdicts.{exec-number}
 use Rattle.claims.proofs.Turns.{doneWith, withMachine, turn-cases, led-cases}
 use Rattle.claims.proofs.Runs.{during, begun-cases, once-over, first-reached, reach-kept}
-use Rattle.claims.proofs.Stepping.{still-open, one-more}
-use Rattle.claims.proofs.Refused.{refused-adds-nothing}
+use Rattle.claims.proofs.Answers.{still-open, one-more}
+use Rattle.claims.proofs.Answers.{refused-adds-nothing}
 
 turn-number :
     (bed : Bed) (fair : Fair bed) (job : Job) (st : Stand) → Reachable bed (st .state)
