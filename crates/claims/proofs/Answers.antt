@@ -224,18 +224,23 @@ module _ (s : Setup) (bytes : List ℕ) (room : ℕ) (r : Refusal) (place : Plac
   abbrev Where : Outcome → Type 0
   Where o = RefusedWhere s bytes room r place (o .made) (o .last)
 
+  pub turn-refused :
+      (n : ℕ) → firstBlocks s bytes room n .over ≡ notYet → outcome s bytes room (First (suc n)) .how ≡ refusedAt r place
+      → turnAt (jobFor s bytes) (firstBlocks s bytes room n .stand) ≡ refuses r place
+  turn-refused n e how =
+      let t : Turn = turnAt (jobFor s bytes) (firstBlocks s bytes room n .stand) in
+      let over = not-open (firstBlocks s bytes room (suc n) .over) r place (sym (how-first s bytes room (suc n)) ∙ how) in
+      refused-turn (firstBlocks s bytes room n) t r place (ap (λ (z : Sofar). z .over) (sym (turned s bytes room n t e refl)) ∙ over)
+
   -- at the block that is refused the records and the settings are those of the run that stops before it
   at-last :
-      (n : ℕ) → firstBlocks s bytes room n .over ≡ notYet → firstBlocks s bytes room (suc n) .over ≡ atRefusal r place
+      (n : ℕ) → firstBlocks s bytes room n .over ≡ notYet → outcome s bytes room (First (suc n)) .how ≡ refusedAt r place
       → Where (outcome s bytes room (First (suc n)))
   unfolding afterTurn standingOf outcomeSofar howSofar nextSofar
-  at-last n e over =
+  at-last n e how =
       let o : Outcome = outcome s bytes room (First n) in
       let open′ : o .how ≡ unfinished = not-finished s bytes room n e in
-      let t : Turn = turnAt (jobFor s bytes) (firstBlocks s bytes room n .stand) in
-      let turn = refused-turn (firstBlocks s bytes room n) t r place
-      (ap (λ (z : Sofar). z .over) (sym (turned s bytes room n t e refl)) ∙ over) in
-      let later = turned s bytes room n (refuses r place) e turn in
+      let later = turned s bytes room n (refuses r place) e (turn-refused n e how) in
       let now : outcome s bytes room (First (suc n)) ≡ record { how = refusedAt r place; made = o .made; last = o .last; next = nowhere } =
       rw (first-n s bytes room n) (first-n s bytes room (suc n) ∙ ap (outcomeSofar (jobFor s bytes)) later) in
       subst (λ (o : Outcome). Where o) (sym now)
@@ -249,17 +254,18 @@ module _ (s : Setup) (bytes : List ℕ) (room : ℕ) (r : Refusal) (place : Plac
         stand = ap (λ (z : Sofar). z .stand) later;
       }))
 
-  with-first : (n : ℕ) → firstBlocks s bytes room n .over ≡ atRefusal r place → Where (outcome s bytes room (First n))
+  with-first : (n : ℕ) → outcome s bytes room (First n) .how ≡ refusedAt r place → Where (outcome s bytes room (First n))
   unfolding firstBlocks more
-  with-first zero over =
+  with-first zero e =
+      let over = not-open (begun s bytes room .over) r place (sym (how-first s bytes room 0) ∙ e) in
       let now = at-once over (First 0) in
       atOnce (now .0) (λ budget. at-once over budget .1) (stands-at-start over) (ap (λ (o : Outcome). o .made) (now .1))
       (ap (λ (o : Outcome). o .last) (now .1))
-  with-first (suc n) over =
-      ⊎-elim (λ e. at-last n e over)
-      (λ before.
-      rw (stays-there s bytes room n before)
-      (with-first n (ap (λ (z : Sofar). z .over) (sym (one-later s bytes room n ∙ one-over (jobFor s bytes) (firstBlocks s bytes room n) before)) ∙ over)))
+  with-first (suc n) e =
+      ⊎-elim (λ under. at-last n under e)
+      (λ over.
+      let same = stays-there s bytes room n over in
+      rw same (with-first n (ap (λ (o : Outcome). o .how) (sym same) ∙ e)))
       (open-or-over (firstBlocks s bytes room n))
 
   pub refused-adds-nothing :
@@ -268,5 +274,4 @@ module _ (s : Setup) (bytes : List ℕ) (room : ℕ) (r : Refusal) (place : Plac
   refused-adds-nothing budget e =
       let n = suited s bytes room budget in
       let same = gives s bytes room (n .0) budget (n .1) ∙ sym (first-n s bytes room (n .0)) in
-      let how = sym (how-first s bytes room (n .0)) ∙ ap (λ (o : Outcome). o .how) (sym same) ∙ e in
-      rw same (with-first (n .0) (not-open (firstBlocks s bytes room (n .0) .over) r place how))
+      rw same (with-first (n .0) (ap (λ (o : Outcome). o .how) (sym same) ∙ e))

@@ -35,8 +35,7 @@ use Rattle.claims.specs.Answers.{earlyNumbers, blockNumbers, numberedIn,
 use Rattle.claims.proofs.Verdicts.{exec-number}
 use Rattle.claims.proofs.Turns.{doneWith, withMachine, turn-cases, led-cases}
 use Rattle.claims.proofs.Runs.{during, begun-cases, once-over, first-reached, reach-kept}
-use Rattle.claims.proofs.Answers.{still-open, one-more}
-use Rattle.claims.proofs.Answers.{refused-adds-nothing}
+use Rattle.claims.proofs.Answers.{still-open, turn-refused, refused-adds-nothing}
 
 turn-number :
     (bed : Bed) (fair : Fair bed) (job : Job) (st : Stand) → Reachable bed (st .state)
@@ -103,25 +102,10 @@ module _ (s : Setup) (six : length (s .origins) ≡ 6) (bytes : List ℕ) (room 
   pub block-refusals :
       (r : Refusal) (place : Place) (made : List Record) (last : State) → RefusedBlock s bytes room r place made last
       → numberedIn blockNumbers r ≡ true
-  block-refusals r place made last at-block = go (one-more s bytes room (at-block .before))
-    where
-      how : outcome s bytes room (First (suc (at-block .before))) .how ≡ refusedAt r place
-      how = ap (λ (o : Outcome). o .how) (at-block .refused)
-
-      go : OneMore s bytes room (at-block .before) → numberedIn blockNumbers r ≡ true
-      go (no-more over same) = absurd (over (ap (λ (o : Outcome). o .how) (at-block .stops)))
-      go (refusing q at turn open′ now) =
-          let both : refusedAt q at ≡ refusedAt r place = ap (λ (o : Outcome). o .how) (sym now) ∙ how in
-          let same : q ≡ r = cc in
-          rw same at (block-number (at-block .before) (still-open s bytes room (at-block .before) open′) q at turn)
-      go (going d on turn open′ now) =
-          let both = ap (λ (o : Outcome). o .how) (sym now) ∙ how in
-          let never : _≡_ {A = ℕ} 0 1 = cc in
-          absurd (omega arith)
-      go (ending d end turn open′ now) =
-          let both = ap (λ (o : Outcome). o .how) (sym now) ∙ how in
-          let never : _≡_ {A = ℕ} 0 1 = cc in
-          absurd (omega arith)
+  block-refusals r place made last at-block =
+      let n = at-block .before in
+      let e = still-open s bytes room n (ap (λ (o : Outcome). o .how) (at-block .stops)) in
+      block-number n e r place (turn-refused s bytes room r place n e (ap (λ (o : Outcome). o .how) (at-block .refused)))
 
   -- every refusal of a run has a number of those that come before any block, or of those that come at one
   pub which-refusals :
