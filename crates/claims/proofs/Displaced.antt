@@ -300,6 +300,14 @@ module _ (by : Axes) (s : Setup) (bytes : List ℕ) (room : ℕ)
         allowed second bytes room m budget (fewer-allowed budget m n (x n) few (run .1)) (λ e. over (still-open second bytes room m e))
         ∙ first-n second bytes room m
 
+    second-told :
+        (how : How) (made : List Record) (last : State) (next : Place)
+        → outcome second bytes room budget ≡ record { how = how; made = made; last = last; next = next }
+        → (recordsOf second bytes room budget ≡ allMoved by (map (recordMoved (offset s)) made))
+        × (standingOf second bytes room budget ≡ record { state = stateMoved (pointOf by) (stateMoved (offset s) last); next = next })
+    unfolding recordsOf standingOf
+    second-told how made last next e = (rw e (sym (moved-records by s made)), rw (e, moved-settings by s last))
+
     -- where the second setup's run is refused at the first block that leaves the travel
     leaves-first :
         (m : ℕ) → suc m ≤ n → stays m ≡ true → stays (suc m) ≡ false → (block : BlockDone) → x (suc m) .executed ≡ x m .executed ++ block ∷ []
@@ -321,11 +329,28 @@ module _ (by : Axes) (s : Setup) (bytes : List ℕ) (room : ℕ)
           answer =
               ap (λ (o : Outcome). reportOf (answerBy (o .how) (length (o .made)))) is
               ∙ ap (refusedWith (numberOf LeavesTravel) (placeOf (block .block))) (sym (length-map (o .made) (recordMoved (offset s))));
-          records = ap (λ (o : Outcome). map (recordMoved (offset second)) (o .made)) is ∙ sym (moved-records by s (o .made));
-          standing =
-              ap (λ (o : Outcome). record { state = stateMoved (offset second) (o .last); next = o .next }) is
-              ∙ ap (λ (q : State). record { state = q; next = nowhere }) (sym (moved-settings by s (o .last)));
+          records = second-told _ (o .made) (o .last) nowhere is .0;
+          standing = second-told _ (o .made) (o .last) nowhere is .1;
         }
+
+    leaves-at : (m : ℕ) → suc m ≤ n → stays m ≡ true → stays (suc m) ≡ false → LeavesFirst by s bytes room budget
+    leaves-at m few stay leave =
+        let p = step m few in
+        let path = ap (_&& there (x m .stand .state .at) (p .made)) (sym stay) ∙ sym (stays-step m p) ∙ leave in
+        let off = p .off (alike m (omega arith) stay) path in
+        leaves-first m few stay leave (off .0) (off .1) (off .2)
+
+    -- where both run alike to the end
+    second-same : y n ≡ x n → outcome second bytes room budget ≡ outcome s bytes room budget
+    unfolding answerOf outcomeSofar jobFor howSofar
+    second-same same =
+        let all = gives s bytes room n budget (run .1) in
+        second-gives n (omega arith)
+        (λ e.
+        done-ended (outcome s bytes room budget .how) _ count done .0
+        (ap (λ (o : Outcome). o .how) all ∙ ap (λ (z : Sofar). howSofar (z .over)) (sym same) ∙ ap howSofar e))
+        ∙ ap (outcomeSofar (jobFor s bytes)) same
+        ∙ sym all
 
     -- ---- the two halves, for every budget with which the program ends under the first
 
@@ -337,28 +362,15 @@ module _ (by : Axes) (s : Setup) (bytes : List ℕ) (room : ℕ)
         → (answerOf (displaced by s) bytes room budget ≡ Done count)
         × (recordsOf (displaced by s) bytes room budget ≡ allMoved by (recordsOf s bytes room budget))
         × (standingOf (displaced by s) bytes room budget ≡ standingMoved by (standingOf s bytes room budget))
-    unfolding answerOf recordsOf standingOf outcomeSofar jobFor answerBy howSofar
+    unfolding answerOf recordsOf standingOf
     moves-the-cut stay =
         let o = outcome s bytes room budget in
-        let same : y n ≡ x n = alike n (omega arith) (sym (gives-stays budget n (run .1)) ∙ stay) in
-        let all : o ≡ outcomeSofar (jobFor s bytes) (x n) = gives s bytes room n budget (run .1) in
-        let over : Over (y n) = λ e.
-        done-ended (o .how) _ count done .0
-        (ap (λ (o : Outcome). o .how) all ∙ ap (λ (z : Sofar). howSofar (z .over)) (sym same) ∙ ap howSofar e) in
-        let is : outcome second bytes room budget ≡ o = second-gives n (omega arith) over ∙ ap (outcomeSofar (jobFor s bytes)) same ∙ sym all in (
-          ap (λ (o : Outcome). answerBy (o .how) (length (o .made))) is ∙ done,
-          ap (λ (o : Outcome). map (recordMoved (offset second)) (o .made)) is ∙ sym (moved-records by s (o .made)),
-          ap (λ (o : Outcome). record { state = stateMoved (offset second) (o .last); next = o .next }) is
-              ∙ ap (λ (q : State). record { state = q; next = o .next }) (sym (moved-settings by s (o .last))),
-        )
+        let is = second-same (alike n (omega arith) (sym (gives-stays budget n (run .1)) ∙ stay)) in
+        let told = second-told (o .how) (o .made) (o .last) (o .next) is in
+        (ap (λ (o : Outcome). answerBy (o .how) (length (o .made))) is ∙ done, told .0, told .1)
 
     -- "If it ends under the first and that path does not stay, the second refuses for travel at the first executed block whose
     -- displaced path leaves it, with the earlier records displaced."
     pub refuses-for-travel :
         stayIn (displaced by s) (allMoved by (recordsOf s bytes room budget)) ≡ false → LeavesFirst by s bytes room budget
-    refuses-for-travel leave =
-        let m = parting n (sym (gives-stays budget n (run .1)) ∙ leave) in
-        let p = step (m .0) (m .1) in
-        let leaves = ap (_&& there (x (m .0) .stand .state .at) (p .made)) (sym (m .2)) ∙ sym (stays-step (m .0) p) ∙ m .3 in
-        let off = p .off (alike (m .0) (omega (arith, m .1)) (m .2)) leaves in
-        leaves-first (m .0) (m .1) (m .2) (m .3) (off .0) (off .1) (off .2)
+    refuses-for-travel leave = let m = parting n (sym (gives-stays budget n (run .1)) ∙ leave) in leaves-at (m .0) (m .1) (m .2) (m .3)
