@@ -1,6 +1,5 @@
 pub mod Verdicts
 pub mod Turns
-pub mod Early
 pub mod Runs
 pub mod Travel
 pub mod Answers

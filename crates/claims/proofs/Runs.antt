@@ -2,7 +2,7 @@
 -- the run block by block stands. Every run comes to its end or to a refusal after some number of blocks.
 use Prim.Native.Nat.{ℕ, zero, suc, _+_, _-_}
 use mathlib.Core.Path.{_≡_, refl, sym, _∙_, ap, ap₂, subst}
-use mathlib.Core.Bool.{Bool, true, false, false≢true, not, _||_}
+use mathlib.Core.Bool.{Bool, true, false, false≢true, not, _||_, or-true}
 use mathlib.Core.List.{List, [], _∷_, _++_, append-assoc, append-nil}
 use native.Mathlib.Omega.{arith}
 use lib.Dec.{eqb, ltb}
@@ -10,11 +10,11 @@ use lib.ListN.{length, drop}
 use borrow.Author.Tests.{ne-eqb}
 use Rattle.terms.specs.Terms.{if_then_else_, any}
 use Rattle.refusals.specs.declared.Refusal.{Refusal}
-use Rattle.refusals.specs.declared.Refusal.the-variants.{NoEnd, FirstBlock, BadSetup, DataTooLong}
+use Rattle.refusals.specs.declared.Refusal.the-variants.{NoEnd, FirstBlock, BadSetup, DataTooLong, BadParameter}
 use Rattle.refusals.specs.declared.Place.{Place}
 use Rattle.setup.specs.declared.Setup.{Setup}
 use Rattle.setup.specs.Limits.{validSetup}
-use Rattle.setup.specs.Frame.{bedOf, switchOn}
+use Rattle.setup.specs.Frame.{bedOf}
 use Rattle.setup.specs.declared.Bed.{Bed}
 use Rattle.setup.specs.Fair.{Fair}
 use Rattle.setup.proofs.Valid as Valid
@@ -31,17 +31,22 @@ use Rattle.blocks.specs.declared.Control.{Control}
 use Rattle.blocks.specs.declared.Control.the-variants.{On, Call, Back, Stop}
 use Rattle.lines.specs.Blocks.{Block, blocksOf, closes, opens}
 use Rattle.programs.specs.declared.Program.{Program}
-use Rattle.programs.specs.Openings.{Table, table, placeOf, known, programsFrom, blocksAt}
+use Rattle.programs.specs.Openings.{Table, table, placeOf, known, programsFrom, blocksAt, openingOf, programAfter, entryOf, entered, scanBlock, scan, mainAs}
 use Rattle.programs.specs.Openings as Openings
+use Rattle.refusals.specs.Numbers.{numberOf}
+use Rattle.programs.specs.declared.Opening.{Opening}
+use Rattle.programs.specs.declared.Opening.the-variants.{Number, Bad}
+use Rattle.programs.specs.declared.Entry.{Entry}
+use Rattle.programs.specs.declared.Entry.the-variants.{Refuses, Enters}
+use Rattle.programs.proofs.Entries.{entry-refusal}
 use Rattle.runs.specs.declared.Budget.{Budget}
 use Rattle.runs.specs.declared.Budget.the-variants.{Whole, First}
 use Rattle.runs.specs.Walk.{Job, Going, How, ended, returned, unfinished, refusedAt, Outcome, nowhere, just, spentAt, isSpent, oneLess, after, goingOn, thenRest, follow, obey, isSkipped, slashLength, verdictOn, runBlock, reached, walk, blocksFor, callees}
-use Rattle.runs.specs.Run.{firstOf, finishOf, runTable, runBlocks, outcome}
+use Rattle.runs.specs.Run.{firstOf, runTable, runBlocks, outcome}
 use Rattle.claims.specs.Blockwise.{BlockDone, Stand, levels, Turn, refuses, goes, ends, past, inCallee, returning, led, turnBy, verdictIn, turnUnder, turnUnless, turnIn, turnAt, Close, notYet, atEnd, atRefusal, Sofar, afterTurn, turnedUnless, oneMore, more, recordsBy, howSofar, placeAhead, nextSofar, outcomeSofar, tableIn, subsOf, jobFor, standAt, refusedAtOnce, begunBy, begun, firstBlocks}
 use Rattle.claims.specs.Answers.{earlyNumbers, numberedIn}
 use Rattle.claims.proofs.Verdicts.{accepts, call-has-level, main-does-not-return}
 use Rattle.claims.proofs.Turns.{doneWith, withMachine, turn-cases, Over, more-over, records-last, run-holds}
-use Rattle.claims.proofs.Early.{Only, table-number}
 
 -- ---- a program that returns goes on in the one that called it
 
@@ -328,72 +333,113 @@ module _ (job : Job) where
   level-finishes zero = program-finishes zero tt
   level-finishes (suc left) = program-finishes (suc left) (level-finishes left)
 
+-- ---- how a run begins
+
+-- a test and its two outcomes
+pub by-test : {A : Type 0} (P : A → Type 0) (t : Bool) {a b : A} → P a → P b → P (if t then a else b)
+by-test P true x y = x
+by-test P false x y = y
+
+if-ap : {A B : Type 0} (f : A → B) (t : Bool) (a b : A) → (if t then f a else f b) ≡ f (if t then a else b)
+if-ap f true a b = refl
+if-ap f false a b = refl
+
+-- "13, 12, 11; then per opening 1, 8, 7": which refusals come before any block is executed
+abbrev Early : Table → Type 0
+Early t = (r : Refusal) (place : Place) → t ≡ Openings.refusedAt r place → numberedIn earlyNumbers r ≡ true
+
+no-refusal : (main : Program) (subs : List Program) → Early (table main subs)
+no-refusal main subs r place e = let z : _≡_ {A = ℕ} 0 1 = cc in absurd (omega arith)
+
+entered-early :
+    (main : Program) (subs : List Program) (b : Block) (rest : List Program → Table) (e : Entry) → entryOf main subs (openingOf b) ≡ e
+    → ((ps : List Program) → Early (rest ps)) → Early (entered e subs b rest)
+unfolding entered any
+entered-early main subs b rest (Refuses refusal) k on r place e =
+    let same : refusal ≡ r = cc in
+    let n = numberOf r in
+    ap (λ (t : Bool). eqb n 13 || (eqb n 12 || (eqb n 11 || t))) (rw same at (entry-refusal main subs (openingOf b) refusal k))
+    ∙ rw (or-true (eqb n 11), or-true (eqb n 12), or-true (eqb n 13))
+entered-early main subs b rest (Enters n) k on r place e = on (subs ++ programAfter n b ∷ []) r place e
+
+scan-early : (main : Program) (bs : List Block) (subs : List Program) → Early (scan main bs subs)
+unfolding scan scanBlock
+scan-early main [] subs = no-refusal main subs
+scan-early main (b ∷ bs) subs = go (closes b) (opens b) (scan-early main bs)
+  where
+    go :
+        (end opening : Bool) → ((ps : List Program) → Early (scan main bs ps)) → Early (scanBlock end opening main subs b (scan main bs))
+    go true opening on = no-refusal main subs
+    go false true on = entered-early main subs b (scan main bs) (entryOf main subs (openingOf b)) refl on
+    go false false on = on subs
+
+main-early : (o : Opening) (b : Block) (bs : List Block) → Early (mainAs o b bs)
+unfolding mainAs any
+main-early Bad b bs r place e = let same : BadParameter ≡ r = cc in rw (← same)
+main-early (Number n) b bs r place e = scan-early (programAfter n b) bs [] r place e
+
+programs-early : (percent : Block) (bs : List Block) → Early (programsFrom percent bs)
+unfolding programsFrom
+programs-early percent [] = no-refusal (programAfter 0 percent) []
+programs-early percent (b ∷ bs) =
+    by-test Early (opens b) (main-early (openingOf b) b bs) (scan-early (programAfter 0 percent) (b ∷ bs) [])
+
+table-early : (bs : List Block) → Early (tableIn bs)
+unfolding tableIn any
+table-early [] = λ r place e. let same : FirstBlock ≡ r = cc in rw (← same)
+table-early (percent ∷ bs) =
+    by-test Early (closes percent) (programs-early percent bs) (λ r place e. let same : FirstBlock ≡ r = cc in rw (← same))
+
 -- the blocks of the data, by the table of programs
 by-table :
     (s : Setup) (bytes : List ℕ) (room : ℕ) (budget : Budget) (bs : List Block)
     → runBlocks s bytes room budget bs ≡ runTable s bytes bs room budget (tableIn bs)
 unfolding runBlocks runTable tableIn
 by-table s bytes room budget [] = refl
-by-table s bytes room budget (b ∷ bs) = go (closes b)
-  where
-    go :
-        (t : Bool)
-        → (if t then runTable s bytes (b ∷ bs) room budget (programsFrom b bs)
-        else just (refusedAt FirstBlock (record { block = 1; byte = 0 })) (firstOf s))
-        ≡ runTable s bytes (b ∷ bs) room budget
-        (if t then programsFrom b bs else Openings.refusedAt FirstBlock (record { block = 1; byte = 0 }))
-    go true = refl
-    go false = refl
+by-table s bytes room budget (b ∷ bs) = if-ap (runTable s bytes (b ∷ bs) room budget) (closes b) (programsFrom b bs) _
 
-abbrev jobWith : Setup → List ℕ → List Program → Job
-jobWith s bytes subs =
-    record {
-      machine = machineOf (bedOf s);
-      skips = switchOn s;
-      blocks = blocksOf bytes;
-      finish = finishOf bytes (blocksOf bytes);
-      programs = subs;
-    }
+module _ (s : Setup) (bytes : List ℕ) (room : ℕ) (budget : Budget) (P : Sofar → Outcome → Type 0) where
+  abbrev Once : Refusal → Place → Type 0
+  Once r place = P (refusedAtOnce s room r place) (just (refusedAt r place) (firstOf s))
 
--- how a run begins: refused at once, by a number of those that come so, or before the main's first block, under a valid setup
-module _ (s : Setup) (bytes : List ℕ) (room : ℕ) (budget : Budget) (P : Sofar → Outcome → Type 0)
-    (at-once :
-    (r : Refusal) (place : Place) → numberedIn earlyNumbers r ≡ true
-    → P (refusedAtOnce s room r place) (just (refusedAt r place) (firstOf s)))
-    (at-blocks :
-    (blocks : List Block) → validSetup s ≡ true
-    → P (during [] (standAt s room blocks)) (whole (jobFor s bytes) (standAt s room blocks) budget))
-  where
-    table-begins :
-        (t : Table) → validSetup s ≡ true → tableIn (blocksOf bytes) ≡ t → Only earlyNumbers t
-        → P (begunBy t s (blocksOf bytes) room) (runTable s bytes (blocksOf bytes) room budget t)
-    unfolding begunBy runTable jobFor whole unwound standAt subsOf
-    table-begins (Openings.refusedAt r place) v e only = at-once r place (only r place refl)
-    table-begins (table main subs) v e only =
-        subst
-        (λ (ps : List Program).
-        P (during [] (standAt s room (blocksAt (blocksOf bytes) main)))
-        (whole (jobWith s bytes ps) (standAt s room (blocksAt (blocksOf bytes) main)) budget))
-        (ap subsOf e) (at-blocks (blocksAt (blocksOf bytes) main) v)
+  abbrev Tabled : Type 0
+  Tabled =
+      P (begunBy (tableIn (blocksOf bytes)) s (blocksOf bytes) room) (runTable s bytes (blocksOf bytes) room budget (tableIn (blocksOf bytes)))
 
-    pub begun-cases : P (begun s bytes room) (outcome s bytes room budget)
-    unfolding outcome begun any
-    begun-cases = go (ltb 65_535 (length bytes)) (validSetup s) refl
-      where
-        go :
-            (long valid : Bool) → validSetup s ≡ valid
-            → P
-            (if long then refusedAtOnce s room DataTooLong nowhere
-            else if not valid then refusedAtOnce s room BadSetup nowhere
-            else begunBy (tableIn (blocksOf bytes)) s (blocksOf bytes) room)
-            (if long then just (refusedAt DataTooLong nowhere) (firstOf s)
-            else if not valid then just (refusedAt BadSetup nowhere) (firstOf s)
-            else runBlocks s bytes room budget (blocksOf bytes))
-        go true valid v = at-once DataTooLong nowhere refl
-        go false false v = at-once BadSetup nowhere refl
-        go false true v =
-            rw (by-table s bytes room budget (blocksOf bytes))
-            (table-begins (tableIn (blocksOf bytes)) v refl (table-number (blocksOf bytes)))
+  -- too much data, a setup that breaks a limit, or the table of programs under a valid setup
+  pub by-order :
+      Once DataTooLong nowhere → Once BadSetup nowhere → (validSetup s ≡ true → Tabled) → P (begun s bytes room) (outcome s bytes room budget)
+  unfolding outcome begun
+  by-order long bad on = rw (by-table s bytes room budget (blocksOf bytes)) (go (ltb 65_535 (length bytes)) (validSetup s) on)
+    where
+      go :
+          (too valid : Bool) → (valid ≡ true → Tabled)
+          → P
+          (if too then refusedAtOnce s room DataTooLong nowhere
+          else if not valid then refusedAtOnce s room BadSetup nowhere
+          else begunBy (tableIn (blocksOf bytes)) s (blocksOf bytes) room)
+          (if too then just (refusedAt DataTooLong nowhere) (firstOf s)
+          else if not valid then just (refusedAt BadSetup nowhere) (firstOf s)
+          else runTable s bytes (blocksOf bytes) room budget (tableIn (blocksOf bytes)))
+      go true valid next = long
+      go false false next = bad
+      go false true next = next refl
+
+  -- refused at once, by a number of those that come so, or before the main's first block, under a valid setup
+  pub begun-cases :
+      ((r : Refusal) (place : Place) → numberedIn earlyNumbers r ≡ true → Once r place)
+      → ((blocks : List Block) → validSetup s ≡ true
+      → P (during [] (standAt s room blocks)) (whole (jobFor s bytes) (standAt s room blocks) budget))
+      → P (begun s bytes room) (outcome s bytes room budget)
+  unfolding begunBy runTable jobFor whole unwound standAt subsOf any
+  begun-cases at-once at-blocks =
+      by-order (at-once DataTooLong nowhere refl) (at-once BadSetup nowhere refl) (go (tableIn (blocksOf bytes)) refl (table-early (blocksOf bytes)))
+    where
+      go :
+          (t : Table) → tableIn (blocksOf bytes) ≡ t → Early t → validSetup s ≡ true
+          → P (begunBy t s (blocksOf bytes) room) (runTable s bytes (blocksOf bytes) room budget t)
+      go (Openings.refusedAt r place) e early v = at-once r place (early r place refl)
+      go (table main subs) e early v = rw e at (at-blocks (blocksAt (blocksOf bytes) main) v)
 
 pub open-how : (c : Close) → howSofar c ≡ unfinished → c ≡ notYet
 unfolding howSofar

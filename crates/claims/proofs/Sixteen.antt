@@ -1,6 +1,6 @@
 -- Which refusals come at a block, and that 16 never comes: under a valid setup a centre is within 1,100,000,000 of the machine's
 -- zero, and under another no block is reached.
-use Prim.Native.Nat.{ℕ, suc, _+_}
+use Prim.Native.Nat.{ℕ, _+_}
 use mathlib.Core.Path.{_≡_, refl, sym, _∙_, ap}
 use mathlib.Core.Bool.{Bool, true, false, false≢true}
 use mathlib.Core.Logic.{_⊎_, inl, inr}
@@ -26,12 +26,12 @@ use Rattle.blocks.specs.Machine.{machineOf}
 use Rattle.blocks.specs.Reach.{Reachable}
 use Rattle.blocks.specs.Exec.{callsIn}
 use Rattle.runs.specs.declared.Budget.{Budget}
-use Rattle.runs.specs.declared.Budget.the-variants.{Whole, First}
+use Rattle.runs.specs.declared.Budget.the-variants.{Whole}
 use Rattle.runs.specs.Walk.{Job, How, ended, returned, unfinished, refusedAt, Outcome, nowhere, just, slashLength, verdictOn}
 use Rattle.runs.specs.Run.{outcome, answerBy, answerOf}
 use Rattle.runs.specs.Run as Run
 use Rattle.claims.specs.Blockwise.{Stand, levels, refuses, verdictIn, turnAt, notYet, Sofar, more, jobFor, standAt, refusedAtOnce, firstBlocks}
-use Rattle.claims.specs.Answers.{earlyNumbers, blockNumbers, numberedIn, RefusedBlock, RefusedWhere, atOnce, atBlock, OneMore, stays as no-more, refusing, going, ending}
+use Rattle.claims.specs.Answers.{earlyNumbers, blockNumbers, numberedIn, RefusedBlock, RefusedWhere, atOnce, atBlock}
 use Rattle.claims.proofs.Verdicts.{exec-number}
 use Rattle.claims.proofs.Turns.{doneWith, withMachine, turn-cases, led-cases}
 use Rattle.claims.proofs.Runs.{during, begun-cases, once-over, first-reached, reach-kept}

@@ -28,6 +28,8 @@ use Rattle.runs.specs.Walk.{Outcome, nowhere, just}
 use Rattle.runs.specs.Walk as Walk
 use Rattle.runs.specs.Run.{firstOf, runTable, runBlocks, outcome, recordsOf, answerBy, answerOf}
 use Rattle.runs.specs.declared.Budget.{Budget}
+use Rattle.claims.specs.Blockwise.{tableIn}
+use Rattle.claims.proofs.Runs.{by-test, by-order}
 use Rattle.promises.specs.Duplicates.{openingsIn, openingsOf, percentBegins, mainOpens, mostOpenings, Twice, Early, tooLong, badSetup, firstBlock, opening, earlier, NoList, RefusedEarly, allDifferent, InOrder}
 use Rattle.promises.proofs.Openings.{scanned, mainBy, tableBy, programs-openings, taken-more, taken-still, taken-now, entry-duplicate, entry-enters, entry-own, number-some}
 
@@ -237,37 +239,21 @@ module _ (s : Setup) (bytes : List ℕ) (room : ℕ) (budget : Budget) where
         is = rw (r .is);
       }
 
-  stops-first : (os : List Block) → Stops s os (just (Walk.refusedAt FirstBlock (record { block = 1; byte = 0 })) (firstOf s))
-  stops-first os = record { refusal = FirstBlock; place = record { block = 1; byte = 0 }; early = firstBlock; is = refl }
+  stops : {os : List Block} {b : Block} (later : List Block) → Twice os b → openingsOf bytes ≡ os ++ later → Stops s os (outcome s bytes room budget)
+  unfolding openingsOf tableIn runTable
+  stops {os} later twice e =
+      by-order s bytes room budget (λ x o. Stops s os o) (record { refusal = DataTooLong; place = nowhere; early = tooLong; is = refl })
+      (record { refusal = BadSetup; place = nowhere; early = badSetup; is = refl }) (λ v. go (blocksOf bytes) e)
+    where
+      first : Stops s os (just (Walk.refusedAt FirstBlock (record { block = 1; byte = 0 })) (firstOf s))
+      first = record { refusal = FirstBlock; place = record { block = 1; byte = 0 }; early = firstBlock; is = refl }
 
-  module _ {os : List Block} {b : Block} (later : List Block) (twice : Twice os b) where
-    stops-blocks : (bs : List Block) → openingsIn (drop 1 bs) ≡ os ++ later → Stops s os (runBlocks s bytes room budget bs)
-    unfolding runBlocks
-    stops-blocks [] e = stops-first os
-    stops-blocks (percent ∷ bs) e = go (closes percent)
-      where
-        go :
-            (isPercent : Bool)
-            → Stops s os
-            (if isPercent then runTable s bytes (percent ∷ bs) room budget (programsFrom percent bs)
-            else just (Walk.refusedAt FirstBlock (record { block = 1; byte = 0 })) (firstOf s))
-        go true =
-            rw (programs-openings percent bs, e) (stops-table (percent ∷ bs) (table-refused (mainOpens (percent ∷ bs)) percent later twice))
-        go false = stops-first os
-
-    stops : openingsOf bytes ≡ os ++ later → Stops s os (outcome s bytes room budget)
-    unfolding outcome openingsOf
-    stops e = go (ltb 65_535 (length bytes)) (validSetup s)
-      where
-        go :
-            (long valid : Bool)
-            → Stops s os
-            (if long then just (Walk.refusedAt DataTooLong nowhere) (firstOf s)
-            else if not valid then just (Walk.refusedAt BadSetup nowhere) (firstOf s)
-            else runBlocks s bytes room budget (blocksOf bytes))
-        go true valid = record { refusal = DataTooLong; place = nowhere; early = tooLong; is = refl }
-        go false false = record { refusal = BadSetup; place = nowhere; early = badSetup; is = refl }
-        go false true = stops-blocks (blocksOf bytes) e
+      go : (bs : List Block) → openingsIn (drop 1 bs) ≡ os ++ later → Stops s os (runTable s bytes (blocksOf bytes) room budget (tableIn bs))
+      go [] f = first
+      go (percent ∷ bs) f =
+          by-test (λ t. Stops s os (runTable s bytes (blocksOf bytes) room budget t)) (closes percent)
+          (rw (programs-openings percent bs, f) (stops-table (blocksOf bytes) (table-refused (mainOpens (percent ∷ bs)) percent later twice)))
+          first
 
   -- Data with two openings of one number is refused at the second of them or earlier, and no record is made.
   pub two-of-one-number :
