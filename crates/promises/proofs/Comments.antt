@@ -12,7 +12,6 @@ use lib.ListN.{length, drop}
 use Rattle.terms.specs.Terms.{if_then_else_, byte}
 use Rattle.terms.proofs.Laws.{either-left, either-right}
 use Rattle.refusals.specs.declared.Refusal.the-variants.{FirstBlock}
-use Rattle.refusals.specs.declared.Place.{Place}
 use Rattle.lines.specs.Blocks.{Block, beginsWith, noText, closes, opens, isSlashed}
 use Rattle.lines.specs.Comments.{openAfter, insideAt}
 use Rattle.lines.specs.Alike.{Alike, nothing, outside, begins, inside, AlikeBlock, AlikeBlocks}
@@ -23,12 +22,9 @@ use Rattle.programs.specs.Openings.{Table, table, refusedAt, placeOf, known, pr
 use Rattle.programs.proofs.Comments.{programs-alike}
 use Rattle.setup.specs.declared.Setup.{Setup}
 use Rattle.setup.specs.Frame.{bedOf, switchOn}
-use Rattle.settings.specs.declared.State.{State}
-use Rattle.blocks.specs.declared.Control.{Control}
-use Rattle.blocks.specs.declared.Control.the-variants.{On, Call, Back, Stop}
 use Rattle.blocks.specs.Machine.{machineOf}
 use Rattle.blocks.specs.Exec.{Verdict, refused, accepted, exec, execWords, callsIn}
-use Rattle.runs.specs.Walk.{Job, Going, How, ended, returned, unfinished, Outcome, just, after, goingOn, thenRest, follow, obey, isSpent, isSkipped, slashLength, verdictOn, runBlock, reached, walk, blocksFor, callees}
+use Rattle.runs.specs.Walk.{Job, Going, Outcome, just, goingOn, obey, isSpent, isSkipped, slashLength, verdictOn, runBlock, reached, walk, blocksFor, callees}
 use Rattle.runs.specs.Walk as Walk
 use Rattle.runs.specs.Run.{firstOf, finishOf, runTable, runBlocks, outcome, recordsOf, answerOf, standingOf}
 use Rattle.runs.specs.declared.Budget.{Budget}

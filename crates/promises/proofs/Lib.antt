@@ -1,5 +1,4 @@
 pub mod Opened
-pub mod Openings
 pub mod Duplicates
 pub mod Comments
 pub mod ReadBack

@@ -2,13 +2,11 @@
 -- written." The records of every run can be written and read back, they fit the list, and the answer has their count.
 use Prim.Native.Nat.{ℕ, _+_, _≤_}
 use mathlib.Core.Path.{_≡_, refl, _∙_, ap}
-use mathlib.Core.Bool.{true}
 use mathlib.Core.List.{List, [], _++_, map}
 use native.Mathlib.Omega.{arith}
 use lib.ListN.{length, drop, length-map}
 use Rattle.refusals.specs.Answers.{countOf}
 use Rattle.setup.specs.declared.Setup.{Setup}
-use Rattle.setup.specs.Limits.{validSetup}
 use Rattle.setup.specs.Frame.{offset, bedOf}
 use Rattle.setup.proofs.Valid.{fair}
 use Rattle.records.specs.declared.Record.{Record}
