@@ -6,14 +6,13 @@ use mathlib.Core.Bool.{Bool, true, false, false≢true, _&&_}
 use mathlib.Core.Logic.{_⊎_, inl, inr, ⊎-elim}
 use mathlib.Core.List.{List, [], _∷_, _++_, map, append-nil}
 use native.Mathlib.Omega.{arith}
-use lib.Dec.{ltb}
 use lib.ListN.{length, length-map}
 use Rattle.terms.specs.Terms.{if_then_else_}
 use Rattle.terms.proofs.Laws.{both-left, both-right}
 use Rattle.lengths.specs.Units.{len}
 use Rattle.lengths.proofs.Ring.{shift}
 use Rattle.refusals.specs.declared.Refusal.{Refusal}
-use Rattle.refusals.specs.declared.Refusal.the-variants.{LeavesTravel, DataTooLong}
+use Rattle.refusals.specs.declared.Refusal.the-variants.{LeavesTravel}
 use Rattle.refusals.specs.declared.Place.{Place}
 use Rattle.refusals.specs.Numbers.{numberOf}
 use Rattle.refusals.specs.Answers.{refusedWith, reportOf}
@@ -35,15 +34,14 @@ use Rattle.blocks.specs.declared.Control.{Control}
 use Rattle.blocks.specs.declared.Control.the-variants.{On, Call, Back, Stop}
 use Rattle.blocks.specs.Exec.{Verdict, refused, accepted}
 use Rattle.blocks.specs.Reach.{Reachable}
-use Rattle.lines.specs.Blocks.{Block, blocksOf}
-use Rattle.programs.specs.Openings.{Table, table, placeOf}
-use Rattle.programs.specs.Openings as Openings
+use Rattle.lines.specs.Blocks.{Block}
+use Rattle.programs.specs.Openings.{placeOf}
 use Rattle.runs.specs.declared.Budget.{Budget}
 use Rattle.runs.specs.declared.Budget.the-variants.{Whole, First}
 use Rattle.refusals.specs.declared.Answer.the-variants.{Done}
 use Rattle.runs.specs.Walk.{Job, How, unfinished, refusedAt, Outcome, nowhere, verdictOn}
 use Rattle.runs.specs.Run.{firstOf, outcome, recordsOf, answerBy, answerOf, standingOf}
-use Rattle.claims.specs.Blockwise.{BlockDone, Stand, Turn, refuses, past, led, turnBy, verdictIn, turnAt, Close, notYet, atRefusal, Sofar, afterTurn, oneMore, more, recordsBy, howSofar, nextSofar, outcomeSofar, tableIn, jobFor, standAt, refusedAtOnce, begunBy, begun, firstBlocks}
+use Rattle.claims.specs.Blockwise.{BlockDone, Stand, Turn, refuses, past, led, turnBy, verdictIn, turnAt, notYet, atRefusal, Sofar, afterTurn, oneMore, more, recordsBy, howSofar, nextSofar, outcomeSofar, jobFor, begun, firstBlocks}
 use Rattle.claims.specs.Travel.{inTravel}
 use Rattle.claims.specs.Displaced.{displaced, allMoved, standingMoved, stayIn, LeavesFirst}
 use Rattle.claims.proofs.Verdicts.{otherTests, accepts, twin}
@@ -98,7 +96,8 @@ module _ (bed : Bed) (fair : Fair bed) (fits : Record → Bool) (stays : Point �
       inr
       (record {
         block = doneWith b made;
-        adds = λ x. led-cases (λ t. afterTurn x t .executed ≡ x .executed ++ doneWith b made ∷ []) job₁ _ _ (λ ahead callers. refl) refl control;
+        adds = λ x.
+            led-cases (λ t. afterTurn x t .executed ≡ x .executed ++ doneWith b made ∷ []) job₁ _ _ (λ ahead callers. refl) refl control;
         second = λ reach u path.
             k (machineOf bed)
             ∙ ap (λ (w : Verdict). turnBy w job₂ st b bs) (twin bed fair fits stays reach (accepts job₁ st b v) u path)
@@ -119,22 +118,9 @@ module _ (by : Axes) (s : Setup) where
   unfolding firstOf
   first-same = ap (λ (p : Point). firstState p (len (s .feed)) (len (s .speed))) start-same
 
-  stand-same : (room : ℕ) (blocks : List Block) (over : Close) → _≡_ {A = Sofar} (record { executed = []; stand = standAt t room blocks; over = over }) (record { executed = []; stand = standAt s room blocks; over = over })
-  unfolding standAt
-  stand-same room blocks over =
-      ap (λ (q : State). record { executed = []; stand = record { state = q; room = room; ahead = blocks; callers = [] }; over = over }) first-same
-
   begun-same : (bytes : List ℕ) (room : ℕ) → validSetup s ≡ true → validSetup t ≡ true → begun t bytes room ≡ begun s bytes room
-  unfolding begun begunBy refusedAtOnce
-  begun-same bytes room v w = rw (v, w) (go (ltb 65_535 (length bytes)) (tableIn (blocksOf bytes)))
-    where
-      go :
-          (long : Bool) (u : Table)
-          → (if long then refusedAtOnce t room DataTooLong nowhere else begunBy u t (blocksOf bytes) room)
-          ≡ (if long then refusedAtOnce s room DataTooLong nowhere else begunBy u s (blocksOf bytes) room)
-      go true u = stand-same room [] (atRefusal DataTooLong nowhere)
-      go false (Openings.refusedAt r place) = stand-same room [] (atRefusal r place)
-      go false (table main subs) = stand-same room (Openings.blocksAt (blocksOf bytes) main) notYet
+  unfolding begun
+  begun-same bytes room v w = rw (v, w, first-same)
 
   -- records displaced from the first setup's machine units are those of the second
   moved-records : (rs : List Record) → allMoved by (map (recordMoved (offset s)) rs) ≡ map (recordMoved (offset t)) rs
@@ -162,7 +148,9 @@ unfolding afterTurn
 refused-over x r place e k = let f = ap (λ (z : Sofar). z .over) e in let never : _≡_ {A = ℕ} 0 1 = cc in omega arith
 
 -- it ended: it is neither refused nor unfinished
-done-ended : (how : How) (k count : ℕ) → answerBy how k ≡ Done count → (how ≡ unfinished → ⊥) × ((r : Refusal) (place : Place) → how ≡ refusedAt r place → ⊥)
+done-ended :
+    (how : How) (k count : ℕ) → answerBy how k ≡ Done count
+    → (how ≡ unfinished → ⊥) × ((r : Refusal) (place : Place) → how ≡ refusedAt r place → ⊥)
 unfolding answerBy
 done-ended how k count e =
     (λ f. let z : _≡_ {A = ℕ} 0 1 = cc (rw f at e) in omega arith, λ r place f. let z : _≡_ {A = ℕ} 0 1 = cc (rw f at e) in omega arith)
@@ -201,7 +189,8 @@ module _ (by : Axes) (s : Setup) (bytes : List ℕ) (room : ℕ)
         (b : Budget) (k : ℕ) → Suits b k (x k) → stayIn second (allMoved by (recordsOf s bytes room b)) ≡ stays k
     unfolding recordsOf outcomeSofar
     gives-stays b k suits =
-        moved-stays by s (outcome s bytes room b .made) ∙ ap (λ (o : Outcome). there (startOf second) (o .made)) (gives s bytes room k b suits)
+        moved-stays by s (outcome s bytes room b .made)
+        ∙ ap (λ (o : Outcome). there (startOf second) (o .made)) (gives s bytes room k b suits)
 
     never-refused : (k : ℕ) → k ≤ n → (r : Refusal) (place : Place) → x k .over ≡ atRefusal r place → ⊥
     unfolding answerOf howSofar
@@ -253,7 +242,8 @@ module _ (by : Axes) (s : Setup) (bytes : List ℕ) (room : ℕ)
               on = λ alike path. there-too alike ∙ turn₂ ∙ ap (afterTurn (x k)) (d .second (reached k alike) true path) ∙ sym turn₁;
               off = λ alike path. (d .block, next, there-too alike ∙ turn₂ ∙ ap (afterTurn (x k)) (d .second (reached k alike) false path));
             })
-            (twin-turn (bedOf second) (Valid.fair second w six) (machineOf (bedOf s) .fits) (machineOf (bedOf s) .stays) (jobFor s bytes) (x k .stand))
+            (twin-turn (bedOf second) (Valid.fair second w six) (machineOf (bedOf s) .fits) (machineOf (bedOf s) .stays) (jobFor s bytes)
+            (x k .stand))
         go (inr over) =
             let same = now ∙ one-over (jobFor s bytes) (x k) over in
             record {
@@ -310,7 +300,8 @@ module _ (by : Axes) (s : Setup) (bytes : List ℕ) (room : ℕ)
 
     -- where the second setup's run is refused at the first block that leaves the travel
     leaves-first :
-        (m : ℕ) → suc m ≤ n → stays m ≡ true → stays (suc m) ≡ false → (block : BlockDone) → x (suc m) .executed ≡ x m .executed ++ block ∷ []
+        (m : ℕ) → suc m ≤ n → stays m ≡ true → stays (suc m) ≡ false
+        → (block : BlockDone) → x (suc m) .executed ≡ x m .executed ++ block ∷ []
         → y (suc m) ≡ afterTurn (x m) (refuses LeavesTravel (placeOf (block .block))) → LeavesFirst by s bytes room budget
     unfolding answerOf recordsOf answerBy standingOf outcomeSofar howSofar nextSofar afterTurn
     leaves-first m few stay leave block next refused-there =

@@ -141,7 +141,8 @@ module _ (job : Job) where
     left = levels (st .callers)
 
     abbrev over-here : How → Place → Type 0
-    over-here how next = out (record { how = how; made = []; last = st .state; next = next }) ≡ record { how = how; made = []; last = st .state; next = next }
+    over-here how next =
+        let o : Outcome = record { how = how; made = []; last = st .state; next = next } in out o ≡ o
 
     refused-out : (r : Refusal) (place : Place) → over-here (refusedAt r place) nowhere
     unfolding bound after thenRest
@@ -299,7 +300,8 @@ module _ (job : Job) where
 
   led-finishes :
       (left : ℕ) (bs : List Block) (callers : List (List Block)) (control : Control) (s : State) (room : ℕ) (d : BlockDone)
-      → levels callers ≡ left → ((n : ℕ) → control ≡ Call n → eqb left 0 ≡ false) → Below left → Place-finishes bs callers → CallersFinish callers
+      → levels callers ≡ left → ((n : ℕ) → control ≡ Call n → eqb left 0 ≡ false)
+      → Below left → Place-finishes bs callers → CallersFinish callers
       → OnFinishes (led control job (record { state = s; room = room; ahead = bs; callers = callers }) d)
   unfolding led inCallee returning
   led-finishes left bs callers On s room d l deep below here above = here s room
@@ -400,24 +402,26 @@ by-table s bytes room budget (b ∷ bs) = if-ap (runTable s bytes (b ∷ bs) roo
 
 module _ (s : Setup) (bytes : List ℕ) (room : ℕ) (budget : Budget) (P : Sofar → Outcome → Type 0) where
   abbrev Once : Refusal → Place → Type 0
-  Once r place = P (refusedAtOnce s room r place) (just (refusedAt r place) (firstOf s))
+  Once r place = P (refusedAtOnce (firstOf s) room r place) (just (refusedAt r place) (firstOf s))
 
   abbrev Tabled : Type 0
   Tabled =
-      P (begunBy (tableIn (blocksOf bytes)) s (blocksOf bytes) room) (runTable s bytes (blocksOf bytes) room budget (tableIn (blocksOf bytes)))
+      let t : Table = tableIn (blocksOf bytes) in
+      P (begunBy t (firstOf s) (blocksOf bytes) room) (runTable s bytes (blocksOf bytes) room budget t)
 
   -- too much data, a setup that breaks a limit, or the table of programs under a valid setup
   pub by-order :
-      Once DataTooLong nowhere → Once BadSetup nowhere → (validSetup s ≡ true → Tabled) → P (begun s bytes room) (outcome s bytes room budget)
+      Once DataTooLong nowhere → Once BadSetup nowhere → (validSetup s ≡ true → Tabled)
+      → P (begun s bytes room) (outcome s bytes room budget)
   unfolding outcome begun
   by-order long bad on = rw (by-table s bytes room budget (blocksOf bytes)) (go (ltb 65_535 (length bytes)) (validSetup s) on)
     where
       go :
           (too valid : Bool) → (valid ≡ true → Tabled)
           → P
-          (if too then refusedAtOnce s room DataTooLong nowhere
-          else if not valid then refusedAtOnce s room BadSetup nowhere
-          else begunBy (tableIn (blocksOf bytes)) s (blocksOf bytes) room)
+          (if too then refusedAtOnce (firstOf s) room DataTooLong nowhere
+          else if not valid then refusedAtOnce (firstOf s) room BadSetup nowhere
+          else begunBy (tableIn (blocksOf bytes)) (firstOf s) (blocksOf bytes) room)
           (if too then just (refusedAt DataTooLong nowhere) (firstOf s)
           else if not valid then just (refusedAt BadSetup nowhere) (firstOf s)
           else runTable s bytes (blocksOf bytes) room budget (tableIn (blocksOf bytes)))
@@ -429,15 +433,16 @@ module _ (s : Setup) (bytes : List ℕ) (room : ℕ) (budget : Budget) (P : Sofa
   pub begun-cases :
       ((r : Refusal) (place : Place) → numberedIn earlyNumbers r ≡ true → Once r place)
       → ((blocks : List Block) → validSetup s ≡ true
-      → P (during [] (standAt s room blocks)) (whole (jobFor s bytes) (standAt s room blocks) budget))
+      → P (during [] (standAt (firstOf s) room blocks)) (whole (jobFor s bytes) (standAt (firstOf s) room blocks) budget))
       → P (begun s bytes room) (outcome s bytes room budget)
   unfolding begunBy runTable jobFor whole unwound standAt subsOf any
   begun-cases at-once at-blocks =
-      by-order (at-once DataTooLong nowhere refl) (at-once BadSetup nowhere refl) (go (tableIn (blocksOf bytes)) refl (table-early (blocksOf bytes)))
+      by-order (at-once DataTooLong nowhere refl) (at-once BadSetup nowhere refl)
+      (go (tableIn (blocksOf bytes)) refl (table-early (blocksOf bytes)))
     where
       go :
           (t : Table) → tableIn (blocksOf bytes) ≡ t → Early t → validSetup s ≡ true
-          → P (begunBy t s (blocksOf bytes) room) (runTable s bytes (blocksOf bytes) room budget t)
+          → P (begunBy t (firstOf s) (blocksOf bytes) room) (runTable s bytes (blocksOf bytes) room budget t)
       go (Openings.refusedAt r place) e early v = at-once r place (early r place refl)
       go (table main subs) e early v = rw e at (at-blocks (blocksAt (blocksOf bytes) main) v)
 
@@ -449,9 +454,11 @@ open-how (atRefusal r place) e = let z : _≡_ {A = ℕ} 0 1 = cc in absurd (ome
 
 module _ (s : Setup) (bytes : List ℕ) (room : ℕ) where
   -- a run that is refused before its first block stays so
-  pub once-over : (n : ℕ) (r : Refusal) (place : Place) → more (jobFor s bytes) n (refusedAtOnce s room r place) ≡ refusedAtOnce s room r place
+  pub once-over :
+      (n : ℕ) (r : Refusal) (place : Place)
+      → more (jobFor s bytes) n (refusedAtOnce (firstOf s) room r place) ≡ refusedAtOnce (firstOf s) room r place
   unfolding refusedAtOnce
-  once-over n r place = more-over (jobFor s bytes) n (refusedAtOnce s room r place) (λ e. let z : _≡_ {A = ℕ} 0 1 = cc in omega arith)
+  once-over n r place = more-over (jobFor s bytes) n _ (λ e. let z : _≡_ {A = ℕ} 0 1 = cc in omega arith)
 
   -- with a budget that suits n, the first n executed blocks
   pub gives :
@@ -462,7 +469,7 @@ module _ (s : Setup) (bytes : List ℕ) (room : ℕ) where
       begun-cases s bytes room budget
       (λ x o. Suits budget n (more (jobFor s bytes) n x) → o ≡ outcomeSofar (jobFor s bytes) (more (jobFor s bytes) n x))
       (λ r place early c. sym (ap (outcomeSofar (jobFor s bytes)) (once-over n r place)))
-      (λ blocks v c. counted (jobFor s bytes) n budget [] (standAt s room blocks) c)
+      (λ blocks v c. counted (jobFor s bytes) n budget [] (standAt (firstOf s) room blocks) c)
 
   pub first-n : (n : ℕ) → outcome s bytes room (First n) ≡ outcomeSofar (jobFor s bytes) (firstBlocks s bytes room n)
   first-n n = gives n (First n) refl
@@ -481,7 +488,8 @@ module _ (s : Setup) (bytes : List ℕ) (room : ℕ) where
   how-first n = ap (λ (o : Outcome). o .how) (first-n n)
 
   -- before the first block nothing is executed, and the settings are the first ones
-  pub begun-with : (Q : List BlockDone → State → Type 0) → Q [] (firstOf s) → Q (begun s bytes room .executed) (begun s bytes room .stand .state)
+  pub begun-with :
+      (Q : List BlockDone → State → Type 0) → Q [] (firstOf s) → Q (begun s bytes room .executed) (begun s bytes room .stand .state)
   unfolding refusedAtOnce standAt
   begun-with Q first =
       begun-cases s bytes room Whole (λ x o. Q (x .executed) (x .stand .state)) (λ r place early. first) (λ blocks v. first)

@@ -28,8 +28,7 @@ use Rattle.blocks.specs.Exec.{callsIn}
 use Rattle.runs.specs.declared.Budget.{Budget}
 use Rattle.runs.specs.declared.Budget.the-variants.{Whole}
 use Rattle.runs.specs.Walk.{Job, How, ended, returned, unfinished, refusedAt, Outcome, nowhere, just, slashLength, verdictOn}
-use Rattle.runs.specs.Run.{outcome, answerBy, answerOf}
-use Rattle.runs.specs.Run as Run
+use Rattle.runs.specs.Run.{firstOf, outcome, answerBy, answerOf}
 use Rattle.claims.specs.Blockwise.{Stand, levels, refuses, verdictIn, turnAt, notYet, Sofar, more, jobFor, standAt, refusedAtOnce, firstBlocks}
 use Rattle.claims.specs.Answers.{earlyNumbers, blockNumbers, numberedIn, RefusedBlock, RefusedWhere, atOnce, atBlock}
 use Rattle.claims.proofs.Verdicts.{exec-number}
@@ -95,8 +94,8 @@ module _ (s : Setup) (six : length (s .origins) ≡ 6) (bytes : List ℕ) (room 
       let never : _≡_ {A = ℕ} 0 1 = cc in
       absurd (omega arith))
       (λ blocks v open′.
-      turn-number (bedOf s) (Valid.fair s v six) (jobFor s bytes) (more (jobFor s bytes) n (during [] (standAt s room blocks)) .stand)
-      (reach-kept (bedOf s) (Valid.fair s v six) (jobFor s bytes) n (during [] (standAt s room blocks)) (first-reached s v)))
+      turn-number (bedOf s) (Valid.fair s v six) (jobFor s bytes) (more (jobFor s bytes) n (during [] (standAt (firstOf s) room blocks)) .stand)
+      (reach-kept (bedOf s) (Valid.fair s v six) (jobFor s bytes) n (during [] (standAt (firstOf s) room blocks)) (first-reached s v)))
 
   -- at a block it is one of those that come there
   pub block-refusals :
@@ -135,7 +134,7 @@ invalid-setup s bytes room budget e = rw e (go (ltb 65_535 (length bytes)))
   where
     by : Bool → Outcome
     by long =
-        if long then just (refusedAt DataTooLong nowhere) (Run.firstOf s) else just (refusedAt BadSetup nowhere) (Run.firstOf s)
+        if long then just (refusedAt DataTooLong nowhere) (firstOf s) else just (refusedAt BadSetup nowhere) (firstOf s)
 
     go : (long : Bool) → reportOf (answerBy (by long .how) (length (by long .made))) ≡ refusedWith (if long then 13 else 12) nowhere 0
     go true = refl

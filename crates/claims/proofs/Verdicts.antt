@@ -124,7 +124,8 @@ no-return-words before (w ∷ ws) e = go (mayNotStand true before w) (isMisc w) 
     go true misc rest b m e = let z : _≡_ {A = ℕ} 0 1 = cc in absurd (omega arith)
     go false false rest b m e = rest e
     go false true rest b m e =
-        let its = either-right (not (isKnown (w .letter)) || repeats before w || isG w && badG before w) (isMisc w && badM true before w) b in
+        let others = not (isKnown (w .letter)) || repeats before w || isG w && badG before w in
+        let its = either-right others (isMisc w && badM true before w) b in
         let bad : badM true before w ≡ false = rw m at its in
         let alone = standsAlone (miscIn w) && any isG before in
         either-right (isNoM (miscIn w)) (isM 99 (miscIn w)) (either-left (isNoM (miscIn w) || isM 99 (miscIn w)) alone bad)
@@ -166,7 +167,8 @@ module _
         let all-made : made ≡ madeBy machine s said = cc in
         let state : t ≡ settled machine s said = cc in (
           ap (pathStaysIn (machine .stays) (s .at)) all-made
-              ∙ not-false _ (start-none start LeavesTravel (not (pathStaysIn (machine .stays) (s .at) (madeBy machine s said))) (a .last .1 .0)),
+              ∙ not-false _
+              (start-none start LeavesTravel (not (pathStaysIn (machine .stays) (s .at) (madeBy machine s said))) (a .last .1 .0)),
           ap (λ (u : State). u .at) state ∙ ap (endOf (s .at)) (sym all-made),
         )
 
@@ -200,7 +202,8 @@ module _ (bed : Bed) (fair : Fair bed) where
   pub twin :
       (fits : Record → Bool) (stays : Point → Record → Bool) {calls : Calls} {room : ℕ} {s : State} {start at : ℕ} {text : List ℕ}
       {t : State} {c : Control} {made : List Record} → Reachable bed s
-      → Accepts (otherTests bed fits stays) calls room s start at text t c made → (u : Bool) → pathStaysIn (machineOf bed .stays) (s .at) made ≡ u
+      → Accepts (otherTests bed fits stays) calls room s start at text t c made
+      → (u : Bool) → pathStaysIn (machineOf bed .stays) (s .at) made ≡ u
       → exec (machineOf bed) calls room s start at text
       ≡ (if u then accepted t c made else refused (record { refusal = LeavesTravel; byte = start }))
   unfolding exec execWords judged unless blames settled saidBy madeBy movesIn
@@ -248,7 +251,8 @@ module _ (bed : Bed) (fair : Fair bed) where
   no-blame blame e = let z : _≡_ {A = ℕ} 0 1 = cc in absurd (omega arith)
 
   words-blame :
-      (calls : Calls) (room : ℕ) (s : State) (start : ℕ) → Reachable bed s → (ws : List Word) (b : Said) → saidBy (machineOf bed) (s .modes) ws ≡ b
+      (calls : Calls) (room : ℕ) (s : State) (start : ℕ) → Reachable bed s
+      → (ws : List Word) (b : Said) → saidBy (machineOf bed) (s .modes) ws ≡ b
       → Blames (firstOf (blames (machineOf bed) calls room s start ws b))
   unfolding blames any
   words-blame calls room s start state ws b e =
@@ -272,7 +276,8 @@ module _ (bed : Bed) (fair : Fair bed) where
   exec-number calls room s start at text blame state = go (wordsOf at text)
     where
       by :
-          (o : Option Blame) (v : Verdict) {t : State} {c : Control} {made : List Record} → v ≡ accepted t c made → Blames o → unless o v ≡ refused blame
+          (o : Option Blame) (v : Verdict) {t : State} {c : Control} {made : List Record}
+          → v ≡ accepted t c made → Blames o → unless o v ≡ refused blame
           → numberedIn blockNumbers (blame .refusal) ≡ true
       by none v a h e = let z : _≡_ {A = ℕ} 0 1 = cc in absurd (omega arith)
       by (some other) v a h e = h blame (cc)

@@ -182,24 +182,24 @@ jobFor s bytes =
     }
 
 -- the stand before the first block, "all four levels left"
-unfoldable pub standAt : Setup → ℕ → List Block → Stand
-standAt s room blocks = record { state = firstOf s; room = room; ahead = blocks; callers = [] }
+unfoldable pub standAt : State → ℕ → List Block → Stand
+standAt first room blocks = record { state = first; room = room; ahead = blocks; callers = [] }
 
-unfoldable pub refusedAtOnce : Setup → ℕ → Refusal → Place → Sofar
-refusedAtOnce s room refusal place =
-    record { executed = []; stand = standAt s room []; over = atRefusal refusal place }
+unfoldable pub refusedAtOnce : State → ℕ → Refusal → Place → Sofar
+refusedAtOnce first room refusal place =
+    record { executed = []; stand = standAt first room []; over = atRefusal refusal place }
 
-unfoldable pub begunBy : Table → Setup → List Block → ℕ → Sofar
-begunBy (Openings.refusedAt refusal place) s bs room = refusedAtOnce s room refusal place
-begunBy (table main subs) s bs room =
-    record { executed = []; stand = standAt s room (blocksAt bs main); over = notYet }
+unfoldable pub begunBy : Table → State → List Block → ℕ → Sofar
+begunBy (Openings.refusedAt refusal place) first bs room = refusedAtOnce first room refusal place
+begunBy (table main subs) first bs room =
+    record { executed = []; stand = standAt first room (blocksAt bs main); over = notYet }
 
 -- "Refusals 11 to 13 and of openings come at n = 0 too."
 unfoldable pub begun : Setup → List ℕ → ℕ → Sofar
 begun s bytes room =
-    if ltb 65_535 (length bytes) then refusedAtOnce s room DataTooLong nowhere
-    else if not (validSetup s) then refusedAtOnce s room BadSetup nowhere
-    else begunBy (tableIn (blocksOf bytes)) s (blocksOf bytes) room
+    if ltb 65_535 (length bytes) then refusedAtOnce (firstOf s) room DataTooLong nowhere
+    else if not (validSetup s) then refusedAtOnce (firstOf s) room BadSetup nowhere
+    else begunBy (tableIn (blocksOf bytes)) (firstOf s) (blocksOf bytes) room
 
 -- the first n executed blocks of a data set under a setup
 unfoldable pub firstBlocks : Setup → List ℕ → ℕ → ℕ → Sofar

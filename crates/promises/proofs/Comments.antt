@@ -48,11 +48,15 @@ module _ {a b : Block} (same : AlikeBlock a b) where
   unfolding slashLength beginsWith
   past-slash = go (same .text)
     where
-      past : {b : ℕ} {s u : List ℕ} (t : Bool) → Alike false (b ∷ s) (b ∷ u) → Alike false s u → Alike false (drop (if t then 1 else 0) (b ∷ s)) (drop (if t then 1 else 0) (b ∷ u))
+      past :
+          {b : ℕ} {s u : List ℕ} (t : Bool) → Alike false (b ∷ s) (b ∷ u) → Alike false s u
+          → Alike false (drop (if t then 1 else 0) (b ∷ s)) (drop (if t then 1 else 0) (b ∷ u))
       past true whole rest = rest
       past false whole rest = whole
 
-      go : {s u : List ℕ} → Alike false s u → Alike false (drop (if beginsWith 47 s then 1 else 0) s) (drop (if beginsWith 47 s then 1 else 0) u)
+      go :
+          {s u : List ℕ} → Alike false s u
+          → Alike false (drop (if beginsWith 47 s then 1 else 0) s) (drop (if beginsWith 47 s then 1 else 0) u)
       go nothing = nothing
       go (outside {b} f r) = past (eqb b 47) (outside f r) r
       go (begins r) = begins r
@@ -74,7 +78,8 @@ verdict-alike :
 unfolding verdictOn exec
 verdict-alike {p} {q} {a} {b} jobs same left g =
     rw (← slash-alike same, ← same .start, ← jobs .machine, ← jobs .programs)
-    (ap (execWords (p .machine) (callsIn (p .programs) left) (g .room) (g .state) (a .start)) (words-alike (past-slash same) (a .start + slashLength a)))
+    (ap (execWords (p .machine) (callsIn (p .programs) left) (g .room) (g .state) (a .start))
+    (words-alike (past-slash same) (a .start + slashLength a)))
 
 -- ---- the walk
 

@@ -81,7 +81,8 @@ opens-closes b e = go (b .text) e
     go (c ∷ []) f = rw (eqb-true c 79 f)
     go (c ∷ d ∷ text) f = refl
 
-programs-openings : (percent : Block) (bs : List Block) → programsFrom percent bs ≡ tableBy (mainOpens (percent ∷ bs)) percent (openingsIn bs)
+programs-openings :
+    (percent : Block) (bs : List Block) → programsFrom percent bs ≡ tableBy (mainOpens (percent ∷ bs)) percent (openingsIn bs)
 unfolding programsFrom mainOpens tableBy withBlock openingsIn scanned mainAs mainBy
 programs-openings percent [] = refl
 programs-openings percent (b ∷ bs) = go (opens b) refl
@@ -135,7 +136,8 @@ module _ (main : Program) (subs : List Program) where
 -- "value 1 to 9999": no opening has the number 0, which stands for a main program without an opening
 number-some : (b : Block) (n : ℕ) → openingOf b ≡ Number n → eqb n 0 ≡ false
 unfolding openingOf numberAfterO
-number-some b n e = go (fromTo 1 8 (length (run isDigit text))) (leb 1 value) (leb value 9_999) (onlyGaps (drop (length (run isDigit text)) text)) refl e
+number-some b n e =
+    go (fromTo 1 8 (length (run isDigit text))) (leb 1 value) (leb value 9_999) (onlyGaps (drop (length (run isDigit text)) text)) refl e
   where
     text : List ℕ
     text = drop 1 (b .text)
@@ -207,7 +209,9 @@ module _ (main : Program) (b : Block) (n : ℕ) (number : openingOf b ≡ Number
   step c os subs (Enters m) e on = rw e (refusing-later c (on m refl))
 
   -- a number that is taken is refused at its opening, where no opening before it is
-  taken-refused : (os : List Block) (subs : List Program) → isTaken main subs n ≡ true → Refusing (os ++ b ∷ []) (scanned main ((os ++ b ∷ []) ++ later) subs)
+  taken-refused :
+      (os : List Block) (subs : List Program) → isTaken main subs n ≡ true
+      → Refusing (os ++ b ∷ []) (scanned main ((os ++ b ∷ []) ++ later) subs)
   taken-refused [] subs e =
       step b [] subs (Refuses DuplicateNumber) (entry-duplicate main subs (openingOf b) n number e)
       (λ m f. let never : _≡_ {A = ℕ} 0 1 = cc in absurd (omega arith))
@@ -286,7 +290,8 @@ module _ (b : Block) (n : ℕ) (number : openingOf b ≡ Number n) (later : List
       let rest : map openingOf os ≡ map Number ns = cc in
       let new : isTaken main subs m ≡ false = either-left (isTaken main subs m) (any (isTaken main subs) ns) f in
       let others : any (isTaken main subs) ns ≡ false = either-right (isTaken main subs m) (any (isTaken main subs) ns) f in
-      let differ : any (λ k. eqb k m) ns ≡ false = not-true (any (λ k. eqb k m) ns) (both-left (not (any (λ k. eqb k m) ns)) (allDifferent ns) d) in
+      let differ : any (λ k. eqb k m) ns ≡ false =
+      not-true (any (λ k. eqb k m) ns) (both-left (not (any (λ k. eqb k m) ns)) (allDifferent ns) d) in
       let taken : (isTaken main (subs ++ p ∷ []) n || any (eqb n) ns) ≡ true =
       rw (taken-more main subs p n) (or-assoc (isTaken main subs n) (eqb n m) (any (eqb n) ns) ∙ e) in
       rw (entry-enters main subs (openingOf c) m is new (omega arith))
@@ -325,7 +330,9 @@ record Stops (s : Setup) (os : List Block) (o : Outcome) : Type 0 where
   is : o ≡ just (Walk.refusedAt refusal place) (firstOf s)
 
 module _ (s : Setup) (bytes : List ℕ) (room : ℕ) (budget : Budget) where
-  no-list : (refusal : Refusal) (place : Place) → outcome s bytes room budget ≡ just (Walk.refusedAt refusal place) (firstOf s) → NoList s bytes room budget (numberOf refusal) place
+  no-list :
+      (refusal : Refusal) (place : Place) → outcome s bytes room budget ≡ just (Walk.refusedAt refusal place) (firstOf s)
+      → NoList s bytes room budget (numberOf refusal) place
   unfolding answerOf answerBy recordsOf
   no-list refusal place e = record { answer = rw e; records = rw e }
 
@@ -335,7 +342,9 @@ module _ (s : Setup) (bytes : List ℕ) (room : ℕ) (budget : Budget) where
       let early = opening (r .before) (r .at) (r .after) (r .are) (r .reason) in
       record { refusal = r .refusal; place = placeOf (r .at); early = early; is = rw (r .is) }
 
-  stops : {os : List Block} {b : Block} (later : List Block) → Twice os b → openingsOf bytes ≡ os ++ later → Stops s os (outcome s bytes room budget)
+  stops :
+      {os : List Block} {b : Block} (later : List Block) → Twice os b → openingsOf bytes ≡ os ++ later
+      → Stops s os (outcome s bytes room budget)
   unfolding openingsOf tableIn runTable
   stops {os} later twice e =
       by-order s bytes room budget (λ x o. Stops s os o) (record { refusal = DataTooLong; place = nowhere; early = tooLong; is = refl })
@@ -348,7 +357,8 @@ module _ (s : Setup) (bytes : List ℕ) (room : ℕ) (budget : Budget) where
       go [] f = first
       go (percent ∷ bs) f =
           by-test (λ t. Stops s os (runTable s bytes (blocksOf bytes) room budget t)) (closes percent)
-          (rw (programs-openings percent bs, f) (stops-table (blocksOf bytes) (table-refused (mainOpens (percent ∷ bs)) percent later twice)))
+          (rw (programs-openings percent bs, f)
+          (stops-table (blocksOf bytes) (table-refused (mainOpens (percent ∷ bs)) percent later twice)))
           first
 
   -- Data with two openings of one number is refused at the second of them or earlier, and no record is made.

@@ -21,7 +21,7 @@ use Rattle.settings.specs.declared.State.{State}
 use Rattle.blocks.specs.Reach.{Reachable}
 use Rattle.runs.specs.Walk.{How, ended, returned, unfinished}
 use Rattle.runs.specs.Walk as Walk
-use Rattle.runs.specs.Run.{outcome, recordsOf, answerBy, answerOf}
+use Rattle.runs.specs.Run.{firstOf, outcome, recordsOf, answerBy, answerOf}
 use Rattle.runs.specs.declared.Budget.{Budget}
 use Rattle.claims.specs.Blockwise.{notYet, more, recordsBy, outcomeSofar, jobFor, standAt, refusedAtOnce, firstBlocks}
 use Rattle.claims.proofs.Turns.{run-holds}
@@ -59,7 +59,7 @@ fine-outcome s six bytes room budget =
       short = short-both (offset s) rs made (h .short) (k .short);
       fits = omega (arith, room-append rs made, k .fits, h .fits);
     })
-    (n .0) (record { executed = []; stand = standAt s room blocks; over = notYet })
+    (n .0) (record { executed = []; stand = standAt (firstOf s) room blocks; over = notYet })
     (record { state = first-reached s v; short = tt; fits = omega arith }) in
     record { short = k .short; fits = omega (arith, k .fits) }))
 
