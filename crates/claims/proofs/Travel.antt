@@ -1,96 +1,172 @@
 -- "No recorded path leaves the travel, as document 01 measures it": every motion record of every run, finished or not.
-use Prim.Native.Nat.{ℕ, _+_}
+use Prim.Native.Nat.{ℕ}
 use mathlib.Core.Path.{_≡_, refl, sym, _∙_, ap, ap₂}
-use mathlib.Core.Bool.{Bool, true, _&&_}
-use mathlib.Core.List.{List, [], _∷_, _++_, map}
-use lib.ListN.{drop}
+use mathlib.Core.Bool.{Bool, true, _&&_, false, and-assoc}
+use mathlib.Core.List.{List, map, [], _∷_, _++_}
+use native.Mathlib.Omega.{arith}
+use lib.IntN.{ℤ, _+ℤ_, _-ℤ_}
+use lib.Signed.{leZ}
 use Rattle.points.specs.declared.Point.{Point}
 use Rattle.points.specs.declared.Travel.{Travel}
-use Rattle.points.specs.Points.{moved}
+use Rattle.points.specs.Points.{moved, movedBack, inside}
 use Rattle.setup.specs.declared.Setup.{Setup}
 use Rattle.setup.specs.Frame.{pointOf, offset, startOf, travelOf, bedOf}
 use Rattle.records.specs.declared.Record.{Record}
-use Rattle.records.specs.Path.{pathOf, endOf, pathStaysIn, recordMoved}
-use Rattle.settings.specs.declared.State.{State}
+use Rattle.records.specs.Path.{pathOf, endOf, pathStaysIn, recordMoved, pathEnd, arcMoved}
 use Rattle.settings.specs.Settings.{firstState, stateMoved}
-use Rattle.arcs.specs.Arcs.{pathStays}
+use Rattle.arcs.specs.Arcs.{pathStays, distance², radius², notAbove, notBelow, coordinateInside, extremeInside, extremesInside, leftWay, rightWay, arcStays}
 use Rattle.blocks.specs.Machine.{machineOf}
-use Rattle.blocks.specs.declared.Control.{Control}
-use Rattle.blocks.specs.Exec.{accepted, callsIn}
-use Rattle.lines.specs.Blocks.{Block}
 use Rattle.runs.specs.declared.Budget.{Budget}
-use Rattle.runs.specs.Walk.{Job, Outcome, slashLength, verdictOn}
 use Rattle.runs.specs.Run.{firstOf, outcome, recordsOf, standingOf}
-use Rattle.claims.specs.Blockwise.{BlockDone, Stand, verdictIn, Sofar, more, recordsBy, outcomeSofar, jobFor, begun, firstBlocks}
+use Rattle.lengths.proofs.Laws.{view, sum-bal, le-shift}
+use Rattle.lengths.proofs.Ring.{shift, same, var, _⊞_, _⊟_}
+use Rattle.records.specs.declared.Arc.{Arc}
+use Rattle.records.specs.declared.Record.the-variants.{RP, LN, AR, AL, DW, SP, SO, PA, EN}
+use Rattle.settings.specs.declared.State.{State}
+use Rattle.arcs.specs.Turning.{direction}
+use Rattle.centres.proofs.Displaced.{flat-moved}
+use Rattle.claims.specs.Blockwise.{recordsBy, outcomeSofar, jobFor, begun, firstBlocks}
 use Rattle.claims.specs.Travel.{machineTravel, inTravel}
-use Rattle.claims.proofs.Verdicts.{accepted-path}
-use Rattle.claims.proofs.Turns.{doneWith, run-holds}
-use Rattle.claims.proofs.Counted.{records-last}
-use Rattle.claims.proofs.Paths.{end-both, stays-both}
-use Rattle.claims.proofs.Displacing.{travelMoved, there-and-back, paths-same, ends-moved}
+use Rattle.claims.proofs.Verdicts.{accepts, accepted-path}
+use Rattle.claims.proofs.Turns.{run-holds}
 use Rattle.claims.proofs.Runs.{gives, suited, begun-with}
 
--- the blocks executed so far stay in the travel, and the tool stands where their records end
-pub record Stayed (stays : Point → Record → Bool) (start : Point) (ds : List BlockDone) (s : State) : Type 0 where
-  pub path : pathStaysIn stays start (recordsBy ds) ≡ true
-  pub at : s .at ≡ endOf start (recordsBy ds)
+-- ---- displacing a path and the travel alike changes no comparison
 
-one-stayed :
-    (stays : Point → Record → Bool) (start : Point) (ds : List BlockDone) (st : Stand) (b : Block) (s : State) (made : List Record)
-    → pathStaysIn stays (st .state .at) made ≡ true → s .at ≡ endOf (st .state .at) made
-    → Stayed stays start ds (st .state) → Stayed stays start (ds ++ doneWith b st made ∷ []) s
-one-stayed stays start ds st b s made path at h =
-    let all : recordsBy (ds ++ doneWith b st made ∷ []) ≡ recordsBy ds ++ made = records-last ds (doneWith b st made) in
-    record {
-      path =
-          ap (pathStaysIn stays start) all
-          ∙ stays-both stays start (recordsBy ds) made
-          ∙ ap₂ _&&_ (h .path) (ap (λ (p : Point). pathStaysIn stays p made) (sym (h .at)) ∙ path);
-      at =
-          at
-          ∙ ap (λ (p : Point). endOf p made) (h .at)
-          ∙ sym (end-both start (recordsBy ds) made)
-          ∙ ap (endOf start) (sym all);
-    }
+le-same : (a b d : ℤ) → leZ (a +ℤ d) (b +ℤ d) ≡ leZ a b
+le-same a b d = go (leZ a b) refl
+  where
+    go : (t : Bool) → leZ a b ≡ t → leZ (a +ℤ d) (b +ℤ d) ≡ t
+    go true e = le-shift a b d e
+    go false e = omega (arith, view, sum-bal a d, sum-bal b d)
 
-block-stayed :
-    (job : Job) (start : Point) (ds : List BlockDone) (st : Stand) (b : Block) (s : State) (control : Control)
-    (made : List Record)
-    → verdictIn job st b ≡ accepted s control made → Stayed (job .machine .stays) start ds (st .state)
-    → Stayed (job .machine .stays) start (ds ++ doneWith b st made ∷ []) s
-unfolding verdictIn verdictOn
-block-stayed job start ds st b s control made e h =
-    let p =
-    accepted-path (job .machine) (callsIn (job .programs) (st .left)) (st .room) (st .state) (b .start)
-    (b .start + slashLength b) (drop (slashLength b) (b .text)) s control made e in
-    one-stayed (job .machine .stays) start ds st b s made (p .0) (p .1) h
+abbrev pub travelMoved : Point → Travel → Travel
+travelMoved by t = record { low = moved by (t .low); high = moved by (t .high) }
 
-pub run-stayed :
-    (job : Job) (start : Point) (n : ℕ) (x : Sofar) → Stayed (job .machine .stays) start (x .executed) (x .stand .state)
-    → Stayed (job .machine .stays) start (more job n x .executed) (more job n x .stand .state)
+inside-same : (by : Point) (t : Travel) (p : Point) → inside (travelMoved by t) (moved by p) ≡ inside t p
+unfolding inside moved
+inside-same by t p = simp le-same
+
+plus-minus : (a d : ℤ) → (a -ℤ d) +ℤ d ≡ a
+plus-minus a d = same (var a ⊟ var d ⊞ var d) (var a) (omega arith)
+
+plus-plus : (a b c : ℤ) → (a +ℤ b) +ℤ c ≡ a +ℤ (b +ℤ c)
+plus-plus a b c = same (var a ⊞ var b ⊞ var c) (var a ⊞ (var b ⊞ var c)) (omega arith)
+
+pub there-and-back : (by p : Point) → moved by (movedBack by p) ≡ p
+unfolding moved movedBack
+there-and-back by p = simp plus-minus
+
+moved-twice : (a b p : Point) → moved b (moved a p) ≡ moved (moved b a) p
+unfolding moved
+moved-twice a b p = simp plus-plus
+
+-- every comparison is of differences, or of two numbers that are displaced alike
+record-same :
+    (by : Point) (t : Travel) (from : Point) (r : Record)
+    → (pathStays (travelMoved by t) (moved by from) (pathOf (recordMoved by r)) ≡ pathStays t from (pathOf r))
+    × (pathEnd (moved by from) (pathOf (recordMoved by r)) ≡ moved by (pathEnd from (pathOf r)))
+unfolding
+    pathOf pathEnd recordMoved pathStays arcStays leftWay rightWay arcMoved radius² distance² direction extremesInside extremeInside
+    coordinateInside notAbove notBelow
+record-same by t from (RP p) = (inside-same by t p, refl)
+record-same by t from (LN p feed) = (inside-same by t p, refl)
+record-same by t from (AR a) = (simp (inside-same, flat-moved, le-same, shift), refl)
+record-same by t from (AL a) = (simp (inside-same, flat-moved, le-same, shift), refl)
+record-same by t from (DW ms) = (refl, refl)
+record-same by t from (SP speed) = (refl, refl)
+record-same by t from SO = (refl, refl)
+record-same by t from PA = (refl, refl)
+record-same by t from EN = (refl, refl)
+
+-- every path of a list, and where it ends
+pub paths-same :
+    (by : Point) (t : Travel) (from : Point) (rs : List Record)
+    → (pathStaysIn (λ p r. pathStays (travelMoved by t) p (pathOf r)) (moved by from) (map (recordMoved by) rs)
+    ≡ pathStaysIn (λ p r. pathStays t p (pathOf r)) from rs)
+    × (endOf (moved by from) (map (recordMoved by) rs) ≡ moved by (endOf from rs))
 unfolding pathStaysIn endOf
-run-stayed job start n x h =
-    run-holds (Stayed (job .machine .stays) start) job
-    (λ ds st b k. one-stayed (job .machine .stays) start ds st b (st .state) [] refl refl k)
-    (λ ds st b s control made e k. block-stayed job start ds st b s control made e k) n x h
+paths-same by t from [] = (refl, refl)
+paths-same by t from (r ∷ rs) =
+    let h = record-same by t from r in
+    let k = paths-same by t (pathEnd from (pathOf r)) rs in
+    (rw (h .0, h .1, k .0), ap (λ (p : Point). endOf p (map (recordMoved by) rs)) (h .1) ∙ k .1)
 
-pub begun-stayed :
-    (stays : Point → Record → Bool) (s : Setup) (bytes : List ℕ) (room : ℕ)
-    → Stayed stays (startOf s) (begun s bytes room .executed) (begun s bytes room .stand .state)
-unfolding recordsBy pathStaysIn endOf firstOf firstState
-begun-stayed stays s bytes room =
-    begun-with s bytes room (Stayed stays (startOf s)) (record { path = refl; at = refl })
+-- settings and records displaced twice
+pub state-twice : (a b : Point) (s : State) → stateMoved b (stateMoved a s) ≡ stateMoved (moved b a) s
+unfolding stateMoved
+state-twice a b s = simp moved-twice
 
--- in the frame of the common offset
-pub stays-in-frame :
-    (s : Setup) (bytes : List ℕ) (room : ℕ) (budget : Budget)
-    → pathStaysIn (machineOf (bedOf s) .stays) (startOf s) (outcome s bytes room budget .made) ≡ true
-unfolding outcomeSofar firstBlocks jobFor
-stays-in-frame s bytes room budget =
-    let n = suited s bytes room budget in
-    ap (λ (o : Outcome). pathStaysIn (machineOf (bedOf s) .stays) (startOf s) (o .made)) (gives s bytes room (n .0) budget (n .1))
-    ∙ run-stayed (jobFor s bytes) (startOf s) (n .0) (begun s bytes room)
-    (begun-stayed (machineOf (bedOf s) .stays) s bytes room) .path
+arc-twice : (a b : Point) (arc : Arc) → arcMoved b (arcMoved a arc) ≡ arcMoved (moved b a) arc
+unfolding arcMoved
+arc-twice a b arc = simp (moved-twice, flat-moved, plus-plus)
+
+record-twice : (a b : Point) (r : Record) → recordMoved b (recordMoved a r) ≡ recordMoved (moved b a) r
+unfolding recordMoved
+record-twice a b (RP p) = ap RP (moved-twice a b p)
+record-twice a b (LN p feed) = ap (λ (q : Point). LN q feed) (moved-twice a b p)
+record-twice a b (AR arc) = ap AR (arc-twice a b arc)
+record-twice a b (AL arc) = ap AL (arc-twice a b arc)
+record-twice a b (DW ms) = refl
+record-twice a b (SP speed) = refl
+record-twice a b SO = refl
+record-twice a b PA = refl
+record-twice a b EN = refl
+
+pub records-twice :
+    (a b : Point) (rs : List Record) → map (recordMoved b) (map (recordMoved a) rs) ≡ map (recordMoved (moved b a)) rs
+records-twice a b [] = refl
+records-twice a b (r ∷ rs) = ap₂ _∷_ (record-twice a b r) (records-twice a b rs)
+
+-- ---- paths of records in a row
+
+pub end-both : (from : Point) (a b : List Record) → endOf from (a ++ b) ≡ endOf (endOf from a) b
+unfolding endOf
+end-both from [] b = refl
+end-both from (r ∷ a) b = end-both (pathEnd from (pathOf r)) a b
+
+pub stays-both :
+    (stays : Point → Record → Bool) (from : Point) (a b : List Record)
+    → pathStaysIn stays from (a ++ b) ≡ (pathStaysIn stays from a && pathStaysIn stays (endOf from a) b)
+unfolding pathStaysIn endOf
+stays-both stays from [] b = refl
+stays-both stays from (r ∷ a) b =
+    ap (stays from r &&_) (stays-both stays (pathEnd from (pathOf r)) a b)
+    ∙ sym
+    (and-assoc (stays from r) (pathStaysIn stays (pathEnd from (pathOf r)) a)
+    (pathStaysIn stays (endOf (pathEnd from (pathOf r)) a) b))
+
+-- ---- every run
+
+-- the records so far stay in the travel, and the tool stands where they end
+pub record Stayed (stays : Point → Record → Bool) (start : Point) (rs : List Record) (at : Point) : Type 0 where
+  pub path : pathStaysIn stays start rs ≡ true
+  pub ends : at ≡ endOf start rs
+
+module _ (s : Setup) (bytes : List ℕ) (room : ℕ) where
+  abbrev StayedIn : List Record → Point → Type 0
+  StayedIn = Stayed (machineOf (bedOf s) .stays) (startOf s)
+
+  -- in the frame of the common offset
+  pub run-stayed : (n : ℕ) → StayedIn (recordsBy (firstBlocks s bytes room n .executed)) (firstBlocks s bytes room n .stand .state .at)
+  unfolding firstBlocks jobFor recordsBy pathStaysIn endOf firstOf firstState
+  run-stayed n =
+      run-holds (λ rs q left. StayedIn rs (q .at)) (jobFor s bytes)
+      (λ rs st b q control made e h.
+      let p = accepted-path (accepts (jobFor s bytes) st b e) in
+      record {
+        path =
+            stays-both (machineOf (bedOf s) .stays) (startOf s) rs made
+            ∙ ap₂ _&&_ (h .path) (ap (λ (p : Point). pathStaysIn (machineOf (bedOf s) .stays) p made) (sym (h .ends)) ∙ p .0);
+        ends = p .1 ∙ ap (λ (p : Point). endOf p made) (h .ends) ∙ sym (end-both (startOf s) rs made);
+      })
+      n (begun s bytes room) (begun-with s bytes room (λ ds q. StayedIn (recordsBy ds) (q .at)) (record { path = refl; ends = refl }))
+
+  outcome-stayed : (budget : Budget) → StayedIn (outcome s bytes room budget .made) (outcome s bytes room budget .last .at)
+  unfolding outcomeSofar
+  outcome-stayed budget =
+      let n = suited s bytes room budget in
+      rw (gives s bytes room (n .0) budget (n .1)) (run-stayed (n .0))
 
 -- ---- in machine units
 
@@ -114,7 +190,7 @@ same-stays s from rs =
     ap
     (λ (t : Travel). pathStaysIn (λ p r. pathStays t p (pathOf r)) (moved (offset s) from) (map (recordMoved (offset s)) rs))
     (sym (same-travel s))
-    ∙ paths-same (offset s) (travelOf s) from rs
+    ∙ paths-same (offset s) (travelOf s) from rs .0
 
 -- "No recorded path leaves the travel": the records in machine units and the setup's own travel, the path beginning where
 -- the record before ended, the first at the setup's start
@@ -126,20 +202,14 @@ stays-in-travel s bytes room budget =
     ap (λ (p : Point). pathStaysIn (inTravel s) p (map (recordMoved (offset s)) (outcome s bytes room budget .made)))
     (sym (same-start s))
     ∙ same-stays s (startOf s) (outcome s bytes room budget .made)
-    ∙ stays-in-frame s bytes room budget
+    ∙ outcome-stayed s bytes room budget .path
 
 -- the point that a run answers is where the path of its records ends
 pub stands-at-its-records :
     (s : Setup) (bytes : List ℕ) (room : ℕ) (budget : Budget)
     → standingOf s bytes room budget .state .at ≡ endOf (pointOf (s .start)) (recordsOf s bytes room budget)
-unfolding standingOf stateMoved recordsOf outcomeSofar firstBlocks jobFor
+unfolding standingOf stateMoved recordsOf
 stands-at-its-records s bytes room budget =
-    let n = suited s bytes room budget in
-    let all = gives s bytes room (n .0) budget (n .1) in
-    ap (λ (o : Outcome). moved (offset s) (o .last .at)) all
-    ∙ ap (moved (offset s))
-    (run-stayed (jobFor s bytes) (startOf s) (n .0) (begun s bytes room)
-    (begun-stayed (machineOf (bedOf s) .stays) s bytes room) .at)
-    ∙ ap (λ (o : Outcome). moved (offset s) (endOf (startOf s) (o .made))) (sym all)
-    ∙ sym (ends-moved (offset s) (startOf s) (outcome s bytes room budget .made))
-    ∙ ap (λ (p : Point). endOf p (map (recordMoved (offset s)) (outcome s bytes room budget .made))) (same-start s)
+    ap (moved (offset s)) (outcome-stayed s bytes room budget .ends)
+    ∙ sym (paths-same (offset s) (travelOf s) (startOf s) (outcome s bytes room budget .made) .1)
+    ∙ ap (λ (p : Point). endOf p (recordsOf s bytes room budget)) (same-start s)

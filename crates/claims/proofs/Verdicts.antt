@@ -1,33 +1,48 @@
--- What an accepted block has passed: none of its refusals stands.
-use Prim.Native.Nat.{ℕ}
+-- What a verdict on a block says: what an accepted block has passed and where it leads, which refusals a block can get, and what
+-- another machine, whose two tests "16; 9" differ, says of a block that was accepted.
+use Prim.Native.Nat.{ℕ, _+_}
 use mathlib.Core.Path.{_≡_, refl, sym, _∙_, ap}
-use mathlib.Core.Bool.{Bool, true, false, not, false≢true, _&&_, _||_}
+use mathlib.Core.Bool.{Bool, true, false, true≢false, not, _&&_, _||_}
 use mathlib.Core.Option.{Option, none, some}
 use mathlib.Core.List.{List, [], _∷_, _++_}
 use native.Mathlib.Omega.{arith}
 use lib.Dec.{eqb, ltb}
+use lib.ListN.{drop}
 use lib.IntN.{natAbs}
 use borrow.Author.Tests.{not-false}
 use Rattle.terms.specs.Terms.{if_then_else_, all, any, first, firstOf}
-use Rattle.refusals.specs.declared.Refusal.the-variants.{BadParameter, AddressUndefined, ParameterUndefined, CannotExecute, NumberNotFound, NestOver, LeavesTravel, NoRoom, CentreTooFar}
+use Rattle.terms.proofs.Laws.{either-left, either-right}
+use Rattle.refusals.specs.declared.Refusal.{Refusal}
+use Rattle.refusals.specs.declared.Refusal.the-variants.{BadParameter, AddressUndefined, ParameterUndefined, CannotExecute, NumberNotFound, NestOver, LeavesTravel, NoRoom, Unreadable, CentreTooFar}
 use Rattle.points.specs.declared.Point.{Point}
 use Rattle.codes.specs.Codes.{miscNumber, isM, isNoM, endsProgram}
 use Rattle.words.specs.declared.Word.{Word}
 use Rattle.words.specs.Words.{Words, these, badAt, wordsOf}
 use Rattle.letters.specs.Letters.{isKnown, isG, isMisc, miscIn, miscOrOther, miscOfBlock, standsAlone, wrongProgram, repeats, badG, badM, mayNotStand, firstThatMayNot, hasCentre, firstUnused, firstBadValue}
+use Rattle.setup.specs.declared.Bed.{Bed}
+use Rattle.setup.specs.Fair.{Fair}
 use Rattle.records.specs.declared.Record.{Record}
 use Rattle.records.specs.Layout.{roomOf}
 use Rattle.records.specs.Path.{endOf, pathStaysIn}
 use Rattle.settings.specs.declared.State.{State}
-use Rattle.blocks.specs.Machine.{Machine}
+use Rattle.blocks.specs.Machine.{Machine, machineOf}
+use Rattle.blocks.specs.Reach.{Reachable}
 use Rattle.blocks.specs.declared.Said.{Said}
 use Rattle.blocks.specs.declared.Control.{Control}
 use Rattle.blocks.specs.declared.Control.the-variants.{On, Call, Back, Stop}
-use Rattle.blocks.proofs.Accepting.{none-before, all-none, past-all, word-none, start-none}
-use Rattle.blocks.specs.Exec.{Blame, Calls, Verdict, accepted, saidBy, movesIn, madeBy, settled, controlOf, inMain, callTo, unknownCall, lacksParameter, cannotDrill, atWord, tooDeep, atStart, blames, unless, judged, execWords, exec}
+use Rattle.blocks.specs.Exec.{Blame, Calls, Verdict, refused, accepted, saidBy, movesIn, madeBy, settled, controlOf, inMain, callTo, unknownCall, lacksParameter, cannotDrill, atWord, tooDeep, atStart, blames, unless, judged, execWords, exec, callsIn}
+use Rattle.blocks.proofs.Accepting.{AllNone, none-before, all-none, past-all, word-none, start-none}
+use Rattle.blocks.proofs.Meaning.{meant}
+use Rattle.blocks.proofs.Making.{made-fits}
+use Rattle.lines.specs.Blocks.{Block}
+use Rattle.runs.specs.Walk.{Job, slashLength, verdictOn}
+use Rattle.claims.specs.Blockwise.{Stand, levels, verdictIn}
+use Rattle.claims.specs.Answers.{blockNumbers, numberedIn}
 
--- the refusals of a block but for the last three, "16; 9; 10"
-abbrev pub firstBlames : Machine → Calls → State → ℕ → List Word → Said → List (Option Blame)
+-- ---- an accepted block
+
+-- the refusals of a block but for the last three
+abbrev firstBlames : Machine → Calls → State → ℕ → List Word → Said → List (Option Blame)
 firstBlames machine calls s start ws b =
     atWord CannotExecute (firstThatMayNot (inMain calls) [] ws)
     ∷ atWord AddressUndefined (firstUnused (b .code) (b .modes .plane) (hasCentre (b .code) (b .modes .plane) ws) ws)
@@ -38,240 +53,237 @@ firstBlames machine calls s start ws b =
     ∷ atStart start CannotExecute (cannotDrill s b)
     ∷ atStart start BadParameter (not (movesIn machine s b .sound)) ∷ []
 
--- the same with any others after them
-unfoldable pub blamesThen :
-    Machine → Calls → State → ℕ → List Word → Said → List (Option Blame) → List (Option Blame)
-blamesThen machine calls s start ws b last = firstBlames machine calls s start ws b ++ last
-
-abbrev pub lastBlames : (Record → Bool) → (Point → Record → Bool) → ℕ → Point → ℕ → List Record → List (Option Blame)
-lastBlames fits stays room at start made =
-    atStart start CentreTooFar (not (all fits made))
-    ∷ atStart start LeavesTravel (not (pathStaysIn stays at made))
+-- "16; 9; 10"
+abbrev lastBlames : Machine → ℕ → Point → ℕ → List Record → List (Option Blame)
+lastBlames machine room at start made =
+    atStart start CentreTooFar (not (all (machine .fits) made))
+    ∷ atStart start LeavesTravel (not (pathStaysIn (machine .stays) at made))
     ∷ atStart start NoRoom (ltb room (roomOf made)) ∷ []
 
-pub blames-then :
-    (machine : Machine) (calls : Calls) (room : ℕ) (s : State) (start : ℕ) (ws : List Word) (b : Said)
-    → blames machine calls room s start ws b
-    ≡ blamesThen machine calls s start ws b (lastBlames (machine .fits) (machine .stays) room (s .at) start (madeBy machine s b))
-unfolding blames blamesThen
-blames-then machine calls room s start ws b = refl
-
--- what the words of an accepted block have passed, but for the last three
-pub record Passed (machine : Machine) (calls : Calls) (s : State) (start : ℕ) (ws : List Word) (b : Said) : Type 0 where
-  pub stand : firstThatMayNot (inMain calls) [] ws ≡ none
-  pub value : firstBadValue (machine .speeds) (b .modes) (b .code) ws ≡ none
-  pub deep : tooDeep calls (callTo (controlOf b)) ≡ false
-  pub sound : movesIn machine s b .sound ≡ true
-  pub others : (last : List (Option Blame)) → firstOf (blamesThen machine calls s start ws b last) ≡ firstOf last
-
-pub passed :
-    (machine : Machine) (calls : Calls) (s : State) (start : ℕ) (ws : List Word) (b : Said) (last : List (Option Blame))
-    → firstOf (blamesThen machine calls s start ws b last) ≡ none
-    → Passed machine calls s start ws b × (firstOf last ≡ none)
-unfolding blamesThen
-passed machine calls s start ws b last k =
-    let h = none-before (firstBlames machine calls s start ws b) last k in
-    let p = h .0 in (
-      record {
-        stand = word-none CannotExecute (firstThatMayNot (inMain calls) [] ws) (p .0);
-        value = word-none BadParameter (firstBadValue (machine .speeds) (b .modes) (b .code) ws) (p .1 .1 .0);
-        deep = start-none start NestOver (tooDeep calls (callTo (controlOf b))) (p .1 .1 .1 .1 .1 .0);
-        sound =
-            not-false (movesIn machine s b .sound)
-            (start-none start BadParameter (not (movesIn machine s b .sound)) (p .1 .1 .1 .1 .1 .1 .1 .0));
-        others = λ more. past-all (firstBlames machine calls s start ws b) more p;
-      },
-      h .1,
-    )
-
--- the last three, "16; 9; 10"
-pub record Fitting (fits : Record → Bool) (stays : Point → Record → Bool) (room : ℕ) (at : Point) (made : List Record) : Type 0 where
-  pub centres : all fits made ≡ true
-  pub path : pathStaysIn stays at made ≡ true
-  pub space : ltb room (roomOf made) ≡ false
-
-pub fitting :
-    (fits : Record → Bool) (stays : Point → Record → Bool) (room : ℕ) (at : Point) (start : ℕ) (made : List Record)
-    → firstOf (lastBlames fits stays room at start made) ≡ none → Fitting fits stays room at made
-fitting fits stays room at start made k =
-    let p = all-none (lastBlames fits stays room at start made) k in
-    record {
-      centres = not-false (all fits made) (start-none start CentreTooFar (not (all fits made)) (p .0));
-      path = not-false (pathStaysIn stays at made) (start-none start LeavesTravel (not (pathStaysIn stays at made)) (p .1 .0));
-      space = start-none start NoRoom (ltb room (roomOf made)) (p .1 .1 .0);
-    }
-
--- an accepted block: its words, what they passed, and what the verdict holds
+-- the words of an accepted block, that none of its refusals stands, and what the verdict holds
 pub record Accepts
-    (machine : Machine) (calls : Calls) (room : ℕ) (s : State) (start : ℕ) (ws : List Word) (verdict : Verdict) : Type 0
-  where
-    pub passes : Passed machine calls s start ws (saidBy machine (s .modes) ws)
-    pub fits : Fitting (machine .fits) (machine .stays) room (s .at) (madeBy machine s (saidBy machine (s .modes) ws))
-    pub is :
-        verdict
-        ≡ accepted (settled machine s (saidBy machine (s .modes) ws)) (controlOf (saidBy machine (s .modes) ws))
-        (madeBy machine s (saidBy machine (s .modes) ws))
-
-unless-accepts :
-    (o : Option Blame) (v : Verdict) (s : State) (c : Control) (made : List Record)
-    → unless o v ≡ accepted s c made → (o ≡ none) × (v ≡ accepted s c made)
-unfolding unless
-unless-accepts none v s c made e = (refl, e)
-unless-accepts (some blame) v s c made e = let z : _≡_ {A = ℕ} 0 1 = cc in absurd (omega arith)
-
-pub judged-accepts :
-    (machine : Machine) (calls : Calls) (room : ℕ) (s : State) (start : ℕ) (ws : List Word)
-    (t : State) (c : Control) (made : List Record)
-    → judged machine calls room s start ws (saidBy machine (s .modes) ws) ≡ accepted t c made
-    → Accepts machine calls room s start ws (accepted t c made)
-unfolding judged
-judged-accepts machine calls room s start ws t c made e =
-    let b : Said = saidBy machine (s .modes) ws in
-    let r =
-    unless-accepts (firstOf (blames machine calls room s start ws b))
-    (accepted (settled machine s b) (controlOf b) (madeBy machine s b)) t c made e in
-    let last : List (Option Blame) = lastBlames (machine .fits) (machine .stays) room (s .at) start (madeBy machine s b) in
-    let p = passed machine calls s start ws b last (ap firstOf (sym (blames-then machine calls room s start ws b)) ∙ r .0) in
-    record {
-      passes = p .0;
-      fits = fitting (machine .fits) (machine .stays) room (s .at) start (madeBy machine s b) (p .1);
-      is = sym (r .1);
-    }
-
--- the words of an accepted block
-pub record Reads
-    (machine : Machine) (calls : Calls) (room : ℕ) (s : State) (start at : ℕ) (text : List ℕ) (verdict : Verdict) : Type 0
+    (machine : Machine) (calls : Calls) (room : ℕ) (s : State) (start at : ℕ) (text : List ℕ) (t : State) (c : Control)
+    (made : List Record) : Type 0
   where
     pub ws : List Word
     pub read : wordsOf at text ≡ these ws
-    pub accepts : Accepts machine calls room s start ws verdict
+    pub first : AllNone (firstBlames machine calls s start ws (saidBy machine (s .modes) ws))
+    pub last : AllNone (lastBlames machine room (s .at) start (madeBy machine s (saidBy machine (s .modes) ws)))
+    pub is :
+        accepted t c made
+        ≡ accepted (settled machine s (saidBy machine (s .modes) ws)) (controlOf (saidBy machine (s .modes) ws))
+        (madeBy machine s (saidBy machine (s .modes) ws))
 
-words-accept :
+exec-accepts :
     (machine : Machine) (calls : Calls) (room : ℕ) (s : State) (start at : ℕ) (text : List ℕ)
-    (t : State) (c : Control) (made : List Record) (w : Words)
-    → wordsOf at text ≡ w → execWords machine calls room s start w ≡ accepted t c made
-    → Reads machine calls room s start at text (accepted t c made)
-unfolding execWords
-words-accept machine calls room s start at text t c made (badAt bad) r e =
-    let z : _≡_ {A = ℕ} 0 1 = cc in
-    absurd (omega arith)
-words-accept machine calls room s start at text t c made (these ws) r e =
-    record { ws = ws; read = r; accepts = judged-accepts machine calls room s start ws t c made e }
+    {t : State} {c : Control} {made : List Record}
+    → exec machine calls room s start at text ≡ accepted t c made → Accepts machine calls room s start at text t c made
+unfolding exec execWords judged unless blames
+exec-accepts machine calls room s start at text {t} {c} {made} = go (wordsOf at text) refl
+  where
+    by :
+        (ws : List Word) → wordsOf at text ≡ these ws → (o : Option Blame)
+        → firstOf (blames machine calls room s start ws (saidBy machine (s .modes) ws)) ≡ o
+        → unless o
+        (accepted (settled machine s (saidBy machine (s .modes) ws)) (controlOf (saidBy machine (s .modes) ws))
+        (madeBy machine s (saidBy machine (s .modes) ws)))
+        ≡ accepted t c made
+        → Accepts machine calls room s start at text t c made
+    by ws r none n e =
+        let b : Said = saidBy machine (s .modes) ws in
+        let last : List (Option Blame) = lastBlames machine room (s .at) start (madeBy machine s b) in
+        let p = none-before (firstBlames machine calls s start ws b) last n in
+        record { ws = ws; read = r; first = p .0; last = all-none last (p .1); is = sym e }
+    by ws r (some blame) n e = let z : _≡_ {A = ℕ} 0 1 = cc in absurd (omega arith)
 
-pub exec-accepts :
-    (machine : Machine) (calls : Calls) (room : ℕ) (s : State) (start at : ℕ) (text : List ℕ)
-    (t : State) (c : Control) (made : List Record)
-    → exec machine calls room s start at text ≡ accepted t c made
-    → Reads machine calls room s start at text (accepted t c made)
-unfolding exec
-exec-accepts machine calls room s start at text t c made e =
-    words-accept machine calls room s start at text t c made (wordsOf at text) refl e
+    go :
+        (w : Words) → wordsOf at text ≡ w → execWords machine calls room s start w ≡ accepted t c made
+        → Accepts machine calls room s start at text t c made
+    go (badAt bad) r e = let z : _≡_ {A = ℕ} 0 1 = cc in absurd (omega arith)
+    go (these ws) r e = by ws r (firstOf (blames machine calls room s start ws (saidBy machine (s .modes) ws))) refl e
 
--- ---- what an accepted block leads to
-
-pub same-verdict :
-    (s t : State) (c d : Control) (a b : List Record)
-    → accepted s c a ≡ accepted t d b → (s ≡ t) × (c ≡ d) × (a ≡ b)
-same-verdict s t c d a b e = ((cc), (cc), (cc))
-
--- a call is accepted only where a level is left
-deep-call : (calls : Calls) (c : Control) (n : ℕ) → c ≡ Call n → tooDeep calls (callTo c) ≡ false → eqb (calls .left) 0 ≡ false
-unfolding tooDeep callTo
-deep-call calls c n e k = rw e at k
-
-pub call-has-level :
-    (machine : Machine) (calls : Calls) (room : ℕ) (s : State) (start at : ℕ) (text : List ℕ)
-    (t : State) (n : ℕ) (made : List Record)
-    → exec machine calls room s start at text ≡ accepted t (Call n) made → eqb (calls .left) 0 ≡ false
-call-has-level machine calls room s start at text t n made e =
-    let r = exec-accepts machine calls room s start at text t (Call n) made e in
-    let b : Said = saidBy machine (s .modes) (r .ws) in
-    let q = same-verdict t (settled machine s b) (Call n) (controlOf b) made (madeBy machine s b) (r .accepts .is) in
-    deep-call calls (controlOf b) n (sym (q .1)) (r .accepts .passes .deep)
+-- the same of a block of the run
+pub accepts :
+    (job : Job) (st : Stand) (b : Block) {t : State} {c : Control} {made : List Record} → verdictIn job st b ≡ accepted t c made
+    → Accepts (job .machine) (callsIn (job .programs) (levels (st .callers))) (st .room) (st .state) (b .start) (b .start + slashLength b)
+    (drop (slashLength b) (b .text)) t c made
+unfolding verdictIn verdictOn
+accepts job st b = exec-accepts _ _ _ _ _ _ _
 
 -- "M99 in the main .. refusal 4": no word of an accepted block of the main is M99
-stand-here :
-    (inMain : Bool) (before : List Word) (w : Word) (ws : List Word)
-    → firstThatMayNot inMain before (w ∷ ws) ≡ none
-    → (mayNotStand inMain before w ≡ false) × (firstThatMayNot inMain (before ++ w ∷ []) ws ≡ none)
-unfolding firstThatMayNot
-stand-here inMain before w ws e = go (mayNotStand inMain before w) e
-  where
-    go :
-        (t : Bool) → (if t then some w else firstThatMayNot inMain (before ++ w ∷ []) ws) ≡ none
-        → (t ≡ false) × (firstThatMayNot inMain (before ++ w ∷ []) ws ≡ none)
-    go false k = (refl, k)
-    go true k = let z : _≡_ {A = ℕ} 0 1 = cc in absurd (omega arith)
-
-last-of-four : (a b c d m : Bool) → (a || b || c || m && d) ≡ false → m ≡ true → d ≡ false
-last-of-four false false false d true e k = e
-last-of-four false false false d false e k = absurd (false≢true k)
-last-of-four false false true d m e k = absurd (false≢true (sym e))
-last-of-four false true c d m e k = absurd (false≢true (sym e))
-last-of-four true b c d m e k = absurd (false≢true (sym e))
-
-middle : (a b c : Bool) → (a || b || c) ≡ false → b ≡ false
-middle false false c e = refl
-middle false true c e = e
-middle true b c e = absurd (false≢true (sym e))
-
-no-return-word :
-    (before : List Word) (w : Word) → mayNotStand true before w ≡ false → isMisc w ≡ true → isM 99 (miscIn w) ≡ false
-unfolding mayNotStand badM wrongProgram
-no-return-word before w e k =
-    middle (isNoM (miscIn w)) (isM 99 (miscIn w)) (standsAlone (miscIn w) && any isG before)
-    (last-of-four (not (isKnown (w .letter))) (repeats before w) (isG w && badG before w) (badM true before w) (isMisc w) e k)
-
-no-return-words :
-    (before ws : List Word) → firstThatMayNot true before ws ≡ none → isM 99 (miscOrOther (first isMisc ws)) ≡ false
-unfolding first miscOrOther isM miscNumber
+no-return-words : (before ws : List Word) → firstThatMayNot true before ws ≡ none → isM 99 (miscOrOther (first isMisc ws)) ≡ false
+unfolding first miscOrOther isM miscNumber firstThatMayNot mayNotStand badM wrongProgram
 no-return-words before [] e = refl
-no-return-words before (w ∷ ws) e =
-    let r = stand-here true before w ws e in
-    go (isMisc w) (no-return-word before w (r .0)) (no-return-words (before ++ w ∷ []) ws (r .1))
+no-return-words before (w ∷ ws) e = go (mayNotStand true before w) (isMisc w) (no-return-words (before ++ w ∷ []) ws) refl refl e
   where
     go :
-        (t : Bool) → (t ≡ true → isM 99 (miscIn w) ≡ false) → isM 99 (miscOrOther (first isMisc ws)) ≡ false
-        → isM 99 (miscOrOther (if t then some w else first isMisc ws)) ≡ false
-    go true h k = h refl
-    go false h k = k
+        (bad misc : Bool) → (firstThatMayNot true (before ++ w ∷ []) ws ≡ none → isM 99 (miscOrOther (first isMisc ws)) ≡ false)
+        → mayNotStand true before w ≡ bad → isMisc w ≡ misc
+        → (if bad then some w else firstThatMayNot true (before ++ w ∷ []) ws) ≡ none
+        → isM 99 (miscOrOther (if misc then some w else first isMisc ws)) ≡ false
+    go true misc rest b m e = let z : _≡_ {A = ℕ} 0 1 = cc in absurd (omega arith)
+    go false false rest b m e = rest e
+    go false true rest b m e =
+        let others = not (isKnown (w .letter)) || repeats before w || isG w && badG before w in
+        let its = either-right others (isMisc w && badM true before w) b in
+        let bad : badM true before w ≡ false = rw m at its in
+        let alone = standsAlone (miscIn w) && any isG before in
+        either-right (isNoM (miscIn w)) (isM 99 (miscIn w)) (either-left (isNoM (miscIn w) || isM 99 (miscIn w)) alone bad)
 
-back-returns : (b : Said) → controlOf b ≡ Back → isM 99 (b .misc) ≡ true
-unfolding controlOf
-back-returns b e = go (isM 98 (b .misc)) (isM 99 (b .misc)) (endsProgram (b .misc)) e
+not-back : (t v : Bool) (n : ℕ) → Back ≡ (if t then Call n else if v then Stop else On) → ⊥
+not-back true v n e = let z : _≡_ {A = ℕ} 0 1 = cc in omega arith
+not-back false true n e = let z : _≡_ {A = ℕ} 0 1 = cc in omega arith
+not-back false false n e = let z : _≡_ {A = ℕ} 0 1 = cc in omega arith
+
+module _
+    {machine : Machine} {calls : Calls} {room : ℕ} {s : State} {start at : ℕ} {text : List ℕ} {t : State} {c : Control}
+    {made : List Record} (a : Accepts machine calls room s start at text t c made)
   where
-    go :
-        (t u v : Bool)
-        → (if t then Call (natAbs (b .values .p .v .v)) else if u then Back else if v then Stop else On) ≡ Back → u ≡ true
-    go true u v k = let z : _≡_ {A = ℕ} 0 1 = cc in absurd (omega arith)
-    go false true v k = refl
-    go false false true k = let z : _≡_ {A = ℕ} 0 1 = cc in absurd (omega arith)
-    go false false false k = let z : _≡_ {A = ℕ} 0 1 = cc in absurd (omega arith)
+    abbrev said : Said
+    said = saidBy machine (s .modes) (a .ws)
 
-pub main-does-not-return :
-    (machine : Machine) (calls : Calls) (room : ℕ) (s : State) (start at : ℕ) (text : List ℕ)
-    (t : State) (made : List Record)
-    → inMain calls ≡ true → exec machine calls room s start at text ≡ accepted t Back made → ⊥
-unfolding saidBy miscOfBlock
-main-does-not-return machine calls room s start at text t made m e =
-    let r = exec-accepts machine calls room s start at text t Back made e in
-    let b : Said = saidBy machine (s .modes) (r .ws) in
-    let q = same-verdict t (settled machine s b) Back (controlOf b) made (madeBy machine s b) (r .accepts .is) in
-    let back : isM 99 (b .misc) ≡ true = back-returns b (sym (q .1)) in
-    let stand : firstThatMayNot true [] (r .ws) ≡ none = rw m at (r .accepts .passes .stand) in
-    false≢true (sym (no-return-words [] (r .ws) stand) ∙ back)
+    -- a call is accepted only where a level is left
+    pub call-has-level : (n : ℕ) → c ≡ Call n → eqb (calls .left) 0 ≡ false
+    unfolding tooDeep callTo
+    call-has-level n e =
+        let i = a .is in
+        let call : controlOf said ≡ Call n = cc in
+        rw call at (start-none start NestOver (tooDeep calls (callTo (controlOf said))) (a .first .1 .1 .1 .1 .1 .0))
 
--- the path of an accepted block stays in the travel, and the tool stands where it ends
-pub accepted-path :
-    (machine : Machine) (calls : Calls) (room : ℕ) (s : State) (start at : ℕ) (text : List ℕ)
-    (t : State) (c : Control) (made : List Record)
-    → exec machine calls room s start at text ≡ accepted t c made
-    → (pathStaysIn (machine .stays) (s .at) made ≡ true) × (t .at ≡ endOf (s .at) made)
-unfolding settled
-accepted-path machine calls room s start at text t c made e =
-    let r = exec-accepts machine calls room s start at text t c made e in
-    let b : Said = saidBy machine (s .modes) (r .ws) in
-    let q = same-verdict t (settled machine s b) c (controlOf b) made (madeBy machine s b) (r .accepts .is) in (
-      ap (pathStaysIn (machine .stays) (s .at)) (q .2) ∙ r .accepts .fits .path,
-      ap (λ (u : State). u .at) (q .0) ∙ ap (endOf (s .at)) (sym (q .2)),
-    )
+    pub main-does-not-return : inMain calls ≡ true → c ≡ Back → ⊥
+    unfolding saidBy miscOfBlock controlOf
+    main-does-not-return main e =
+        let i = a .is in
+        let back : Back ≡ controlOf said = cc in
+        let stand = word-none CannotExecute (firstThatMayNot (inMain calls) [] (a .ws)) (a .first .0) in
+        let none-is : isM 99 (said .misc) ≡ false = no-return-words [] (a .ws) (rw main at stand) in
+        not-back (isM 98 (said .misc)) (endsProgram (said .misc)) (natAbs (said .values .p .v .v)) (rw none-is at back)
+
+    -- its path stays in the travel, and the tool stands where it ends
+    pub accepted-path : (pathStaysIn (machine .stays) (s .at) made ≡ true) × (t .at ≡ endOf (s .at) made)
+    unfolding settled
+    accepted-path =
+        let i = a .is in
+        let all-made : made ≡ madeBy machine s said = cc in
+        let state : t ≡ settled machine s said = cc in (
+          ap (pathStaysIn (machine .stays) (s .at)) all-made
+              ∙ not-false _
+              (start-none start LeavesTravel (not (pathStaysIn (machine .stays) (s .at) (madeBy machine s said))) (a .last .1 .0)),
+          ap (λ (u : State). u .at) state ∙ ap (endOf (s .at)) (sym all-made),
+        )
+
+-- ---- another machine
+
+-- the machine of a bed with two other tests
+abbrev pub otherTests : Bed → (Record → Bool) → (Point → Record → Bool) → Machine
+otherTests bed fits stays =
+    record { origin = machineOf bed .origin; speeds = machineOf bed .speeds; fits = fits; stays = stays }
+
+last-says :
+    (machine : Machine) (room : ℕ) (at : Point) (start : ℕ) (made : List Record) (t : Bool) → all (machine .fits) made ≡ true
+    → pathStaysIn (machine .stays) at made ≡ t → ltb room (roomOf made) ≡ false
+    → firstOf (lastBlames machine room at start made) ≡ (if t then none else some (record { refusal = LeavesTravel; byte = start }))
+unfolding firstOf atStart
+last-says machine room at start made true e f g = rw (e, f, g)
+last-says machine room at start made false e f g = rw (e, f)
+
+module _ (bed : Bed) (fair : Fair bed) where
+  -- 16 never comes
+  fits-all :
+      (s : State) → Reachable bed s → (ws : List Word) (b : Said) → saidBy (machineOf bed) (s .modes) ws ≡ b
+      → atWord BadParameter (firstBadValue (machineOf bed .speeds) (b .modes) (b .code) ws) ≡ none
+      → all (machineOf bed .fits) (madeBy (machineOf bed) s b) ≡ true
+  unfolding saidBy
+  fits-all s state ws b e n =
+      let value = word-none BadParameter (firstBadValue (machineOf bed .speeds) (b .modes) (b .code) ws) n in
+      made-fits bed s b (record { fair = fair; state = state; said = rw e at (meant bed s ws fair state (rw (← e) at value)) })
+
+  -- where a block is accepted under other tests, the bed's machine accepts it with the same records or refuses it for travel
+  pub twin :
+      (fits : Record → Bool) (stays : Point → Record → Bool) {calls : Calls} {room : ℕ} {s : State} {start at : ℕ} {text : List ℕ}
+      {t : State} {c : Control} {made : List Record} → Reachable bed s
+      → Accepts (otherTests bed fits stays) calls room s start at text t c made
+      → (u : Bool) → pathStaysIn (machineOf bed .stays) (s .at) made ≡ u
+      → exec (machineOf bed) calls room s start at text
+      ≡ (if u then accepted t c made else refused (record { refusal = LeavesTravel; byte = start }))
+  unfolding exec execWords judged unless blames settled saidBy madeBy movesIn
+  twin fits stays {calls} {room} {s} {start} {t = t} {c = c} {made = made} state a u path =
+      let m : Machine = machineOf bed in
+      let b : Said = saidBy m (s .modes) (a .ws) in
+      let i = a .is in
+      let same : made ≡ madeBy m s b = cc in
+      let fitting = fits-all s state (a .ws) b refl (a .first .1 .1 .0) in
+      let space = start-none start NoRoom (ltb room (roomOf (madeBy m s b))) (a .last .1 .1 .0) in
+      let says = last-says m room (s .at) start (madeBy m s b) u fitting (ap (pathStaysIn (m .stays) (s .at)) (sym same) ∙ path) space in
+      ap (execWords m calls room s start) (a .read)
+      ∙ ap (λ (o : Option Blame). unless o (accepted (settled m s b) (controlOf b) (madeBy m s b)))
+      (past-all (firstBlames m calls s start (a .ws) b) (lastBlames m room (s .at) start (madeBy m s b)) (a .first) ∙ says)
+      ∙ by u (record { refusal = LeavesTravel; byte = start }) (sym i)
+    where
+      by : (u : Bool) (blame : Blame) {v w : Verdict} → v ≡ w → unless (if u then none else some blame) v ≡ (if u then w else refused blame)
+      by true blame e = e
+      by false blame e = refl
+
+  -- ---- a refused block
+
+  -- what a test blames has one of a block's numbers
+  abbrev Blames : Option Blame → Type 0
+  Blames o = (blame : Blame) → o ≡ some blame → numberedIn blockNumbers (blame .refusal) ≡ true
+
+  at-word : (r : Refusal) (o : Option Word) → numberedIn blockNumbers r ≡ true → Blames (atWord r o)
+  unfolding atWord
+  at-word r none h blame e = let z : _≡_ {A = ℕ} 0 1 = cc in absurd (omega arith)
+  at-word r (some w) h blame e = let same : r ≡ blame .refusal = cc in rw (← same) h
+
+  at-start : (start : ℕ) (r : Refusal) (test : Bool) → (test ≡ true → numberedIn blockNumbers r ≡ true) → Blames (atStart start r test)
+  unfolding atStart
+  at-start start r false h blame e = let z : _≡_ {A = ℕ} 0 1 = cc in absurd (omega arith)
+  at-start start r true h blame e = let same : r ≡ blame .refusal = cc in rw (← same) (h refl)
+
+  -- the first that blames, where the later tests may count on the earlier ones
+  next : (o : Option Blame) (os : List (Option Blame)) → Blames o → (o ≡ none → Blames (firstOf os)) → Blames (firstOf (o ∷ os))
+  unfolding firstOf
+  next none os h later = later refl
+  next (some blame) os h later = h
+
+  no-blame : Blames (firstOf [])
+  unfolding firstOf
+  no-blame blame e = let z : _≡_ {A = ℕ} 0 1 = cc in absurd (omega arith)
+
+  words-blame :
+      (calls : Calls) (room : ℕ) (s : State) (start : ℕ) → Reachable bed s
+      → (ws : List Word) (b : Said) → saidBy (machineOf bed) (s .modes) ws ≡ b
+      → Blames (firstOf (blames (machineOf bed) calls room s start ws b))
+  unfolding blames any
+  words-blame calls room s start state ws b e =
+      next _ _ (at-word CannotExecute _ refl) (λ _.
+      next _ _ (at-word AddressUndefined _ refl) (λ _.
+      next _ _ (at-word BadParameter _ refl) (λ value.
+      next _ _ (at-start start ParameterUndefined _ (λ _. refl)) (λ _.
+      next _ _ (at-start start NumberNotFound _ (λ _. refl)) (λ _.
+      next _ _ (at-start start NestOver _ (λ _. refl)) (λ _.
+      next _ _ (at-start start CannotExecute _ (λ _. refl)) (λ _.
+      next _ _ (at-start start BadParameter _ (λ _. refl)) (λ _.
+      next _ _ (at-start start CentreTooFar _ (λ far. absurd (true≢false (sym far ∙ ap not (fits-all s state ws b e value))))) (λ _.
+      next _ _ (at-start start LeavesTravel _ (λ _. refl)) (λ _.
+      next _ [] (at-start start NoRoom _ (λ _. refl)) (λ _. no-blame)))))))))))
+
+  -- a refused block has one of the numbers
+  pub exec-number :
+      (calls : Calls) (room : ℕ) (s : State) (start at : ℕ) (text : List ℕ) (blame : Blame) → Reachable bed s
+      → exec (machineOf bed) calls room s start at text ≡ refused blame → numberedIn blockNumbers (blame .refusal) ≡ true
+  unfolding exec execWords judged unless blames any firstOf
+  exec-number calls room s start at text blame state = go (wordsOf at text)
+    where
+      by :
+          (o : Option Blame) (v : Verdict) {t : State} {c : Control} {made : List Record}
+          → v ≡ accepted t c made → Blames o → unless o v ≡ refused blame
+          → numberedIn blockNumbers (blame .refusal) ≡ true
+      by none v a h e = let z : _≡_ {A = ℕ} 0 1 = cc in absurd (omega arith)
+      by (some other) v a h e = h blame (cc)
+
+      go : (w : Words) → execWords (machineOf bed) calls room s start w ≡ refused blame → numberedIn blockNumbers (blame .refusal) ≡ true
+      go (badAt bad) e = let same : Unreadable ≡ blame .refusal = cc in rw (← same)
+      go (these ws) e =
+          by (firstOf (blames (machineOf bed) calls room s start ws (saidBy (machineOf bed) (s .modes) ws))) _ refl
+          (words-blame calls room s start state ws (saidBy (machineOf bed) (s .modes) ws) refl) e

@@ -1,5 +1,5 @@
 -- A run seen block by block: where it stands after the first n executed blocks, which blocks those were and what each added.
--- The rules of the run (specs/Walk.antt of `runs`) go by programs and calls; proofs/Counted.antt shows that both give
+-- The rules of the run (specs/Walk.antt of `runs`) go by programs and calls; proofs/Runs.antt shows that both give
 -- the same for every n.
 use Prim.Native.Nat.{ℕ, zero, suc, _-_}
 use mathlib.Core.Bool.{Bool, true, false, not, _||_}
@@ -10,7 +10,6 @@ use Rattle.terms.specs.Terms.{if_then_else_}
 use Rattle.refusals.specs.declared.Refusal.{Refusal}
 use Rattle.refusals.specs.declared.Refusal.the-variants.{NoEnd, FirstBlock, BadSetup, DataTooLong}
 use Rattle.refusals.specs.declared.Place.{Place}
-use Rattle.points.specs.declared.Point.{Point}
 use Rattle.setup.specs.declared.Setup.{Setup}
 use Rattle.setup.specs.Limits.{validSetup}
 use Rattle.setup.specs.Frame.{bedOf, switchOn}
@@ -29,20 +28,22 @@ use Rattle.runs.specs.declared.Budget.the-variants.{Whole}
 use Rattle.runs.specs.Walk.{Job, How, ended, unfinished, refusedAt, Outcome, nowhere, isSkipped, verdictOn, blocksFor}
 use Rattle.runs.specs.Run.{firstOf, finishOf}
 
--- a block that was executed: where the tool stood before it, and its records
+-- a block that was executed, and its records
 pub record BlockDone : Type 0 where
   pub block : Block
-  pub from : Point
   pub made : List Record
 
--- Where a run stands: the settings and the room left in the list, the levels left for calls, and the blocks that lie ahead
--- in the program that runs and, behind its return, in those that called it.
+-- Where a run stands: the settings and the room left in the list, and the blocks that lie ahead in the program that runs and,
+-- behind its return, in those that called it.
 pub record Stand : Type 0 where
   pub state : State
   pub room : ℕ
-  pub left : ℕ
   pub ahead : List Block
   pub callers : List (List Block)
+
+-- "Main may call a first level, down to a fourth.": the levels left for calls
+abbrev pub levels : List (List Block) → ℕ
+levels callers = 4 - length callers
 
 -- What the block that is reached next does: it is refused, a missing end too; or it is executed, and the run goes on or is
 -- at its end.
@@ -53,25 +54,18 @@ pub data Turn : Type 0 where
 
 -- the stand past a block that leaves a state and adds records
 unfoldable pub past : Stand → List Block → State → List Record → Stand
-past st rest s made =
-    record { state = s; room = st .room - roomOf made; left = st .left; ahead = rest; callers = st .callers }
+past st rest s made = record { state = s; room = st .room - roomOf made; ahead = rest; callers = st .callers }
 
 -- "M98 P: calls", one level down
 unfoldable pub inCallee : Stand → List Block → Stand
 inCallee st blocks =
-    record {
-      state = st .state;
-      room = st .room;
-      left = st .left - 1;
-      ahead = blocks;
-      callers = st .ahead ∷ st .callers;
-    }
+    record { state = st .state; room = st .room; ahead = blocks; callers = st .ahead ∷ st .callers }
 
 -- "M99: returns", to the block after the call; the main does not return, since M99 is refused in it
 unfoldable pub returning : List (List Block) → Stand → BlockDone → Turn
 returning [] st d = ends d st
 returning (rest ∷ callers) st d =
-    goes d (record { state = st .state; room = st .room; left = suc (st .left); ahead = rest; callers = callers })
+    goes d (record { state = st .state; room = st .room; ahead = rest; callers = callers })
 
 unfoldable pub led : Control → Job → Stand → BlockDone → Turn
 led On job st d = goes d st
@@ -82,14 +76,15 @@ led Stop job st d = ends d st
 unfoldable pub turnBy : Verdict → Job → Stand → Block → List Block → Turn
 turnBy (refused blame) job st b rest = refuses (blame .refusal) (record { block = b .number; byte = blame .byte })
 turnBy (accepted s control made) job st b rest =
-    led control job (past st rest s made) (record { block = b; from = st .state .at; made = made })
+    led control job (past st rest s made) (record { block = b; made = made })
 
 unfoldable pub verdictIn : Job → Stand → Block → Verdict
-verdictIn job st b = verdictOn job (st .left) b (record { state = st .state; room = st .room; budget = Whole })
+verdictIn job st b =
+    verdictOn job (levels (st .callers)) b (record { state = st .state; room = st .room; budget = Whole })
 
 -- a skipped block counts as executed and adds nothing
 unfoldable pub turnUnder : Bool → Job → Stand → Block → List Block → Turn
-turnUnder true job st b rest = goes (record { block = b; from = st .state .at; made = [] }) (past st rest (st .state) [])
+turnUnder true job st b rest = goes (record { block = b; made = [] }) (past st rest (st .state) [])
 turnUnder false job st b rest = turnBy (verdictIn job st b) job st b rest
 
 unfoldable pub turnUnless : Bool → Job → Stand → Block → List Block → Turn
@@ -187,24 +182,24 @@ jobFor s bytes =
     }
 
 -- the stand before the first block, "all four levels left"
-unfoldable pub standAt : Setup → ℕ → List Block → Stand
-standAt s room blocks = record { state = firstOf s; room = room; left = 4; ahead = blocks; callers = [] }
+unfoldable pub standAt : State → ℕ → List Block → Stand
+standAt first room blocks = record { state = first; room = room; ahead = blocks; callers = [] }
 
-unfoldable pub refusedAtOnce : Setup → ℕ → Refusal → Place → Sofar
-refusedAtOnce s room refusal place =
-    record { executed = []; stand = standAt s room []; over = atRefusal refusal place }
+unfoldable pub refusedAtOnce : State → ℕ → Refusal → Place → Sofar
+refusedAtOnce first room refusal place =
+    record { executed = []; stand = standAt first room []; over = atRefusal refusal place }
 
-unfoldable pub begunBy : Table → Setup → List Block → ℕ → Sofar
-begunBy (Openings.refusedAt refusal place) s bs room = refusedAtOnce s room refusal place
-begunBy (table main subs) s bs room =
-    record { executed = []; stand = standAt s room (blocksAt bs main); over = notYet }
+unfoldable pub begunBy : Table → State → List Block → ℕ → Sofar
+begunBy (Openings.refusedAt refusal place) first bs room = refusedAtOnce first room refusal place
+begunBy (table main subs) first bs room =
+    record { executed = []; stand = standAt first room (blocksAt bs main); over = notYet }
 
 -- "Refusals 11 to 13 and of openings come at n = 0 too."
 unfoldable pub begun : Setup → List ℕ → ℕ → Sofar
 begun s bytes room =
-    if ltb 65_535 (length bytes) then refusedAtOnce s room DataTooLong nowhere
-    else if not (validSetup s) then refusedAtOnce s room BadSetup nowhere
-    else begunBy (tableIn (blocksOf bytes)) s (blocksOf bytes) room
+    if ltb 65_535 (length bytes) then refusedAtOnce (firstOf s) room DataTooLong nowhere
+    else if not (validSetup s) then refusedAtOnce (firstOf s) room BadSetup nowhere
+    else begunBy (tableIn (blocksOf bytes)) (firstOf s) (blocksOf bytes) room
 
 -- the first n executed blocks of a data set under a setup
 unfoldable pub firstBlocks : Setup → List ℕ → ℕ → ℕ → Sofar

@@ -12,7 +12,6 @@ use lib.ListN.{length, drop}
 use Rattle.terms.specs.Terms.{if_then_else_, byte}
 use Rattle.terms.proofs.Laws.{either-left, either-right}
 use Rattle.refusals.specs.declared.Refusal.the-variants.{FirstBlock}
-use Rattle.refusals.specs.declared.Place.{Place}
 use Rattle.lines.specs.Blocks.{Block, beginsWith, noText, closes, opens, isSlashed}
 use Rattle.lines.specs.Comments.{openAfter, insideAt}
 use Rattle.lines.specs.Alike.{Alike, nothing, outside, begins, inside, AlikeBlock, AlikeBlocks}
@@ -23,12 +22,9 @@ use Rattle.programs.specs.Openings.{Table, table, refusedAt, placeOf, known, pr
 use Rattle.programs.proofs.Comments.{programs-alike}
 use Rattle.setup.specs.declared.Setup.{Setup}
 use Rattle.setup.specs.Frame.{bedOf, switchOn}
-use Rattle.settings.specs.declared.State.{State}
-use Rattle.blocks.specs.declared.Control.{Control}
-use Rattle.blocks.specs.declared.Control.the-variants.{On, Call, Back, Stop}
 use Rattle.blocks.specs.Machine.{machineOf}
 use Rattle.blocks.specs.Exec.{Verdict, refused, accepted, exec, execWords, callsIn}
-use Rattle.runs.specs.Walk.{Job, Going, How, ended, returned, unfinished, Outcome, just, after, goingOn, thenRest, follow, obey, isSpent, isSkipped, slashLength, verdictOn, runBlock, reached, walk, blocksFor, callees}
+use Rattle.runs.specs.Walk.{Job, Going, Outcome, just, goingOn, obey, isSpent, isSkipped, slashLength, verdictOn, runBlock, reached, walk, blocksFor, callees}
 use Rattle.runs.specs.Walk as Walk
 use Rattle.runs.specs.Run.{firstOf, finishOf, runTable, runBlocks, outcome, recordsOf, answerOf, standingOf}
 use Rattle.runs.specs.declared.Budget.{Budget}
@@ -52,17 +48,18 @@ module _ {a b : Block} (same : AlikeBlock a b) where
   unfolding slashLength beginsWith
   past-slash = go (same .text)
     where
-      slash : {s t : List ℕ} → Alike false s t → beginsWith 47 s ≡ true → Alike false (drop 1 s) (drop 1 t)
-      slash nothing e = nothing
-      slash (outside f r) e = r
-      slash (begins r) e = absurd (false≢true e)
+      past :
+          {b : ℕ} {s u : List ℕ} (t : Bool) → Alike false (b ∷ s) (b ∷ u) → Alike false s u
+          → Alike false (drop (if t then 1 else 0) (b ∷ s)) (drop (if t then 1 else 0) (b ∷ u))
+      past true whole rest = rest
+      past false whole rest = whole
 
-      by : (t : Bool) {s u : List ℕ} → beginsWith 47 s ≡ t → Alike false s u → Alike false (drop (if t then 1 else 0) s) (drop (if t then 1 else 0) u)
-      by true e r = slash r e
-      by false e r = r
-
-      go : {s u : List ℕ} → Alike false s u → Alike false (drop (if beginsWith 47 s then 1 else 0) s) (drop (if beginsWith 47 s then 1 else 0) u)
-      go {s} r = by (beginsWith 47 s) refl r
+      go :
+          {s u : List ℕ} → Alike false s u
+          → Alike false (drop (if beginsWith 47 s then 1 else 0) s) (drop (if beginsWith 47 s then 1 else 0) u)
+      go nothing = nothing
+      go (outside {b} f r) = past (eqb b 47) (outside f r) r
+      go (begins r) = begins r
 
 -- two data sets that differ only inside comments, and else give the same job
 record AlikeJobs (p q : Job) : Type 0 where
@@ -81,55 +78,35 @@ verdict-alike :
 unfolding verdictOn exec
 verdict-alike {p} {q} {a} {b} jobs same left g =
     rw (← slash-alike same, ← same .start, ← jobs .machine, ← jobs .programs)
-    (ap (execWords (p .machine) (callsIn (p .programs) left) (g .room) (g .state) (a .start)) (words-alike (past-slash same) (a .start + slashLength a)))
-
--- ---- what follows a verdict
-
-module _ (c d : ℕ → Going → Outcome) (calls : (n : ℕ) (g : Going) → c n g ≡ d n g) (f h : Going → Outcome) (on : (g : Going) → f g ≡ h g) where
-  then-alike : (how : How) (s : State) (next : Place) → thenRest how s next f ≡ thenRest how s next h
-  unfolding thenRest
-  then-alike ended s next = refl
-  then-alike (returned g) s next = on g
-  then-alike unfinished s next = refl
-  then-alike (Walk.refusedAt refusal place) s next = refl
-
-  follow-alike : (control : Control) (g : Going) → follow control c f g ≡ follow control d h g
-  unfolding follow
-  follow-alike On g = on g
-  follow-alike (Call n) g = rw (calls n g) (ap (after (d n g .made)) (then-alike (d n g .how) (d n g .last) (d n g .next)))
-  follow-alike Back g = refl
-  follow-alike Stop g = refl
-
-  module _ {p q : Job} {a b : Block} (jobs : AlikeJobs p q) (same : AlikeBlock a b) (left : ℕ) (g : Going) where
-    obey-alike : (v : Verdict) → obey v a c f g ≡ obey v b d h g
-    unfolding obey
-    obey-alike (refused blame) = rw (same .number)
-    obey-alike (accepted s control made) = ap (after made) (follow-alike control (goingOn g s made))
-
-    run-alike : (skipped : Bool) → runBlock skipped p left c a f g ≡ runBlock skipped q left d b h g
-    unfolding runBlock
-    run-alike true = on (goingOn g (g .state) [])
-    run-alike false = rw (verdict-alike jobs same left g) (obey-alike (verdictOn q left b g))
-
-    reached-alike :
-        (spent end : Bool) (place : Place) (skipped : Bool)
-        → reached spent end place (runBlock skipped p left c a f) g ≡ reached spent end place (runBlock skipped q left d b h) g
-    unfolding reached
-    reached-alike true end place skipped = refl
-    reached-alike false true place skipped = refl
-    reached-alike false false place skipped = run-alike skipped
+    (ap (execWords (p .machine) (callsIn (p .programs) left) (g .room) (g .state) (a .start))
+    (words-alike (past-slash same) (a .start + slashLength a)))
 
 -- ---- the walk
 
-walk-alike :
-    {p q : Job} {as′ bs : List Block} → AlikeJobs p q → AlikeBlocks as′ bs → (left : ℕ) (c d : ℕ → Going → Outcome)
-    → ((n : ℕ) (g : Going) → c n g ≡ d n g) → (g : Going) → walk p left c as′ g ≡ walk q left d bs g
-unfolding walk
-walk-alike jobs Alikes.none left c d calls g = rw (jobs .finish)
-walk-alike {p} {q} jobs (Alikes.more {a} {b} {as′} {bs} same rest) left c d calls g =
-    rw (← begins-alike 79 (same .text), ← percent-alike (same .text), ← place-alike same, ← skipped-alike jobs same)
-    (reached-alike c d calls (walk p left c as′) (walk q left d bs) (walk-alike jobs rest left c d calls) jobs same left g
-    (isSpent (g .budget)) (opens a || closes a) (placeOf a) (isSkipped p a))
+module _ {p q : Job} (jobs : AlikeJobs p q) where
+  module _
+      {a b : Block} (same : AlikeBlock a b) (left : ℕ) {c d : ℕ → Going → Outcome} (calls : c ≡ d) {f h : Going → Outcome} (on : f ≡ h)
+    where
+      obey-alike : (v : Verdict) (g : Going) → obey v a d h g ≡ obey v b d h g
+      unfolding obey
+      obey-alike (refused blame) g = rw (same .number)
+      obey-alike (accepted s control made) g = refl
+
+      block-alike : (skipped : Bool) (g : Going) → runBlock skipped p left c a f g ≡ runBlock skipped q left d b h g
+      unfolding runBlock
+      block-alike true g = ap (λ (k : Going → Outcome). k (goingOn g (g .state) [])) on
+      block-alike false g = rw (verdict-alike jobs same left g, calls, on) (obey-alike (verdictOn q left b g) g)
+
+  walk-alike :
+      {as′ bs : List Block} → AlikeBlocks as′ bs → (left : ℕ) {c d : ℕ → Going → Outcome} → c ≡ d → (g : Going)
+      → walk p left c as′ g ≡ walk q left d bs g
+  unfolding walk
+  walk-alike Alikes.none left calls g = rw (jobs .finish)
+  walk-alike (Alikes.more {a} {b} {as′} {bs} same rest) left {c} {d} calls g =
+      let on : walk p left c as′ ≡ walk q left d bs = λ i h. walk-alike rest left calls h i in
+      rw (← begins-alike 79 (same .text), ← percent-alike (same .text), ← place-alike same, ← skipped-alike jobs same)
+      (ap (λ (run : Going → Outcome). reached (isSpent (g .budget)) (opens a || closes a) (placeOf a) run g)
+      (λ i h. block-alike same left calls on (isSkipped p a) h i))
 
 drop-alike : {as′ bs : List Block} (k : ℕ) → AlikeBlocks as′ bs → AlikeBlocks (drop k as′) (drop k bs)
 drop-alike zero r = r
@@ -152,8 +129,7 @@ called-alike {p} {q} jobs n =
 callees-alike : {p q : Job} → AlikeJobs p q → (left n : ℕ) (g : Going) → callees p left n g ≡ callees q left n g
 unfolding callees
 callees-alike jobs zero n g = refl
-callees-alike {p} {q} jobs (suc left) n g =
-    walk-alike jobs (called-alike jobs n) left (callees p left) (callees q left) (callees-alike jobs left) g
+callees-alike jobs (suc left) n g = walk-alike jobs (called-alike jobs n) left (λ i m h. callees-alike jobs left m h i) g
 
 -- ---- the run
 
@@ -167,7 +143,8 @@ module _ (s : Setup) {x y : List ℕ} (same : Alike false x y) (room : ℕ) (bud
   unfolding runTable finishOf
   table-alike r (refusedAt refusal place) = refl
   table-alike {as′} {bs} r (table main subs) =
-      walk-alike jobs (drop-alike (main .block - 1) r) 4 (callees p 4) (callees q 4) (callees-alike jobs 4) (record { state = firstOf s; room = room; budget = budget })
+      walk-alike jobs (drop-alike (main .block - 1) r) 4 (λ i n h. callees-alike jobs 4 n h i)
+      (record { state = firstOf s; room = room; budget = budget })
     where
       p : Job
       p = record { machine = machineOf (bedOf s); skips = switchOn s; blocks = as′; finish = finishOf x as′; programs = subs }

@@ -1,35 +1,158 @@
 -- The worst fault: "8: Duplicate Sub-Program Number". Data with two openings of one number, however they are written, is
 -- refused, and gives no record, under every setup, room and budget.
-use Prim.Native.Nat.{ℕ, _+_, _≤_}
+-- The table of programs goes by the openings alone: the blocks between them do not count.
+use Prim.Native.Nat.{ℕ, _<_, _+_, _≤_}
 use mathlib.Core.Path.{_≡_, refl, sym, _∙_, ap}
-use mathlib.Core.Bool.{Bool, true, false, false≢true, not, _||_, or-false, or-true, or-assoc}
+use mathlib.Core.Bool.{Bool, true, false, _&&_, _||_, or-true, or-assoc, false≢true, not, or-false}
 use mathlib.Core.List.{List, [], _∷_, _++_, map, append-assoc}
 use native.Mathlib.Omega.{arith}
-use borrow.Author.Tests.{eq-eqb, le-ltb, not-true}
-use lib.Dec.{eqb, ltb}
+use borrow.Author.Tests.{eqb-true, eq-eqb, ne-eqb, leb-true, lt-leb, le-ltb, not-true}
+use lib.Dec.{eqb, leb}
 use lib.ListN.{length, drop, length-append}
-use Rattle.terms.specs.Terms.{if_then_else_, any}
-use Rattle.terms.proofs.Laws.{both-left, both-right, either-left, either-right, any-neither}
+use Rattle.terms.specs.Terms.{if_then_else_, any, fromTo}
+use Rattle.terms.proofs.Laws.{any-snoc, both-left, both-right, either-left, either-right, any-neither}
+use Rattle.refusals.specs.declared.Refusal.the-variants.{BadParameter, DuplicateNumber, TableOver, FirstBlock, BadSetup, DataTooLong}
 use Rattle.refusals.specs.declared.Refusal.{Refusal}
-use Rattle.refusals.specs.declared.Refusal.the-variants.{BadParameter, DuplicateNumber, FirstBlock, BadSetup, DataTooLong}
 use Rattle.refusals.specs.declared.Place.{Place}
 use Rattle.refusals.specs.Numbers.{numberOf}
-use Rattle.lines.specs.Blocks.{Block, blocksOf, closes}
+use Rattle.words.specs.Numbers.{isDigit, run, digitsAfter}
+use Rattle.lines.specs.Blocks.{Block, beginsWith, isPercent, closes, opens, blocksOf}
+use Rattle.lines.specs.Gaps.{onlyGaps}
 use Rattle.programs.specs.declared.Program.{Program}
 use Rattle.programs.specs.declared.Opening.{Opening}
 use Rattle.programs.specs.declared.Opening.the-variants.{Number, Bad}
 use Rattle.programs.specs.declared.Entry.{Entry}
 use Rattle.programs.specs.declared.Entry.the-variants.{Refuses, Enters}
-use Rattle.programs.specs.Openings.{openingOf, placeOf, programAfter, Table, refusedAt, isTaken, entryOf, entered, programsFrom}
+use Rattle.programs.specs.Openings.{numberAfterO, openingOf, placeOf, programAfter, Table, table, refusedAt, isTaken, entryOf, entered, scanBlock, scan, mainAs, programsFrom}
 use Rattle.programs.proofs.Entries.{taken-main, entry-refusal}
 use Rattle.setup.specs.declared.Setup.{Setup}
 use Rattle.setup.specs.Limits.{validSetup}
 use Rattle.runs.specs.Walk.{Outcome, nowhere, just}
-use Rattle.runs.specs.Walk as Walk
 use Rattle.runs.specs.Run.{firstOf, runTable, runBlocks, outcome, recordsOf, answerBy, answerOf}
 use Rattle.runs.specs.declared.Budget.{Budget}
-use Rattle.promises.specs.Duplicates.{openingsIn, openingsOf, percentBegins, mainOpens, mostOpenings, Twice, Early, tooLong, badSetup, firstBlock, opening, earlier, NoList, RefusedEarly, allDifferent, InOrder}
-use Rattle.promises.proofs.Openings.{scanned, mainBy, tableBy, programs-openings, taken-more, taken-still, taken-now, entry-duplicate, entry-enters, entry-own, number-some}
+use Rattle.runs.specs.Walk as Walk
+use Rattle.claims.specs.Blockwise.{tableIn}
+use Rattle.claims.proofs.Runs.{by-test, by-order}
+use Rattle.promises.specs.Duplicates.{withBlock, openingsIn, mainOpens, openingsOf, percentBegins, mostOpenings, Twice, Early, tooLong, badSetup, firstBlock, opening, earlier, NoList, RefusedEarly, allDifferent, InOrder}
+
+-- ---- the openings alone
+
+unfoldable scanned : Program → List Block → List Program → Table
+scanned main [] subs = table main subs
+scanned main (o ∷ os) subs = entered (entryOf main subs (openingOf o)) subs o (scanned main os)
+
+unfoldable mainBy : Opening → Block → List Block → Table
+mainBy Bad o os = refusedAt BadParameter (placeOf o)
+mainBy (Number n) o os = scanned (programAfter n o) os []
+
+-- the table of openings, of which the first is the main's or not
+unfoldable tableBy : Bool → Block → List Block → Table
+tableBy false percent os = scanned (programAfter 0 percent) os []
+tableBy true percent [] = table (programAfter 0 percent) []
+tableBy true percent (o ∷ os) = mainBy (openingOf o) o os
+
+entered-same :
+    (e : Entry) (subs : List Program) (b : Block) (f g : List Program → Table) → ((ps : List Program) → f ps ≡ g ps)
+    → entered e subs b f ≡ entered e subs b g
+unfolding entered
+entered-same (Refuses refusal) subs b f g h = refl
+entered-same (Enters n) subs b f g h = h (subs ++ programAfter n b ∷ [])
+
+scan-openings : (main : Program) (bs : List Block) (subs : List Program) → scan main bs subs ≡ scanned main (openingsIn bs) subs
+unfolding scan scanBlock withBlock openingsIn scanned
+scan-openings main [] subs = refl
+scan-openings main (b ∷ bs) subs = go (closes b) (opens b) (scan-openings main bs)
+  where
+    go :
+        (end isOpening : Bool) → ((ps : List Program) → scan main bs ps ≡ scanned main (openingsIn bs) ps)
+        → scanBlock end isOpening main subs b (scan main bs)
+        ≡ scanned main (withBlock end isOpening b (openingsIn bs)) subs
+    go true isOpening on = refl
+    go false true on = entered-same (entryOf main subs (openingOf b)) subs b (scan main bs) (scanned main (openingsIn bs)) on
+    go false false on = on subs
+
+-- a block that opens a program does not close the data
+opens-closes : (b : Block) → opens b ≡ true → closes b ≡ false
+unfolding beginsWith isPercent
+opens-closes b e = go (b .text) e
+  where
+    go : (text : List ℕ) → beginsWith 79 text ≡ true → isPercent text ≡ false
+    go [] f = refl
+    go (c ∷ []) f = rw (eqb-true c 79 f)
+    go (c ∷ d ∷ text) f = refl
+
+programs-openings :
+    (percent : Block) (bs : List Block) → programsFrom percent bs ≡ tableBy (mainOpens (percent ∷ bs)) percent (openingsIn bs)
+unfolding programsFrom mainOpens tableBy withBlock openingsIn scanned mainAs mainBy
+programs-openings percent [] = refl
+programs-openings percent (b ∷ bs) = go (opens b) refl
+  where
+    under : (o : Opening) → mainAs o b bs ≡ mainBy o b (openingsIn bs)
+    under Bad = refl
+    under (Number n) = scan-openings (programAfter n b) bs []
+
+    go :
+        (isOpening : Bool) → opens b ≡ isOpening
+        → (if isOpening then mainAs (openingOf b) b bs else scan (programAfter 0 percent) (b ∷ bs) [])
+        ≡ tableBy isOpening percent (openingsIn (b ∷ bs))
+    go true e = rw (opens-closes b e, e) (under (openingOf b))
+    go false e = scan-openings (programAfter 0 percent) (b ∷ bs) []
+
+-- ---- what an opening leads to
+
+module _ (main : Program) (subs : List Program) where
+  taken-more : (p : Program) (n : ℕ) → isTaken main (subs ++ p ∷ []) n ≡ (isTaken main subs n || eqb n (p .number))
+  unfolding isTaken
+  taken-more p n =
+      ap (eqb n (main .number) ||_) (any-snoc (λ q. eqb n (q .number)) subs p)
+      ∙ sym (or-assoc (eqb n (main .number)) (any (λ q. eqb n (q .number)) subs) (eqb n (p .number)))
+
+  taken-still : (p : Program) (n : ℕ) → isTaken main subs n ≡ true → isTaken main (subs ++ p ∷ []) n ≡ true
+  taken-still p n e = taken-more p n ∙ rw e
+
+  taken-now : (p : Program) (n : ℕ) → n ≡ p .number → isTaken main (subs ++ p ∷ []) n ≡ true
+  unfolding isTaken
+  taken-now p n e = taken-more p n ∙ rw (eq-eqb n (p .number) e) (or-true (isTaken main subs n))
+
+  entry-duplicate : (o : Opening) (n : ℕ) → o ≡ Number n → isTaken main subs n ≡ true → entryOf main subs o ≡ Refuses DuplicateNumber
+  unfolding entryOf
+  entry-duplicate o n e f = rw e (rw f)
+
+  entry-enters :
+      (o : Opening) (n : ℕ) → o ≡ Number n → isTaken main subs n ≡ false → length subs < 10 → entryOf main subs o ≡ Enters n
+  unfolding entryOf
+  entry-enters o n e f h = rw e (rw (f, lt-leb 10 (length subs) h))
+
+  -- an opening enters its own number
+  entry-own : (o : Opening) (n m : ℕ) → o ≡ Number n → entryOf main subs o ≡ Enters m → n ≡ m
+  unfolding entryOf
+  entry-own o n m e f = go (isTaken main subs n) (leb 10 (length subs)) (rw e at f)
+    where
+      go : (taken full : Bool) → (if taken then Refuses DuplicateNumber else if full then Refuses TableOver else Enters n) ≡ Enters m → n ≡ m
+      go true full g = let never : _≡_ {A = ℕ} 0 1 = cc in absurd (omega arith)
+      go false true g = let never : _≡_ {A = ℕ} 0 1 = cc in absurd (omega arith)
+      go false false g = cc
+
+-- "value 1 to 9999": no opening has the number 0, which stands for a main program without an opening
+number-some : (b : Block) (n : ℕ) → openingOf b ≡ Number n → eqb n 0 ≡ false
+unfolding openingOf numberAfterO
+number-some b n e =
+    go (fromTo 1 8 (length (run isDigit text))) (leb 1 value) (leb value 9_999) (onlyGaps (drop (length (run isDigit text)) text)) refl e
+  where
+    text : List ℕ
+    text = drop 1 (b .text)
+
+    value : ℕ
+    value = digitsAfter 0 (run isDigit text)
+
+    go :
+        (count low high rest : Bool) → leb 1 value ≡ low
+        → (if count && (low && high) && rest then Number value else Bad) ≡ Number n → eqb n 0 ≡ false
+    go true true true true f g = let is : value ≡ n = cc in ne-eqb n 0 (λ z. omega (arith, leb-true 1 value f))
+    go true true true false f g = let never : _≡_ {A = ℕ} 0 1 = cc in absurd (omega arith)
+    go true true false rest f g = let never : _≡_ {A = ℕ} 0 1 = cc in absurd (omega arith)
+    go true false high rest f g = let never : _≡_ {A = ℕ} 0 1 = cc in absurd (omega arith)
+    go false low high rest f g = let never : _≡_ {A = ℕ} 0 1 = cc in absurd (omega arith)
 
 -- ---- numbers
 
@@ -70,15 +193,8 @@ record Refusing (os : List Block) (t : Table) : Type 0 where
 
 refusing-later : {os : List Block} {t : Table} (c : Block) → Refusing os t → Refusing (c ∷ os) t
 refusing-later c r =
-    record {
-      refusal = r .refusal;
-      before = c ∷ r .before;
-      at = r .at;
-      after = r .after;
-      are = ap (c ∷_) (r .are);
-      reason = r .reason;
-      is = r .is;
-    }
+    let are = ap (c ∷_) (r .are) in
+    record { refusal = r .refusal; before = c ∷ r .before; at = r .at; after = r .after; are = are; reason = r .reason; is = r .is }
 
 module _ (main : Program) (b : Block) (n : ℕ) (number : openingOf b ≡ Number n) (later : List Block) where
   -- an opening that is refused, or the table goes on with its number
@@ -88,19 +204,14 @@ module _ (main : Program) (b : Block) (n : ℕ) (number : openingOf b ≡ Number
       → Refusing (c ∷ os) (scanned main (c ∷ os ++ later) subs)
   unfolding scanned entered
   step c os subs (Refuses refusal) e on =
-      record {
-        refusal = refusal;
-        before = [];
-        at = c;
-        after = os;
-        are = refl;
-        reason = entry-refusal main subs (openingOf c) refusal e;
-        is = rw e;
-      }
+      let reason = entry-refusal main subs (openingOf c) refusal e in
+      record { refusal = refusal; before = []; at = c; after = os; are = refl; reason = reason; is = rw e }
   step c os subs (Enters m) e on = rw e (refusing-later c (on m refl))
 
   -- a number that is taken is refused at its opening, where no opening before it is
-  taken-refused : (os : List Block) (subs : List Program) → isTaken main subs n ≡ true → Refusing (os ++ b ∷ []) (scanned main ((os ++ b ∷ []) ++ later) subs)
+  taken-refused :
+      (os : List Block) (subs : List Program) → isTaken main subs n ≡ true
+      → Refusing (os ++ b ∷ []) (scanned main ((os ++ b ∷ []) ++ later) subs)
   taken-refused [] subs e =
       step b [] subs (Refuses DuplicateNumber) (entry-duplicate main subs (openingOf b) n number e)
       (λ m f. let never : _≡_ {A = ℕ} 0 1 = cc in absurd (omega arith))
@@ -156,11 +267,6 @@ table-refused true percent {os} {b} later t =
 
 -- ---- the first duplicate
 
-any-same : {A : Type 0} (p q : A → Bool) → ((a : A) → p a ≡ q a) → (l : List A) → any p l ≡ any q l
-unfolding any
-any-same p q h [] = refl
-any-same p q h (a ∷ l) = rw (h a, any-same p q h l)
-
 -- with a number entered, the numbers are free that were free and are not this one
 free-still :
     (main : Program) (subs : List Program) (p : Program) (ns : List ℕ) → any (isTaken main subs) ns ≡ false
@@ -184,7 +290,8 @@ module _ (b : Block) (n : ℕ) (number : openingOf b ≡ Number n) (later : List
       let rest : map openingOf os ≡ map Number ns = cc in
       let new : isTaken main subs m ≡ false = either-left (isTaken main subs m) (any (isTaken main subs) ns) f in
       let others : any (isTaken main subs) ns ≡ false = either-right (isTaken main subs m) (any (isTaken main subs) ns) f in
-      let differ : any (λ k. eqb k m) ns ≡ false = not-true (any (λ k. eqb k m) ns) (both-left (not (any (λ k. eqb k m) ns)) (allDifferent ns) d) in
+      let differ : any (λ k. eqb k m) ns ≡ false =
+      not-true (any (λ k. eqb k m) ns) (both-left (not (any (λ k. eqb k m) ns)) (allDifferent ns) d) in
       let taken : (isTaken main (subs ++ p ∷ []) n || any (eqb n) ns) ≡ true =
       rw (taken-more main subs p n) (or-assoc (isTaken main subs n) (eqb n m) (any (eqb n) ns) ∙ e) in
       rw (entry-enters main subs (openingOf c) m is new (omega arith))
@@ -198,7 +305,7 @@ module _ (b : Block) (n : ℕ) (number : openingOf b ≡ Number n) (later : List
   unfolding tableBy mainBy any allDifferent isTaken mostOpenings
   first-table false percent os ns h e =
       first-refused (programAfter 0 percent) os ns [] (h .good) (h .different)
-      (any-same (isTaken (programAfter 0 percent) []) (λ k. eqb k 0) (λ k. or-false (eqb k 0)) ns ∙ no-zero os ns (h .good)) (omega (arith, h .few))
+      (ap (λ (test : ℕ → Bool). any test ns) (λ i k. or-false (eqb k 0) i) ∙ no-zero os ns (h .good)) (omega (arith, h .few))
       (rw e (or-true (isTaken (programAfter 0 percent) [] n)))
   first-table true percent [] [] h e = absurd (false≢true e)
   first-table true percent [] (m ∷ ns) h e = let g = h .good in let never : _≡_ {A = ℕ} 0 1 = cc in absurd (omega arith)
@@ -211,7 +318,7 @@ module _ (b : Block) (n : ℕ) (number : openingOf b ≡ Number n) (later : List
       not-true (any (λ k. eqb k m) ns) (both-left (not (any (λ k. eqb k m) ns)) (allDifferent ns) (h .different)) in
       rw is
       (first-refused (programAfter m c) os ns [] rest (both-right (not (any (λ k. eqb k m) ns)) (allDifferent ns) (h .different))
-      (any-same (isTaken (programAfter m c) []) (λ k. eqb k m) (λ k. or-false (eqb k m)) ns ∙ differ) (omega (arith, h .few))
+      (ap (λ (test : ℕ → Bool). any test ns) (λ i k. or-false (eqb k m) i) ∙ differ) (omega (arith, h .few))
       (rw (or-false (eqb n m)) e))
 
 -- ---- the run
@@ -223,51 +330,36 @@ record Stops (s : Setup) (os : List Block) (o : Outcome) : Type 0 where
   is : o ≡ just (Walk.refusedAt refusal place) (firstOf s)
 
 module _ (s : Setup) (bytes : List ℕ) (room : ℕ) (budget : Budget) where
-  no-list : (refusal : Refusal) (place : Place) → outcome s bytes room budget ≡ just (Walk.refusedAt refusal place) (firstOf s) → NoList s bytes room budget (numberOf refusal) place
+  no-list :
+      (refusal : Refusal) (place : Place) → outcome s bytes room budget ≡ just (Walk.refusedAt refusal place) (firstOf s)
+      → NoList s bytes room budget (numberOf refusal) place
   unfolding answerOf answerBy recordsOf
   no-list refusal place e = record { answer = rw e; records = rw e }
 
   stops-table : (bs : List Block) {os : List Block} {t : Table} → Refusing os t → Stops s os (runTable s bytes bs room budget t)
   unfolding runTable
   stops-table bs r =
-      record {
-        refusal = r .refusal;
-        place = placeOf (r .at);
-        early = opening (r .before) (r .at) (r .after) (r .are) (r .reason);
-        is = rw (r .is);
-      }
+      let early = opening (r .before) (r .at) (r .after) (r .are) (r .reason) in
+      record { refusal = r .refusal; place = placeOf (r .at); early = early; is = rw (r .is) }
 
-  stops-first : (os : List Block) → Stops s os (just (Walk.refusedAt FirstBlock (record { block = 1; byte = 0 })) (firstOf s))
-  stops-first os = record { refusal = FirstBlock; place = record { block = 1; byte = 0 }; early = firstBlock; is = refl }
+  stops :
+      {os : List Block} {b : Block} (later : List Block) → Twice os b → openingsOf bytes ≡ os ++ later
+      → Stops s os (outcome s bytes room budget)
+  unfolding openingsOf tableIn runTable
+  stops {os} later twice e =
+      by-order s bytes room budget (λ x o. Stops s os o) (record { refusal = DataTooLong; place = nowhere; early = tooLong; is = refl })
+      (record { refusal = BadSetup; place = nowhere; early = badSetup; is = refl }) (λ v. go (blocksOf bytes) e)
+    where
+      first : Stops s os (just (Walk.refusedAt FirstBlock (record { block = 1; byte = 0 })) (firstOf s))
+      first = record { refusal = FirstBlock; place = record { block = 1; byte = 0 }; early = firstBlock; is = refl }
 
-  module _ {os : List Block} {b : Block} (later : List Block) (twice : Twice os b) where
-    stops-blocks : (bs : List Block) → openingsIn (drop 1 bs) ≡ os ++ later → Stops s os (runBlocks s bytes room budget bs)
-    unfolding runBlocks
-    stops-blocks [] e = stops-first os
-    stops-blocks (percent ∷ bs) e = go (closes percent)
-      where
-        go :
-            (isPercent : Bool)
-            → Stops s os
-            (if isPercent then runTable s bytes (percent ∷ bs) room budget (programsFrom percent bs)
-            else just (Walk.refusedAt FirstBlock (record { block = 1; byte = 0 })) (firstOf s))
-        go true =
-            rw (programs-openings percent bs, e) (stops-table (percent ∷ bs) (table-refused (mainOpens (percent ∷ bs)) percent later twice))
-        go false = stops-first os
-
-    stops : openingsOf bytes ≡ os ++ later → Stops s os (outcome s bytes room budget)
-    unfolding outcome openingsOf
-    stops e = go (ltb 65_535 (length bytes)) (validSetup s)
-      where
-        go :
-            (long valid : Bool)
-            → Stops s os
-            (if long then just (Walk.refusedAt DataTooLong nowhere) (firstOf s)
-            else if not valid then just (Walk.refusedAt BadSetup nowhere) (firstOf s)
-            else runBlocks s bytes room budget (blocksOf bytes))
-        go true valid = record { refusal = DataTooLong; place = nowhere; early = tooLong; is = refl }
-        go false false = record { refusal = BadSetup; place = nowhere; early = badSetup; is = refl }
-        go false true = stops-blocks (blocksOf bytes) e
+      go : (bs : List Block) → openingsIn (drop 1 bs) ≡ os ++ later → Stops s os (runTable s bytes (blocksOf bytes) room budget (tableIn bs))
+      go [] f = first
+      go (percent ∷ bs) f =
+          by-test (λ t. Stops s os (runTable s bytes (blocksOf bytes) room budget t)) (closes percent)
+          (rw (programs-openings percent bs, f)
+          (stops-table (blocksOf bytes) (table-refused (mainOpens (percent ∷ bs)) percent later twice)))
+          first
 
   -- Data with two openings of one number is refused at the second of them or earlier, and no record is made.
   pub two-of-one-number :

@@ -90,7 +90,10 @@ pub comment-bytes : (s : Setup) (room : ℕ) (budget : Budget) → SameRun s roo
 unfolding opened test
 comment-bytes s room budget =
     comment-bytes-replaced s room budget commented commentedElse
-    (record { size = refl; each = λ i h. tested commented commentedElse i (getD commented i 0) (every-place (test commented commentedElse) commented refl i h) })
+    (record {
+      size = refl;
+      each = λ i h. tested commented commentedElse i (getD commented i 0) (every-place (test commented commentedElse) commented refl i h);
+    })
 
 -- the same by computation; the parenthesis before the comment is not inside it
 pub comment-records : recordsOf setupT commented roomT Whole ≡ recordsOf setupT commentedElse roomT Whole

@@ -4,12 +4,5 @@ use Rattle.promises.specs.Duplicates.{withBlock, openingsIn, openingsOf,
 
 unfoldable pub opened : Unit {0}
 unfolding
-    runs-opened
-    withBlock
-    openingsIn
-    openingsOf
-    percentBegins
-    mainOpens
-    mostOpenings
-    allDifferent
+    runs-opened withBlock openingsIn openingsOf percentBegins mainOpens mostOpenings allDifferent
 opened = tt

@@ -2,17 +2,13 @@
 -- written." The records of every run can be written and read back, they fit the list, and the answer has their count.
 use Prim.Native.Nat.{ℕ, _+_, _≤_}
 use mathlib.Core.Path.{_≡_, refl, _∙_, ap}
-use mathlib.Core.Bool.{Bool, true, false}
 use mathlib.Core.List.{List, [], _++_, map}
 use native.Mathlib.Omega.{arith}
-use lib.Dec.{ltb}
 use lib.ListN.{length, drop, length-map}
-use Rattle.terms.specs.Terms.{if_then_else_}
-use Rattle.refusals.specs.declared.Refusal.the-variants.{BadSetup, DataTooLong}
 use Rattle.refusals.specs.Answers.{countOf}
 use Rattle.setup.specs.declared.Setup.{Setup}
-use Rattle.setup.specs.Limits.{validSetup}
 use Rattle.setup.specs.Frame.{offset, bedOf}
+use Rattle.setup.proofs.Valid.{fair}
 use Rattle.records.specs.declared.Record.{Record}
 use Rattle.records.specs.Layout.{listBytes, roomOf}
 use Rattle.records.specs.Path.{recordMoved}
@@ -20,13 +16,54 @@ use Rattle.records.specs.Reading.{after, readAll}
 use Rattle.records.specs.Writing.{ListShort}
 use Rattle.records.proofs.Laid.{list-length}
 use Rattle.records.proofs.Back.{round-trip, whole-list}
-use Rattle.records.proofs.Moved.{moved-room}
-use Rattle.runs.specs.Walk.{How, ended, returned, unfinished, nowhere, just}
+use Rattle.records.proofs.Moved.{moved-room, room-append, short-both}
+use Rattle.settings.specs.declared.State.{State}
+use Rattle.blocks.specs.Reach.{Reachable}
+use Rattle.runs.specs.Walk.{How, ended, returned, unfinished}
 use Rattle.runs.specs.Walk as Walk
 use Rattle.runs.specs.Run.{firstOf, outcome, recordsOf, answerBy, answerOf}
 use Rattle.runs.specs.declared.Budget.{Budget}
+use Rattle.claims.specs.Blockwise.{notYet, more, recordsBy, outcomeSofar, jobFor, standAt, refusedAtOnce, firstBlocks}
+use Rattle.claims.proofs.Turns.{run-holds}
+use Rattle.claims.proofs.Runs.{begun-cases, once-over, gives, suited, first-reached, block-keeps}
 use Rattle.promises.specs.ReadBack.{ReadsBack}
-use Rattle.promises.proofs.Listing.{fine-outcome}
+
+-- ---- the records of a run: their numbers fit four bytes, and they fit the room
+
+record Fine (s : Setup) (room : ℕ) (rs : List Record) : Type 0 where
+  short : ListShort (map (recordMoved (offset s)) rs)
+  fits : roomOf rs ≤ room
+
+-- what every block keeps, with the room that is left
+record Kept (s : Setup) (room : ℕ) (rs : List Record) (q : State) (left : ℕ) : Type 0 where
+  state : Reachable (bedOf s) q
+  short : ListShort (map (recordMoved (offset s)) rs)
+  fits : roomOf rs + left ≤ room
+
+-- under a setup with its six origins; a run that is refused before its first block has made none
+fine-outcome :
+    (s : Setup) → length (s .origins) ≡ 6 → (bytes : List ℕ) (room : ℕ) (budget : Budget) → Fine s room (outcome s bytes room budget .made)
+unfolding outcomeSofar firstBlocks refusedAtOnce standAt recordsBy roomOf bedOf jobFor
+fine-outcome s six bytes room budget =
+    let n = suited s bytes room budget in
+    rw (gives s bytes room (n .0) budget (n .1))
+    (begun-cases s bytes room budget (λ x o. Fine s room (recordsBy (more (jobFor s bytes) (n .0) x .executed)))
+    (λ r place early. rw (once-over s bytes room (n .0) r place) (record { short = tt; fits = omega arith }))
+    (λ blocks v.
+    let k =
+    run-holds (Kept s room) (jobFor s bytes)
+    (λ rs st b q control made e h.
+    let k = block-keeps (bedOf s) (fair s v six) (jobFor s bytes) st b q control made e (h .state) in
+    record {
+      state = k .state;
+      short = short-both (offset s) rs made (h .short) (k .short);
+      fits = omega (arith, room-append rs made, k .fits, h .fits);
+    })
+    (n .0) (record { executed = []; stand = standAt (firstOf s) room blocks; over = notYet })
+    (record { state = first-reached s v; short = tt; fits = omega arith }) in
+    record { short = k .short; fits = omega (arith, k .fits) }))
+
+-- ---- read back
 
 count-by : (how : How) (n : ℕ) → countOf (answerBy how n) ≡ n
 unfolding answerBy
@@ -51,7 +88,7 @@ reads-back rs how room short fits =
 pub read-back :
     (s : Setup) → length (s .origins) ≡ 6 → (bytes : List ℕ) (room : ℕ) (budget : Budget)
     → ReadsBack (recordsOf s bytes room budget) (answerOf s bytes room budget) room
-unfolding recordsOf answerOf bedOf
+unfolding recordsOf answerOf
 read-back s six bytes room budget =
     let o = outcome s bytes room budget in
     let fine = fine-outcome s six bytes room budget in
@@ -63,5 +100,5 @@ read-back s six bytes room budget =
 pub records-short :
     (s : Setup) → length (s .origins) ≡ 6 → (bytes : List ℕ) (room : ℕ) (budget : Budget)
     → ListShort (recordsOf s bytes room budget)
-unfolding recordsOf bedOf
+unfolding recordsOf
 records-short s six bytes room budget = fine-outcome s six bytes room budget .short
