@@ -1,5 +1,6 @@
 pub mod Digits
 pub mod Filled
+pub mod Blanks
 pub mod Turned
 pub mod ArcParts
 pub mod Walking

@@ -2,11 +2,13 @@
 use Prim.Native.Nat.{ℕ, zero, suc, _+_, _-_, _/_, _%_}
 use mathlib.Core.Path.{_≡_}
 use mathlib.Core.List.{List, [], _∷_, _++_}
-use lib.Dec.{ltb}
+use lib.Dec.{ltb, eqb}
 use lib.IntN.{ℤ, pos, negsuc}
 use lib.ListN.{length}
 use lib.Seq.{sets}
 use Rattle.terms.specs.Terms.{if_then_else_, bytes}
+use Rattle.lengths.specs.declared.Len.{Len}
+use Rattle.points.specs.declared.Flat.{Flat}
 
 -- Bytes written over a buffer from a place on, as far as the buffer goes, every other byte as it was; and the place after
 -- those that it had room for.
@@ -32,3 +34,13 @@ decimal n = digits 20 n
 unfoldable pub number : ℤ → List ℕ
 number (pos n) = decimal n
 number (negsuc n) = bytes "-" ++ decimal (suc n)
+
+-- the second number of one pair and the first of another
+abbrev pub across : Flat → Flat → Flat
+across a b = record { first = a .second; second = b .first }
+
+-- A text with blanks: each "_", which is 95, is the place of the next of four numbers, and after the last of the first again.
+unfoldable pub filled : List ℕ → Flat → Flat → List ℕ
+filled [] a b = []
+filled (c ∷ cs) a b =
+    if eqb c 95 then number (a .first .v) ⧺ filled cs (across a b) (across b a) else c ∷ filled cs a b

@@ -6,6 +6,7 @@ mod svg_lines;
 mod svg_path;
 mod svg_text;
 
+use lengths::Len;
 pub use picture::draw;
 use points::Flat;
 use points::Point;
@@ -27,15 +28,16 @@ pub enum Drawn {
     BadSetup,
 }
 
-// An arc as it is seen: from where, the point at which it begins, the directions from its centre to its start and to its end, and
-// its radius.
+// An arc as it is seen: from where, the point at which it begins, whether it turns left, the directions from its centre to its
+// start and to its end, and its radius.
 pub struct SeenArc {
     pub view: View,
     pub from: Point,
     pub arc: Arc,
+    pub turn: bool,
     pub start: Flat,
     pub end: Flat,
-    pub radius: u64,
+    pub radius: Len,
 }
 
 // From where a path is seen: X to the right, and Y up from above, Z up from the side.

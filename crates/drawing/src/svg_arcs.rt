@@ -7,9 +7,8 @@ use crate::quarters::point_on;
 use crate::quarters::quarter_on;
 use crate::quarters::radius_of;
 use crate::svg_lines::put_line;
-use crate::svg_lines::put_pair;
 use crate::svg_lines::seen;
-use crate::svg_text::put_count;
+use crate::svg_text::put_form;
 use crate::svg_text::put_text;
 use codes::Plane;
 use lengths::Len;
@@ -22,7 +21,7 @@ ghost use Rattle.arcs.specs.Arcs.{towards};
 ghost use Rattle.arcs.specs.Bounds.{Small};
 ghost use Rattle.drawing.specs.Text.{Fills};
 ghost use Rattle.drawing.specs.Turns.{Drawable};
-ghost use Rattle.drawing.specs.ArcText.{Ready, isRound, turnSeen, piece, seenArc, seenOn, seenEnd, started, quarters, rounded, passes, extreme, extremes, edge, bend, arc};
+ghost use Rattle.drawing.specs.ArcText.{Ready, isRound, turnSeen, piece, seenArc, seenOn, seenEnd, quarters, rounded, passes, extreme, extremes, edge, bend, bent, arc};
 
 fn is_round(view: View, plane: Plane) -> bool
     ensures { λ r. ⌜ r ≡ isRound view plane ⌝ }
@@ -50,30 +49,35 @@ fn turn_seen(view: View, turn: bool) -> bool
     }
 }
 
-fn put_piece(out: &mut [u8], at: usize, r: u64, sweep: bool, to: Flat) -> usize
-    ensures { λ next. ⌜ Fills (now (out .entry)) at (piece r sweep to) (now (out .exit)) next ⌝ }
-{
-    let wide = put_count(out, at, b"A", r);
-    let high = put_count(out, wide, b" ", r);
-    if sweep {
-        return put_pair(out, high, b" 0 0 1 ", to);
-    }
-    put_pair(out, high, b" 0 0 0 ", to)
-}
-
-fn seen_arc(view: View, from: Point, a: Arc) -> SeenArc
+fn seen_arc(view: View, from: Point, a: Arc, turn: bool) -> SeenArc
     requires { ⌜ Drawable from a ⌝ }
-    ensures { λ r. ⌜ (r ≡ seenArc view from a) × Ready r ⌝ }
+    ensures { λ r. ⌜ (r ≡ seenArc view from a turn) × Ready r ⌝ }
 {
     let end = a.end;
     SeenArc {
         view,
         from,
         arc: a,
+        turn,
         start: paths::from_centre(a, from),
         end: paths::from_centre(a, end),
-        radius: radius_of(from, a),
+        radius: Len::of_count(radius_of(from, a)),
     }
+}
+
+fn put_piece(out: &mut [u8], at: usize, s: SeenArc, to: Flat) -> usize
+    ensures { λ next. ⌜ Fills (now (out .entry)) at (piece s to) (now (out .exit)) next ⌝ }
+{
+    let view = s.view;
+    let radius = s.radius;
+    let radii = Flat {
+        first: radius,
+        second: radius,
+    };
+    if turn_seen(view, s.turn) {
+        return put_form(out, at, b"A_ _ 0 0 1 _ _", radii, to);
+    }
+    put_form(out, at, b"A_ _ 0 0 0 _ _", radii, to)
 }
 
 // Where a direction from the centre leads, as it is seen.
@@ -86,31 +90,22 @@ fn seen_on(s: SeenArc, d: Flat) -> Flat
 }
 
 // From quarter to quarter, until the end is at most a quarter on.
-fn put_quarters(out: &mut [u8], at: usize, s: SeenArc, turn: bool) -> usize
+fn put_quarters(out: &mut [u8], at: usize, s: SeenArc) -> usize
     requires { ⌜ Ready s ⌝ }
-    ensures { λ next. ⌜ Fills (now (out .entry)) at (quarters s turn 3 (s .start)) (now (out .exit)) next ⌝ }
+    ensures { λ next. ⌜ Fills (now (out .entry)) at (quarters s 3 (s .start)) (now (out .exit)) next ⌝ }
 {
-    let view = s.view;
-    let sweep = turn_seen(view, turn);
     let mut next = at;
     let mut d = s.start;
     let mut left: u32 = 3;
     while 0 < left {
-        if is_soon(turn, d, s.end) {
+        if is_soon(s.turn, d, s.end) {
             return next;
         }
-        d = quarter_on(turn, d);
-        next = put_piece(out, next, s.radius, sweep, seen_on(s, d));
+        d = quarter_on(s.turn, d);
+        next = put_piece(out, next, s, seen_on(s, d));
         left -= 1;
     }
     next
-}
-
-fn put_start(out: &mut [u8], at: usize, s: SeenArc) -> usize
-    ensures { λ next. ⌜ Fills (now (out .entry)) at (started s) (now (out .exit)) next ⌝ }
-{
-    let view = s.view;
-    put_pair(out, at, b"<path d=\"M", seen(view, s.from))
 }
 
 fn seen_end(s: SeenArc) -> Flat
@@ -121,77 +116,86 @@ fn seen_end(s: SeenArc) -> Flat
     seen(view, arc.end)
 }
 
-fn put_round(out: &mut [u8], at: usize, s: SeenArc, turn: bool) -> usize
+fn put_round(out: &mut [u8], at: usize, s: SeenArc) -> usize
     requires { ⌜ Ready s ⌝ }
-    ensures { λ next. ⌜ Fills (now (out .entry)) at (rounded s turn) (now (out .exit)) next ⌝ }
+    ensures { λ next. ⌜ Fills (now (out .entry)) at (rounded s) (now (out .exit)) next ⌝ }
 {
-    let view = s.view;
-    let start = put_start(out, at, s);
-    let turned = put_quarters(out, start, s, turn);
-    let last = put_piece(out, turned, s.radius, turn_seen(view, turn), seen_end(s));
-    put_text(out, last, b"\"/>\n")
+    let turned = put_quarters(out, at, s);
+    put_piece(out, turned, s, seen_end(s))
 }
 
-// Whether the path, which turns left where `turn` is true, passes a direction.
-fn is_passed(s: SeenArc, turn: bool, e: Flat) -> bool
+// Whether the path passes a direction.
+fn is_passed(s: SeenArc, e: Flat) -> bool
     requires { ⌜ (Ready s) × (Small e) ⌝ }
-    ensures { λ r. ⌜ r ≡ passes s turn e ⌝ }
+    ensures { λ r. ⌜ r ≡ passes s e ⌝ }
 {
-    if turn {
+    if s.turn {
         return paths::is_on_left_way(s.start, s.end, e.first, e.second);
     }
     paths::is_on_left_way(s.end, s.start, e.first, e.second)
 }
 
-fn put_extreme(out: &mut [u8], at: usize, s: SeenArc, turn: bool, e: Flat) -> usize
+fn put_extreme(out: &mut [u8], at: usize, s: SeenArc, e: Flat) -> usize
     requires { ⌜ (Ready s) × (Small e) ⌝ }
-    ensures { λ next. ⌜ Fills (now (out .entry)) at (extreme s turn e) (now (out .exit)) next ⌝ }
+    ensures { λ next. ⌜ Fills (now (out .entry)) at (extreme s e) (now (out .exit)) next ⌝ }
 {
-    if !is_passed(s, turn, e) {
+    if !is_passed(s, e) {
         return at;
     }
-    put_pair(out, at, b"L", seen_on(s, e))
+    let to = seen_on(s, e);
+    put_form(out, at, b"L_ _", to, to)
 }
 
-fn put_extremes(out: &mut [u8], at: usize, s: SeenArc, turn: bool) -> usize
+fn put_extremes(out: &mut [u8], at: usize, s: SeenArc) -> usize
     requires { ⌜ Ready s ⌝ }
-    ensures { λ next. ⌜ Fills (now (out .entry)) at (extremes s turn 4 (towards (pos (s .radius)) (pos 0))) (now (out .exit)) next ⌝ }
+    ensures { λ next. ⌜ Fills (now (out .entry)) at (extremes s 4 (towards (s .radius .v) (pos 0))) (now (out .exit)) next ⌝ }
 {
+    let radius = s.radius;
     let mut next = at;
     let mut e = Flat {
-        first: Len::of_count(s.radius),
+        first: radius,
         second: Len::zero(),
     };
     let mut left: u32 = 4;
     while 0 < left {
-        next = put_extreme(out, next, s, turn, e);
+        next = put_extreme(out, next, s, e);
         e = quarter_on(true, e);
         left -= 1;
     }
     next
 }
 
-fn put_edge(out: &mut [u8], at: usize, s: SeenArc, turn: bool) -> usize
+fn put_edge(out: &mut [u8], at: usize, s: SeenArc) -> usize
     requires { ⌜ Ready s ⌝ }
-    ensures { λ next. ⌜ Fills (now (out .entry)) at (edge s turn) (now (out .exit)) next ⌝ }
+    ensures { λ next. ⌜ Fills (now (out .entry)) at (edge s) (now (out .exit)) next ⌝ }
 {
-    let start = put_start(out, at, s);
-    let reached = put_extremes(out, start, s, turn);
-    let last = put_pair(out, reached, b"L", seen_end(s));
-    put_text(out, last, b"\"/>\n")
+    let reached = put_extremes(out, at, s);
+    let end = seen_end(s);
+    put_form(out, reached, b"L_ _", end, end)
 }
 
-fn put_bend(out: &mut [u8], at: usize, s: SeenArc, turn: bool) -> usize
+fn put_bend(out: &mut [u8], at: usize, s: SeenArc) -> usize
     requires { ⌜ Ready s ⌝ }
-    ensures { λ next. ⌜ Fills (now (out .entry)) at (bend s turn) (now (out .exit)) next ⌝ }
+    ensures { λ next. ⌜ Fills (now (out .entry)) at (bend s) (now (out .exit)) next ⌝ }
 {
     let view = s.view;
     let arc = s.arc;
     let plane = arc.plane;
     if is_round(view, plane) {
-        return put_round(out, at, s, turn);
+        return put_round(out, at, s);
     }
-    put_edge(out, at, s, turn)
+    put_edge(out, at, s)
+}
+
+fn put_bent(out: &mut [u8], at: usize, s: SeenArc) -> usize
+    requires { ⌜ Ready s ⌝ }
+    ensures { λ next. ⌜ Fills (now (out .entry)) at (bent s) (now (out .exit)) next ⌝ }
+{
+    let view = s.view;
+    let start = seen(view, s.from);
+    let begun = put_form(out, at, b"<path d=\"M_ _", start, start);
+    let last = put_bend(out, begun, s);
+    put_text(out, last, b"\"/>\n")
 }
 
 pub fn put_arc(out: &mut [u8], at: usize, view: View, from: Point, a: Arc, turn: bool) -> usize
@@ -199,7 +203,7 @@ pub fn put_arc(out: &mut [u8], at: usize, view: View, from: Point, a: Arc, turn:
 {
     let end = a.end;
     if is_drawable(from, a) {
-        return put_bend(out, at, seen_arc(view, from, a), turn);
+        return put_bent(out, at, seen_arc(view, from, a, turn));
     }
-    put_line(out, at, seen(view, from), seen(view, end))
+    put_line(out, at, view, from, end)
 }

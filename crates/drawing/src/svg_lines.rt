@@ -1,13 +1,11 @@
-// Points, lines and dots as SVG text, in units.
+// Points as they are seen, and lines as SVG text, in units.
 use crate::View;
-use crate::svg_text::put_named;
-use crate::svg_text::put_text;
+use crate::svg_text::put_form;
 use points::Flat;
 use points::Point;
 ghost use mathlib.Core.Path.{_≡_};
-ghost use mathlib.Core.List.{_++_};
 ghost use Rattle.drawing.specs.Text.{Fills};
-ghost use Rattle.drawing.specs.Lines.{seenFrom, pair, line, dot};
+ghost use Rattle.drawing.specs.Lines.{seenFrom, line};
 
 pub fn seen(view: View, p: Point) -> Flat
     ensures { λ r. ⌜ r ≡ seenFrom view p ⌝ }
@@ -27,25 +25,10 @@ pub fn seen(view: View, p: Point) -> Flat
     }
 }
 
-pub fn put_pair(out: &mut [u8], at: usize, text: &[u8], p: Flat) -> usize
-    ensures { λ next. ⌜ Fills (now (out .entry)) at (now (text .entry) ++ pair p) (now (out .exit)) next ⌝ }
+pub fn put_line(out: &mut [u8], at: usize, view: View, from: Point, to: Point) -> usize
+    ensures { λ next. ⌜ Fills (now (out .entry)) at (line (seenFrom view from) (seenFrom view to)) (now (out .exit)) next ⌝ }
 {
-    let next = put_named(out, at, text, p.first);
-    put_named(out, next, b" ", p.second)
-}
-
-pub fn put_line(out: &mut [u8], at: usize, from: Flat, to: Flat) -> usize
-    ensures { λ next. ⌜ Fills (now (out .entry)) at (line from to) (now (out .exit)) next ⌝ }
-{
-    let first = put_pair(out, at, b"<path d=\"M", from);
-    let second = put_pair(out, first, b"L", to);
-    put_text(out, second, b"\"/>\n")
-}
-
-// A dot, after the text that opens its path and says what it marks.
-pub fn put_dot(out: &mut [u8], at: usize, opening: &[u8], p: Flat) -> usize
-    ensures { λ next. ⌜ Fills (now (out .entry)) at (dot (now (opening .entry)) p) (now (out .exit)) next ⌝ }
-{
-    let next = put_pair(out, at, opening, p);
-    put_text(out, next, b"h0\"/>\n")
+    let start = seen(view, from);
+    let end = seen(view, to);
+    put_form(out, at, b"<path d=\"M_ _L_ _\"/>\n", start, end)
 }

@@ -1,17 +1,17 @@
 // The path of a record list as SVG text, rapids and cuts in two layers.
 use crate::View;
 use crate::svg_arcs::put_arc;
-use crate::svg_lines::put_dot;
 use crate::svg_lines::put_line;
 use crate::svg_lines::seen;
+use crate::svg_text::put_form;
 use points::Flat;
 use points::Point;
 use records::Listed;
 use records::Record;
 ghost use mathlib.Core.Path.{_≡_};
 ghost use Rattle.drawing.specs.Text.{Fills};
-ghost use Rattle.drawing.specs.Lines.{seenFrom, line};
-ghost use Rattle.drawing.specs.Shapes.{same, cut, shape, isRapid, inLayer, drawn, path};
+ghost use Rattle.drawing.specs.Lines.{seenFrom};
+ghost use Rattle.drawing.specs.Shapes.{same, cut, asCut, drawn, path};
 ghost use Rattle.drawing.specs.Walks.{recordsFrom, endFrom};
 
 fn is_same(a: Flat, b: Flat) -> bool
@@ -20,71 +20,39 @@ fn is_same(a: Flat, b: Flat) -> bool
     (a.first.apart(b.first) == 0) & (a.second.apart(b.second) == 0)
 }
 
-fn put_line_to(out: &mut [u8], at: usize, view: View, from: Point, to: Point) -> usize
-    ensures { λ next. ⌜ Fills (now (out .entry)) at (line (seenFrom view from) (seenFrom view to)) (now (out .exit)) next ⌝ }
-{
-    put_line(out, at, seen(view, from), seen(view, to))
-}
-
+// A cut along the line of sight is seen as a dot.
 fn put_cut(out: &mut [u8], at: usize, view: View, from: Point, to: Point) -> usize
     ensures { λ next. ⌜ Fills (now (out .entry)) at (cut (seenFrom view from) (seenFrom view to)) (now (out .exit)) next ⌝ }
 {
     let end = seen(view, to);
     if is_same(seen(view, from), end) {
-        return put_dot(out, at, b"<path class=\"p\" d=\"M", end);
+        return put_form(out, at, b"<path class=\"p\" d=\"M_ _h0\"/>\n", end, end);
     }
-    put_line_to(out, at, view, from, to)
+    put_line(out, at, view, from, to)
 }
 
-fn put_shape(out: &mut [u8], at: usize, view: View, from: Point, r: Record) -> usize
-    ensures { λ next. ⌜ Fills (now (out .entry)) at (shape view from r) (now (out .exit)) next ⌝ }
+fn put_as_cut(out: &mut [u8], at: usize, view: View, from: Point, r: Record) -> usize
+    ensures { λ next. ⌜ Fills (now (out .entry)) at (asCut view from r) (now (out .exit)) next ⌝ }
 {
     match r {
-        Record::RP(p) => put_line_to(out, at, view, from, p),
         Record::LN(p, _) => put_cut(out, at, view, from, p),
         Record::AR(a) => put_arc(out, at, view, from, a, false),
         Record::AL(a) => put_arc(out, at, view, from, a, true),
-        Record::DW(_) => at,
-        Record::SP(_) => at,
-        Record::SO => at,
-        Record::PA => at,
-        Record::EN => at,
+        _ => at,
     }
-}
-
-fn is_rapid(r: Record) -> bool
-    ensures { λ b. ⌜ b ≡ isRapid r ⌝ }
-{
-    match r {
-        Record::RP(_) => true,
-        Record::LN(_, _) => false,
-        Record::AR(_) => false,
-        Record::AL(_) => false,
-        Record::DW(_) => false,
-        Record::SP(_) => false,
-        Record::SO => false,
-        Record::PA => false,
-        Record::EN => false,
-    }
-}
-
-fn is_in_layer(rapids: bool, r: Record) -> bool
-    ensures { λ b. ⌜ b ≡ inLayer rapids r ⌝ }
-{
-    if rapids {
-        return is_rapid(r);
-    }
-    !is_rapid(r)
 }
 
 // Only rapids, or only what is no rapid.
 fn put_record(out: &mut [u8], at: usize, view: View, rapids: bool, from: Point, r: Record) -> usize
     ensures { λ next. ⌜ Fills (now (out .entry)) at (drawn view rapids from r) (now (out .exit)) next ⌝ }
 {
-    if is_in_layer(rapids, r) {
-        return put_shape(out, at, view, from, r);
+    if !rapids {
+        return put_as_cut(out, at, view, from, r);
     }
-    at
+    match r {
+        Record::RP(p) => put_line(out, at, view, from, p),
+        _ => at,
+    }
 }
 
 // What the reader says after the last record that it can read.
@@ -98,10 +66,7 @@ pub fn last_of(list: &[u8]) -> Listed
             Listed::Next(_, next) => {
                 at = next;
             }
-            Listed::End => {
-                return found;
-            }
-            Listed::Faulty(_, _) => {
+            _ => {
                 return found;
             }
         }
@@ -129,10 +94,7 @@ pub fn put_path(
                 from = records::path_end(from, r);
                 place = after;
             }
-            Listed::End => {
-                return next;
-            }
-            Listed::Faulty(_, _) => {
+            _ => {
                 return next;
             }
         }

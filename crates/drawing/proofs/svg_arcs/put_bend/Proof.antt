@@ -7,15 +7,11 @@ use Rattle.drawing.proofs.svg_arcs.put_bend.Tie as tie
 
 returns : tie.Need-returns
 unfolding bend
-returns c =
-    rw (sym (c .before .before .before .before .before .is-round .ensures) ∙ c .before .before .before .before .if1 .taken) (c .before .before .put-round .ensures)
+returns c = rw (sym (c .before .before .before .before .before .is-round .ensures) ∙ c .before .before .before .before .if1 .taken) (c .before .before .put-round .ensures)
 
 returns-2 : tie.Need-returns-2
 unfolding bend
-returns-2 c =
-    rw (sym (c .before .before .before .before .before .is-round .ensures) ∙ c .before .before .before .before .if1 .left) (c .before .before .put-edge .ensures)
+returns-2 c = rw (sym (c .before .before .before .before .before .is-round .ensures) ∙ c .before .before .before .before .if1 .left) (c .before .before .put-edge .ensures)
 
 pub put-bend-spec : {M : Type 1} → statement M
-put-bend-spec =
-    tie.close
-    (tie.spec (λ c κs. search needs) (λ c κs. search needs) (λ c. search needs) returns (λ c κs. search needs) (λ c. search needs) returns-2)
+put-bend-spec = tie.close (tie.spec (λ c κs. search needs) (λ c κs. search needs) (λ c. search needs) returns (λ c κs. search needs) (λ c. search needs) returns-2)

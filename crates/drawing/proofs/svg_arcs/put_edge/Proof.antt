@@ -1,19 +1,13 @@
 -- `drawing::svg_arcs::put_edge` meets its contract: its parts, one after the other. Assumes nothing.
 use borrow.Author.Needs.{needs}
-use Rattle.drawing.proofs.Filled.{fills-then, fills-next}
-use Rattle.terms.specs.Terms.{bytes}
 use Rattle.drawing.specs.ArcText.{edge}
+use Rattle.drawing.proofs.Filled.{fills-then}
 use Rattle.drawing.proofs.svg_arcs.put_edge.Statement.{statement}
 use Rattle.drawing.proofs.svg_arcs.put_edge.Tie as tie
 
 returns : tie.Need-returns
 unfolding edge
-returns c =
-    rw (← c .before .before .before .before .before .before .before .before .seen-end .ensures)
-    (fills-then (c .before .before .before .before .before .before .before .before .before .before .before .before .before .before .before .before .before .put-start .ensures)
-    (fills-then (c .before .before .before .before .before .before .before .before .before .before .before .before .before .put-extremes .ensures) (fills-next (bytes "L") _ (c .before .before .before .before .before .before .before .put-pair .ensures) (c .before .before .put-text .ensures))))
+returns c = rw (← c .before .before .before .before .before .seen-end .ensures) (fills-then (c .before .before .before .before .before .before .before .before .put-extremes .ensures) (c .before .before .put-form .ensures))
 
 pub put-edge-spec : {M : Type 1} → statement M
-put-edge-spec =
-    tie.close
-    (tie.spec (λ c κs. search needs) (λ c κs. search needs) (λ c. search needs) (λ c κs. search needs) (λ c κs. search needs) (λ c. search needs) (λ c κs. search needs) (λ c. search needs) returns)
+put-edge-spec = tie.close (tie.spec (λ c κs. search needs) (λ c κs. search needs) (λ c. search needs) (λ c κs. search needs) (λ c. search needs) returns)

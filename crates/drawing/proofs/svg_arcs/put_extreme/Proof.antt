@@ -2,8 +2,8 @@
 use mathlib.Core.Path.{sym, _∙_}
 use borrow.Author.Needs.{needs}
 use borrow.Author.Tests.{not-true, not-false}
-use Rattle.drawing.proofs.Filled.{fills-none}
 use Rattle.drawing.specs.ArcText.{extreme}
+use Rattle.drawing.proofs.Filled.{fills-none}
 use Rattle.drawing.proofs.svg_arcs.put_extreme.Statement.{statement}
 use Rattle.drawing.proofs.svg_arcs.put_extreme.Tie as tie
 
@@ -15,9 +15,7 @@ returns c =
 returns-2 : tie.Need-returns-2
 unfolding extreme
 returns-2 c =
-    rw (sym (c .before .before .before .before .before .before .before .is-passed .ensures) ∙ not-false _ (c .before .before .before .before .before .before .if1 .left), ← c .before .before .before .seen-on .ensures) (c .before .before .put-pair .ensures)
+    rw (sym (c .before .before .before .before .before .before .before .is-passed .ensures) ∙ not-false _ (c .before .before .before .before .before .before .if1 .left), ← c .before .before .before .before .before .seen-on .ensures) (c .before .before .put-form .ensures)
 
 pub put-extreme-spec : {M : Type 1} → statement M
-put-extreme-spec =
-    tie.close
-    (tie.spec (λ c κs. search needs) returns (λ c. search needs) (λ c κs. search needs) (λ c κs. search needs) (λ c. search needs) returns-2)
+put-extreme-spec = tie.close (tie.spec (λ c κs. search needs) returns (λ c κs. search needs) (λ c. search needs) (λ c κs. search needs) (λ c. search needs) returns-2)

@@ -2,43 +2,39 @@
 use Prim.Native.Nat.{ℕ}
 use mathlib.Core.List.{List}
 use mathlib.Core.Path.{_≡_, refl, _∙_}
-use native.Mathlib.Omega.{arith}
 use borrow.Author.Needs.{needs}
 use lib.ListN.{length}
 use Rattle.arcs.specs.Bounds.{Small}
-use Rattle.drawing.proofs.Filled.{fills-length}
 use Rattle.drawing.specs.Text.{Fills}
 use Rattle.drawing.specs.ArcText.{extremes}
+use Rattle.drawing.proofs.Filled.{fills-length}
 use Rattle.drawing.proofs.ArcParts.{extremes-done, extremes-on}
 use Rattle.drawing.proofs.svg_arcs.put_extremes.Statement.{statement}
 use Rattle.drawing.proofs.svg_arcs.put_extremes.Tie as tie
 
 abbrev Inv-loop : tie.InvT-loop
-Inv-loop out₀ at s turn next₀ e₀ left₀ out next e left =
+Inv-loop out₀ at s next₀ e₀ left₀ out next e left =
     (length out ≡ length out₀) × Small e
-    × ((is : List ℕ) (k : ℕ) → Fills out next (extremes s turn left e) is k → Fills out₀ next₀ (extremes s turn left₀ e₀) is k)
+    × ((is : List ℕ) (k : ℕ) → Fills out next (extremes s left e) is k → Fills out₀ next₀ (extremes s left₀ e₀) is k)
 
 abbrev μ-loop : tie.MeasureT-loop
-μ-loop out₀ at s turn next₀ e₀ left₀ out next e left =
-    left
+μ-loop out₀ at s next₀ e₀ left₀ out next e left = left
 
 loop-again : tie.Need-loop-again Inv-loop μ-loop
 loop-again c =
-    let x = c .before .before .before .before .before .before .before .before .before .before .args in
-    let h = c .before .before .before .before .before .before .loop in (
-      fills-length (c .before .before .before .put-extreme .ensures) ∙ h .inv .0,
+    let s = c .before .before .before .before .before .before .before .before .before .before .args .s in
+    let h = c .before .before .before .before .before .before .loop in
+    let put = c .before .before .before .put-extreme .ensures in (
+      fills-length put ∙ h .inv .0,
       c .quarter-on .ensures .1,
-      λ is k rest. h .inv .2 is k (extremes-on (x .s) (x .turn) (h .e) (h .left) (c .before .before .before .before .before .loop-test .taken) (c .before .before .before .put-extreme .ensures) (rw (c .quarter-on .ensures .0) at rest)),
+      λ is k rest. h .inv .2 is k (extremes-on s (h .e) (h .left) (c .before .before .before .before .before .loop-test .taken) put (rw (c .quarter-on .ensures .0) at rest)),
     )
 
 returns : tie.Need-returns Inv-loop μ-loop
 returns c =
-    let x = c .before .before .before .before .before .args in
     let h = c .before .loop in
-    rw (c .before .before .before .of-count .ensures .is, c .before .before .zero .ensures .is) at
-    (h .inv .2 (h .out) (h .next) (extremes-done (x .s) (x .turn) (h .e) (h .out) (h .next) (h .left) (c .loop-test .left)))
+    rw (c .before .before .zero .ensures .is) at
+    (h .inv .2 (h .out) (h .next) (extremes-done (c .before .before .before .before .before .args .s) (h .e) (h .out) (h .next) (h .left) (c .loop-test .left)))
 
 pub put-extremes-spec : {M : Type 1} → statement M
-put-extremes-spec =
-    tie.close
-    (tie.spec Inv-loop μ-loop (λ c κs. search needs) (λ c κs. search needs) (λ c. (refl, search needs, λ is k h. h)) (λ c κs. search needs) (λ c κs. search needs) (λ c. search needs) (λ c. search needs) loop-again (λ c. c .before .loop .inv .0) returns)
+put-extremes-spec = tie.close (tie.spec Inv-loop μ-loop (λ c κs. search needs) (λ c. (refl, search needs, λ is k h. h)) (λ c κs. search needs) (λ c κs. search needs) (λ c. search needs) (λ c. search needs) loop-again (λ c. c .before .loop .inv .0) returns)

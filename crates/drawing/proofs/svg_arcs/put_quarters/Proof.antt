@@ -2,49 +2,46 @@
 use Prim.Native.Nat.{ℕ}
 use mathlib.Core.List.{List}
 use mathlib.Core.Path.{_≡_, refl, sym, _∙_}
-use native.Mathlib.Omega.{arith}
 use borrow.Author.Needs.{needs}
 use lib.ListN.{length}
 use Rattle.arcs.specs.Bounds.{Small}
-use Rattle.drawing.proofs.Filled.{fills-length}
 use Rattle.drawing.specs.Text.{Fills}
 use Rattle.drawing.specs.ArcText.{quarters}
+use Rattle.drawing.proofs.Filled.{fills-length}
 use Rattle.drawing.proofs.ArcParts.{quarters-soon, quarters-done, quarters-on}
 use Rattle.drawing.proofs.svg_arcs.put_quarters.Statement.{statement}
 use Rattle.drawing.proofs.svg_arcs.put_quarters.Tie as tie
 
 abbrev Inv-loop : tie.InvT-loop
-Inv-loop out₀ at s turn sweep next₀ d₀ left₀ out next d left =
+Inv-loop out₀ at s next₀ d₀ left₀ out next d left =
     (length out ≡ length out₀) × Small d
-    × ((is : List ℕ) (k : ℕ) → Fills out next (quarters s turn left d) is k → Fills out₀ next₀ (quarters s turn left₀ d₀) is k)
+    × ((is : List ℕ) (k : ℕ) → Fills out next (quarters s left d) is k → Fills out₀ next₀ (quarters s left₀ d₀) is k)
 
 abbrev μ-loop : tie.MeasureT-loop
-μ-loop out₀ at s turn sweep next₀ d₀ left₀ out next d left =
-    left
+μ-loop out₀ at s next₀ d₀ left₀ out next d left = left
 
 returns : tie.Need-returns Inv-loop μ-loop
 returns c =
-    let x = c .before .before .before .before .before .before .before .args in
     let h = c .before .before .before .loop in
-    h .inv .2 (h .out) (h .next) (quarters-soon (x .s) (x .turn) (h .d) (h .out) (h .next) (h .left) (sym (c .before .is-soon .ensures) ∙ c .if1 .taken))
+    h .inv .2 (h .out) (h .next) (quarters-soon (c .before .before .before .before .before .before .args .s) (h .d) (h .out) (h .next) (h .left) (sym (c .before .is-soon .ensures) ∙ c .if1 .taken))
 
 loop-again : tie.Need-loop-again Inv-loop μ-loop
 loop-again c =
-    let x = c .before .before .before .before .before .before .before .before .before .before .before .before .before .args in
+    let s = c .before .before .before .before .before .before .before .before .before .before .before .before .args .s in
     let h = c .before .before .before .before .before .before .before .before .before .loop in
-    let p = rw (c .before .before .before .seen-on .ensures, c .before .before .before .before .before .before .before .before .before .before .before .turn-seen .ensures, c .before .before .before .before .before .quarter-on .ensures .0) at (c .before .before .put-piece .ensures) in (
-      fills-length (c .before .before .put-piece .ensures) ∙ h .inv .0,
-      c .before .before .before .before .before .quarter-on .ensures .1,
-      λ is k rest. h .inv .2 is k (quarters-on (x .s) (x .turn) (h .d) (h .left) (c .before .before .before .before .before .before .before .before .loop-test .taken) (sym (c .before .before .before .before .before .before .before .is-soon .ensures) ∙ c .before .before .before .before .before .before .if1 .left) p (rw (c .before .before .before .before .before .quarter-on .ensures .0) at rest)),
+    let on = c .before .before .before .before .before .quarter-on .ensures in
+    let soon = sym (c .before .before .before .before .before .before .before .is-soon .ensures) ∙ c .before .before .before .before .before .before .if1 .left in
+    let put = c .before .before .put-piece .ensures in
+    let piece = rw (c .before .before .before .seen-on .ensures, on .0) at put in (
+      fills-length put ∙ h .inv .0,
+      on .1,
+      λ is k rest. h .inv .2 is k (quarters-on s (h .d) (h .left) (c .before .before .before .before .before .before .before .before .loop-test .taken) soon piece (rw (on .0) at rest)),
     )
 
 returns-2 : tie.Need-returns-2 Inv-loop μ-loop
 returns-2 c =
-    let x = c .before .before .before .before .before .args in
     let h = c .before .loop in
-    h .inv .2 (h .out) (h .next) (quarters-done (x .s) (x .turn) (h .d) (h .out) (h .next) (h .left) (c .loop-test .left))
+    h .inv .2 (h .out) (h .next) (quarters-done (c .before .before .before .before .args .s) (h .d) (h .out) (h .next) (h .left) (c .loop-test .left))
 
 pub put-quarters-spec : {M : Type 1} → statement M
-put-quarters-spec =
-    tie.close
-    (tie.spec Inv-loop μ-loop (λ c κs. search needs) (λ c. (refl, search needs, λ is k h. h)) (λ c κs. search needs) (λ c. c .before .before .before .loop .inv .0) returns (λ c κs. search needs) (λ c κs. search needs) (λ c κs. search needs) (λ c. search needs) (λ c. search needs) loop-again (λ c. c .before .loop .inv .0) returns-2)
+put-quarters-spec = tie.close (tie.spec Inv-loop μ-loop (λ c. (refl, search needs, λ is k h. h)) (λ c κs. search needs) (λ c. c .before .before .before .loop .inv .0) returns (λ c κs. search needs) (λ c κs. search needs) (λ c κs. search needs) (λ c. search needs) (λ c. search needs) loop-again (λ c. c .before .loop .inv .0) returns-2)

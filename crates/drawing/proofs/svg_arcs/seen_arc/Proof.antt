@@ -8,16 +8,14 @@ use Rattle.drawing.proofs.svg_arcs.seen_arc.Tie as tie
 returns : tie.Need-returns
 unfolding seenArc
 returns c = (
-  rw (c .radius-of .ensures .0, c .before .from-centre2 .ensures .is, c .before .before .from-centre .ensures .is),
+  rw (c .of-count .ensures .is, c .before .radius-of .ensures .0, c .before .before .from-centre2 .ensures .is, c .before .before .before .from-centre .ensures .is),
   record {
-    drawable = c .before .before .before .before .pre;
-    start = c .before .before .from-centre .ensures .small;
-    end = c .before .from-centre2 .ensures .small;
-    radius = c .radius-of .ensures .1;
+    drawable = c .before .before .before .before .before .pre;
+    start = c .before .before .before .from-centre .ensures .small;
+    end = c .before .before .from-centre2 .ensures .small;
+    radius = record { hi = omega arith; lo = omega arith };
   },
 )
 
 pub seen-arc-spec : {M : Type 1} → statement M
-seen-arc-spec =
-    tie.close
-    (tie.spec (λ c κs. search needs) (λ c κs. search needs) (λ c κs. search needs) returns)
+seen-arc-spec = tie.close (tie.spec (λ c κs. search needs) (λ c κs. search needs) (λ c κs. search needs) (λ c κs. search needs) returns)

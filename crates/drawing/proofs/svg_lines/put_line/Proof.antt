@@ -1,18 +1,10 @@
--- `drawing::svg_lines::put_line` meets its contract: its parts, one after the other. Assumes nothing.
+-- `drawing::svg_lines::put_line` meets its contract: between the points as they are seen. Assumes nothing.
 use borrow.Author.Needs.{needs}
-use Rattle.terms.specs.Terms.{bytes}
-use Rattle.drawing.specs.Lines.{begun, line}
-use Rattle.drawing.proofs.Filled.{fills-next}
 use Rattle.drawing.proofs.svg_lines.put_line.Statement.{statement}
 use Rattle.drawing.proofs.svg_lines.put_line.Tie as tie
 
 returns : tie.Need-returns
-unfolding line
-returns c =
-    fills-next begun _ (c .before .before .before .before .before .before .before .before .before .before .before .before .put-pair .ensures) (fills-next (bytes "L") _ (c .before .before .before .before .before .before .before .put-pair2 .ensures) (c .before .before .put-text .ensures))
+returns c = rw (← c .before .before .before .before .before .before .seen .ensures, ← c .before .before .before .before .before .seen2 .ensures) (c .before .before .put-form .ensures)
 
 pub put-line-spec : {M : Type 1} → statement M
-put-line-spec =
-    tie.close
-    (tie.spec (λ c. search needs) (λ c κs. search needs) (λ c. search needs) (λ c κs. search needs) (λ c. search needs)
-    (λ c κs. search needs) (λ c. search needs) returns)
+put-line-spec = tie.close (tie.spec (λ c κs. search needs) (λ c κs. search needs) (λ c. search needs) (λ c κs. search needs) (λ c. search needs) returns)

@@ -8,18 +8,17 @@ use Rattle.drawing.proofs.svg_text.put_number.Tie as tie
 
 returns : tie.Need-returns
 returns c =
-    let n = c .before .before .before .before .before .before .before .before .before .before .before .before .before .before .before .args .n in
-    let e = sym (rw (c .before .before .before .before .before .before .before .before .before .before .before .zero2 .ensures .is) at (c .before .before .before .before .before .before .before .before .before .before .below .ensures)) ∙ c .before .before .before .before .before .before .before .before .before .if1 .taken in
-    rw (number-down (n .v) (c .before .before .before .before .before .before .before .before .before .before .before .before .before .zero .result) (c .before .before .before .before .before .before .before .before .before .before .before .before .apart .result) (c .before .before .before .before .before .before .before .before .before .before .before .before .before .zero .ensures) (c .before .before .before .before .before .before .before .before .before .before .before .before .apart .ensures) e) (fills-then (c .before .before .before .before .before .before .put-text .ensures) (c .before .before .put-digits .ensures))
+    let start = c .before .before .before .before .before .before .before .before .before in
+    let e = sym (rw (start .before .zero2 .ensures .is) at (start .below .ensures)) ∙ c .before .before .before .before .before .before .before .before .if1 .taken in
+    let far = start .before .before in
+    rw (number-down (c .before .before .before .before .before .before .before .before .before .before .before .before .before .before .args .n .v) (far .before .zero .result) (far .apart .result) (far .before .zero .ensures) (far .apart .ensures) e) (fills-then (c .before .before .before .before .before .before .put-byte .ensures) (c .before .before .put-digits .ensures))
 
 returns-2 : tie.Need-returns-2
 returns-2 c =
-    let n = c .before .before .before .before .before .before .before .before .before .before .args .n in
-    let e = sym (rw (c .before .before .before .before .before .before .zero2 .ensures .is) at (c .before .before .before .before .before .below .ensures)) ∙ c .before .before .before .before .if1 .left in
-    rw (number-up (n .v) (c .before .before .before .before .before .before .before .before .zero .result) (c .before .before .before .before .before .before .before .apart .result) (c .before .before .before .before .before .before .before .before .zero .ensures) (c .before .before .before .before .before .before .before .apart .ensures) e) (c .before .before .put-digits2 .ensures)
+    let start = c .before .before .before .before .before in
+    let e = sym (rw (start .before .zero2 .ensures .is) at (start .below .ensures)) ∙ c .before .before .before .before .if1 .left in
+    let far = start .before .before in
+    rw (number-up (c .before .before .before .before .before .before .before .before .before .before .args .n .v) (far .before .zero .result) (far .apart .result) (far .before .zero .ensures) (far .apart .ensures) e) (c .before .before .put-digits2 .ensures)
 
 pub put-number-spec : {M : Type 1} → statement M
-put-number-spec =
-    tie.close
-    (tie.spec (λ c κs. search needs) (λ c κs. search needs) (λ c κs. search needs) (λ c κs. search needs) (λ c. search needs)
-    (λ c κs. search needs) (λ c κs. search needs) (λ c. search needs) returns (λ c κs. search needs) (λ c. search needs) returns-2)
+put-number-spec = tie.close (tie.spec (λ c κs. search needs) (λ c κs. search needs) (λ c κs. search needs) (λ c κs. search needs) (λ c κs. search needs) (λ c κs. search needs) (λ c. search needs) returns (λ c κs. search needs) (λ c. search needs) returns-2)
