@@ -20,4 +20,4 @@ unfolding arc
 returns-2 c = rw (sym (c .before .before .before .before .before .is-drawable .ensures) ∙ c .before .before .before .before .if1 .left) (c .before .before .put-line .ensures)
 
 pub put-arc-spec : {M : Type 1} → statement M
-put-arc-spec = tie.close (tie.spec (λ c κs. search needs) seen-arc-requires (λ c κs. search needs) (λ c. search needs) returns (λ c κs. search needs) (λ c. search needs) returns-2)
+put-arc-spec = tie.close (tie.spec (λ c κs. search needs) seen-arc-requires (λ c κs. c .seen-arc .ensures .1) (λ c. search needs) returns (λ c κs. search needs) (λ c. search needs) returns-2)

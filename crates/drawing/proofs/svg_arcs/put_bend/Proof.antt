@@ -14,4 +14,4 @@ unfolding bend
 returns-2 c = rw (sym (c .before .before .before .before .before .is-round .ensures) ∙ c .before .before .before .before .if1 .left) (c .before .before .put-edge .ensures)
 
 pub put-bend-spec : {M : Type 1} → statement M
-put-bend-spec = tie.close (tie.spec (λ c κs. search needs) (λ c κs. search needs) (λ c. search needs) returns (λ c κs. search needs) (λ c. search needs) returns-2)
+put-bend-spec = tie.close (tie.spec (λ c κs. search needs) (λ c κs. c .before .before .before .before .before .pre) (λ c. search needs) returns (λ c κs. c .before .before .before .before .before .pre) (λ c. search needs) returns-2)

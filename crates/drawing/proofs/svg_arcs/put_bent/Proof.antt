@@ -12,4 +12,4 @@ returns c =
     (fills-then (c .before .before .before .before .before .before .before .before .before .before .before .put-form .ensures) (fills-then (c .before .before .before .before .before .before .before .put-bend .ensures) (c .before .before .put-text .ensures)))
 
 pub put-bent-spec : {M : Type 1} → statement M
-put-bent-spec = tie.close (tie.spec (λ c κs. search needs) (λ c. search needs) (λ c κs. search needs) (λ c κs. search needs) (λ c. search needs) (λ c κs. search needs) (λ c. search needs) returns)
+put-bent-spec = tie.close (tie.spec (λ c κs. search needs) (λ c. search needs) (λ c κs. search needs) (λ c κs. c .before .before .before .before .before .before .before .before .pre) (λ c. search needs) (λ c κs. search needs) (λ c. search needs) returns)

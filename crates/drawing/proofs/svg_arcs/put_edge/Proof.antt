@@ -10,4 +10,4 @@ unfolding edge
 returns c = rw (← c .before .before .before .before .before .seen-end .ensures) (fills-then (c .before .before .before .before .before .before .before .before .put-extremes .ensures) (c .before .before .put-form .ensures))
 
 pub put-edge-spec : {M : Type 1} → statement M
-put-edge-spec = tie.close (tie.spec (λ c κs. search needs) (λ c κs. search needs) (λ c. search needs) (λ c κs. search needs) (λ c. search needs) returns)
+put-edge-spec = tie.close (tie.spec (λ c κs. c .before .before .pre) (λ c κs. search needs) (λ c. search needs) (λ c κs. search needs) (λ c. search needs) returns)

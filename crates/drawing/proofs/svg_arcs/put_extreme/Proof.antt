@@ -18,4 +18,4 @@ returns-2 c =
     rw (sym (c .before .before .before .before .before .before .before .is-passed .ensures) ∙ not-false _ (c .before .before .before .before .before .before .if1 .left), ← c .before .before .before .before .before .seen-on .ensures) (c .before .before .put-form .ensures)
 
 pub put-extreme-spec : {M : Type 1} → statement M
-put-extreme-spec = tie.close (tie.spec (λ c κs. search needs) returns (λ c κs. search needs) (λ c. search needs) (λ c κs. search needs) (λ c. search needs) returns-2)
+put-extreme-spec = tie.close (tie.spec (λ c κs. c .before .pre) returns (λ c κs. c .before .before .before .pre) (λ c. search needs) (λ c κs. search needs) (λ c. search needs) returns-2)

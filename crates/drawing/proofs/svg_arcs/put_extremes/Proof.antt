@@ -37,4 +37,4 @@ returns c =
     (h .inv .2 (h .out) (h .next) (extremes-done (c .before .before .before .before .before .args .s) (h .e) (h .out) (h .next) (h .left) (c .loop-test .left)))
 
 pub put-extremes-spec : {M : Type 1} → statement M
-put-extremes-spec = tie.close (tie.spec Inv-loop μ-loop (λ c κs. search needs) (λ c. (refl, search needs, λ is k h. h)) (λ c κs. search needs) (λ c κs. search needs) (λ c. search needs) (λ c. search needs) loop-again (λ c. c .before .loop .inv .0) returns)
+put-extremes-spec = tie.close (tie.spec Inv-loop μ-loop (λ c κs. search needs) (λ c. (refl, record { first = c .before .before .before .pre .radius; second = search needs }, λ is k h. h)) (λ c κs. (c .before .before .before .before .before .before .pre, c .before .before .loop .inv .1)) (λ c κs. c .before .before .before .before .before .loop .inv .1) (λ c. search needs) (λ c. search needs) loop-again (λ c. c .before .loop .inv .0) returns)

@@ -44,4 +44,4 @@ returns-2 c =
     h .inv .2 (h .out) (h .next) (quarters-done (c .before .before .before .before .args .s) (h .d) (h .out) (h .next) (h .left) (c .loop-test .left))
 
 pub put-quarters-spec : {M : Type 1} → statement M
-put-quarters-spec = tie.close (tie.spec Inv-loop μ-loop (λ c. (refl, search needs, λ is k h. h)) (λ c κs. search needs) (λ c. c .before .before .before .loop .inv .0) returns (λ c κs. search needs) (λ c κs. search needs) (λ c κs. search needs) (λ c. search needs) (λ c. search needs) loop-again (λ c. c .before .loop .inv .0) returns-2)
+put-quarters-spec = tie.close (tie.spec Inv-loop μ-loop (λ c. (refl, c .before .before .pre .start, λ is k h. h)) (λ c κs. (c .before .loop .inv .1, c .before .before .before .before .pre .end)) (λ c. c .before .before .before .loop .inv .0) returns (λ c κs. c .before .before .before .loop .inv .1) (λ c κs. (c .before .before .before .before .before .before .before .before .pre, c .before .quarter-on .ensures .1)) (λ c κs. search needs) (λ c. search needs) (λ c. search needs) loop-again (λ c. c .before .loop .inv .0) returns-2)

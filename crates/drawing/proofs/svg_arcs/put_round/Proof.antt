@@ -10,4 +10,4 @@ unfolding rounded
 returns c = rw (← c .before .before .before .seen-end .ensures) (fills-then (c .before .before .before .before .before .before .before .put-quarters .ensures) (c .before .before .put-piece .ensures))
 
 pub put-round-spec : {M : Type 1} → statement M
-put-round-spec = tie.close (tie.spec (λ c κs. search needs) (λ c κs. search needs) (λ c κs. search needs) (λ c. search needs) returns)
+put-round-spec = tie.close (tie.spec (λ c κs. c .before .before .pre) (λ c κs. search needs) (λ c κs. search needs) (λ c. search needs) returns)
