@@ -19,10 +19,10 @@ use Rattle.records.specs.declared.Listed.{Listed}
 use Rattle.records.specs.declared.Listed.the-variants.{Next, End, Faulty as faulty}
 use Rattle.drawing.specs.declared.Drawn.{Drawn}
 use Rattle.drawing.specs.declared.Drawn.the-variants.{Is, NoRoom, Faulty, BadSetup}
-use Rattle.drawing.specs.Text.{Fills}
+use Rattle.svg.specs.Text.{Fills}
 use Rattle.drawing.specs.Walks.{recordsFrom, endFrom}
 use Rattle.drawing.specs.Picture.{sheetOf, pictureOf, fitting, answerFor, bytesFor, Draws}
-use Rattle.drawing.proofs.Filled.{fills-length}
+use Rattle.svg.proofs.Filled.{fills-length}
 
 -- a place before the buffer's end says that the whole text is there
 pub fits-is : {was is text : List ℕ} {n : ℕ} → Fills was 0 text is n → n < length is → Is n ≡ fitting text (length was)

@@ -16,11 +16,11 @@ use Rattle.records.specs.Reading.{readAt, readAll, onward, after, trail, Trail}
 use Rattle.records.proofs.Again.{read-on}
 use Rattle.points.specs.declared.Point.{Point}
 use Rattle.records.specs.Path.{pathOf, pathEnd}
-use Rattle.drawing.specs.declared.View.{View}
-use Rattle.drawing.specs.Text.{Fills}
+use Rattle.svg.specs.declared.View.{View}
+use Rattle.svg.specs.Text.{Fills}
 use Rattle.drawing.specs.Shapes.{drawn, path}
 use Rattle.drawing.specs.Walks.{recordsFrom, endFrom}
-use Rattle.drawing.proofs.Filled.{fills-then, fills-none}
+use Rattle.svg.proofs.Filled.{fills-then, fills-none}
 
 module _ (l : List ℕ) where
   -- as many steps as there are bytes left are enough, and more change nothing

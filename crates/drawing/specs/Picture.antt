@@ -18,13 +18,13 @@ use Rattle.setup.specs.Limits.{validSetup}
 use Rattle.records.specs.declared.Record.{Record}
 use Rattle.records.specs.declared.Listed.{Listed}
 use Rattle.records.specs.declared.Listed.the-variants.{Next, End, Faulty as faulty}
-use Rattle.drawing.specs.declared.View.{View}
-use Rattle.drawing.specs.declared.View.the-variants.{Above, Side}
+use Rattle.svg.specs.declared.View.{View}
+use Rattle.svg.specs.declared.View.the-variants.{Above, Side}
 use Rattle.drawing.specs.declared.Sheet.{Sheet}
 use Rattle.drawing.specs.declared.Drawn.{Drawn}
 use Rattle.drawing.specs.declared.Drawn.the-variants.{Is, NoRoom, Faulty, BadSetup}
-use Rattle.drawing.specs.Text.{_⧺_, filled}
-use Rattle.drawing.specs.Lines.{seenFrom}
+use Rattle.svg.specs.Text.{_⧺_, filled}
+use Rattle.svg.specs.Lines.{seenFrom}
 use Rattle.drawing.specs.Shapes.{path}
 use Rattle.drawing.specs.Walks.{recordsFrom, endFrom}
 

@@ -10,10 +10,10 @@ use Rattle.points.specs.declared.Flat.{Flat}
 use Rattle.records.specs.declared.Record.{Record}
 use Rattle.records.specs.declared.Record.the-variants.{RP, LN, AR, AL, DW, SP, SO, PA, EN}
 use Rattle.records.specs.Path.{pathOf, pathEnd}
-use Rattle.drawing.specs.declared.View.{View}
-use Rattle.drawing.specs.Text.{_⧺_, filled}
-use Rattle.drawing.specs.Lines.{seenFrom, line}
-use Rattle.drawing.specs.ArcText.{arc}
+use Rattle.svg.specs.declared.View.{View}
+use Rattle.svg.specs.Text.{_⧺_, filled}
+use Rattle.svg.specs.Lines.{seenFrom, line}
+use Rattle.svg.specs.ArcText.{arc}
 
 -- a cut along the line of sight, as a hole is from above, is seen as a dot
 unfoldable pub same : Flat → Flat → Bool

@@ -1,17 +1,17 @@
 // Pictures of a record list, as SVG text: the path seen from above and from the side, in units.
 use crate::Drawn;
 use crate::Sheet;
-use crate::View;
-use crate::svg_lines::seen;
-use crate::svg_path::last_of;
-use crate::svg_path::put_path;
-use crate::svg_text::put_form;
-use crate::svg_text::put_text;
+use crate::layers::last_of;
+use crate::layers::put_path;
 use lengths::Len;
 use points::Flat;
 use points::Point;
 use records::Listed;
 use setup::Setup;
+use svg::View;
+use svg::put_form;
+use svg::put_text;
+use svg::seen;
 ghost use Prim.Native.Nat.{_≤_};
 ghost use mathlib.Core.Path.{_≡_};
 ghost use mathlib.Core.Bool.{true};
@@ -19,7 +19,7 @@ ghost use Rattle.setup.specs.Limits.{validSetup};
 ghost use lib.ListN.{length};
 ghost use lib.Seq.{sets};
 ghost use Rattle.points.specs.Near.{Near};
-ghost use Rattle.drawing.specs.Text.{Fills};
+ghost use Rattle.svg.specs.Text.{Fills};
 ghost use Rattle.drawing.specs.Walks.{recordsFrom};
 ghost use Rattle.drawing.specs.Picture.{sheetOf, gapOf, Fair, cornerOf, sizeOf, downOf, marks, viewOf, opening, shift, pictureOf, fitting, Draws};
 
