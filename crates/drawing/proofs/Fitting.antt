@@ -2,25 +2,27 @@
 use Prim.Native.Nat.{ℕ, _≤_, _<_}
 use mathlib.Core.Path.{_≡_, refl, sym, ap, _∙_}
 use mathlib.Core.Bool.{Bool, true, false}
-use mathlib.Core.List.{List}
+use mathlib.Core.List.{List, [], _∷_}
 use native.Mathlib.Omega.{arith}
 use borrow.Author.Tests.{lt-ltb, le-ltb, ltb-true}
+use denote.Enum.Declared.{tagOf}
+use types.Run.{OneOf, miss}
 use lib.Dec.{ltb}
 use lib.ListN.{length}
 use lib.Seq.{sets}
 use Rattle.terms.specs.Terms.{if_then_else_}
 use Rattle.setup.specs.declared.Setup.{Setup}
 use Rattle.setup.specs.Limits.{validSetup}
-use Rattle.records.specs.declared.Record.{Record}
+use Rattle.records.proofs.Listed.{the-type}
 use Rattle.records.specs.declared.Fault.{Fault}
 use Rattle.records.specs.declared.Listed.{Listed}
 use Rattle.records.specs.declared.Listed.the-variants.{Next, End, Faulty as faulty}
 use Rattle.drawing.specs.declared.Drawn.{Drawn}
 use Rattle.drawing.specs.declared.Drawn.the-variants.{Is, NoRoom, Faulty, BadSetup}
-use Rattle.drawing.specs.Text.{Fills}
+use Rattle.svg.specs.Text.{Fills}
 use Rattle.drawing.specs.Walks.{recordsFrom, endFrom}
 use Rattle.drawing.specs.Picture.{sheetOf, pictureOf, fitting, answerFor, bytesFor, Draws}
-use Rattle.drawing.proofs.Filled.{fills-length}
+use Rattle.svg.proofs.Filled.{fills-length}
 
 -- a place before the buffer's end says that the whole text is there
 pub fits-is : {was is text : List ℕ} {n : ℕ} → Fills was 0 text is n → n < length is → Is n ≡ fitting text (length was)
@@ -38,6 +40,19 @@ fits-not {was} {is} {text} {n} p h =
     let more : length was ≤ length text = omega (arith, p .place) in
     rw (le-ltb (length text) (length was) more)
 
+-- a list that can be read to its end is drawn whole
+whole-answer : (x : Listed) (d : Drawn) → OneOf (0 ∷ 1 ∷ []) (tagOf the-type x) → answerFor x d ≡ d
+unfolding answerFor
+whole-answer (Next r next) d h = refl
+whole-answer End d h = refl
+whole-answer (faulty fault place) d h = absurd (miss (0 ∷ 1 ∷ []) 2 tt h)
+
+whole-bytes : (x : Listed) (was is : List ℕ) → OneOf (0 ∷ 1 ∷ []) (tagOf the-type x) → bytesFor x was is ≡ is
+unfolding bytesFor
+whole-bytes (Next r next) was is h = refl
+whole-bytes End was is h = refl
+whole-bytes (faulty fault place) was is h = absurd (miss (0 ∷ 1 ∷ []) 2 tt h)
+
 module _ (l : List ℕ) (s : Setup) where
   pub draws-bad : (was : List ℕ) → validSetup s ≡ false → Draws l s was was BadSetup
   draws-bad was e = record { answer = rw e; bytes = rw e }
@@ -47,18 +62,16 @@ module _ (l : List ℕ) (s : Setup) where
   unfolding answerFor bytesFor
   draws-faulty was e f = record { answer = rw (e, f); bytes = rw (e, f) }
 
-  module _ {was is : List ℕ} {r : Drawn} (e : validSetup s ≡ true) where
-    pub draws-end :
-        endFrom l 0 ≡ End → r ≡ fitting (pictureOf (sheetOf s) (recordsFrom l 0)) (length was)
-        → is ≡ sets was 0 (pictureOf (sheetOf s) (recordsFrom l 0)) → Draws l s was is r
-    unfolding answerFor bytesFor
-    draws-end f p q = record { answer = rw (e, f) p; bytes = rw (e, f) q }
-
-    pub draws-next :
-        {a : Record} {next : ℕ} → endFrom l 0 ≡ Next a next → r ≡ fitting (pictureOf (sheetOf s) (recordsFrom l 0)) (length was)
-        → is ≡ sets was 0 (pictureOf (sheetOf s) (recordsFrom l 0)) → Draws l s was is r
-    unfolding answerFor bytesFor
-    draws-next f p q = record { answer = rw (e, f) p; bytes = rw (e, f) q }
+  pub draws-whole :
+      {was is : List ℕ} {r : Drawn} → validSetup s ≡ true → OneOf (0 ∷ 1 ∷ []) (tagOf the-type (endFrom l 0))
+      → r ≡ fitting (pictureOf (sheetOf s) (recordsFrom l 0)) (length was) → is ≡ sets was 0 (pictureOf (sheetOf s) (recordsFrom l 0))
+      → Draws l s was is r
+  draws-whole {was} {is} e h p q =
+      let text = pictureOf (sheetOf s) (recordsFrom l 0) in
+      record {
+        answer = rw e (p ∙ sym (whole-answer (endFrom l 0) (fitting text (length was)) h));
+        bytes = rw e (q ∙ sym (whole-bytes (endFrom l 0) was (sets was 0 text) h));
+      }
 
 -- ---- a picture that is drawn ends before the buffer does
 

@@ -1,6 +1,2 @@
-pub mod Digits
-pub mod Filled
-pub mod Turned
-pub mod ArcParts
 pub mod Walking
 pub mod Fitting

@@ -4,7 +4,10 @@ use mathlib.Core.Path.{_≡_, refl, ap, _∙_}
 use mathlib.Core.Bool.{Bool}
 use mathlib.Core.List.{List, [], _∷_}
 use native.Mathlib.Omega.{arith}
+use denote.Enum.Declared.{tagOf}
+use types.Run.{OneOf, miss}
 use lib.ListN.{length}
+use Rattle.records.proofs.Listed.{the-type}
 use Rattle.records.specs.declared.Record.{Record}
 use Rattle.records.specs.declared.Fault.{Fault}
 use Rattle.records.specs.declared.Listed.{Listed}
@@ -13,11 +16,11 @@ use Rattle.records.specs.Reading.{readAt, readAll, onward, after, trail, Trail}
 use Rattle.records.proofs.Again.{read-on}
 use Rattle.points.specs.declared.Point.{Point}
 use Rattle.records.specs.Path.{pathOf, pathEnd}
-use Rattle.drawing.specs.declared.View.{View}
-use Rattle.drawing.specs.Text.{Fills}
+use Rattle.svg.specs.declared.View.{View}
+use Rattle.svg.specs.Text.{Fills}
 use Rattle.drawing.specs.Shapes.{drawn, path}
 use Rattle.drawing.specs.Walks.{recordsFrom, endFrom}
-use Rattle.drawing.proofs.Filled.{fills-then, fills-none}
+use Rattle.svg.proofs.Filled.{fills-then, fills-none}
 
 module _ (l : List ℕ) where
   -- as many steps as there are bytes left are enough, and more change nothing
@@ -58,10 +61,16 @@ module _ (l : List ℕ) where
       let g : length l - at ≡ suc (length l - at - 1) = omega arith in
       ap (λ (n : ℕ). readAll n l at) g ∙ one m at r next e ∙ ap (after (r ∷ [])) (enough m (length l - next) next (omega arith) (omega arith))
 
-  stopped : (at k : ℕ) (x : Listed) → readAt l at ≡ x → ((go : ℕ → Trail) → onward x go ≡ trail [] x) → readAll k l at ≡ trail [] x
-  unfolding readAll
-  stopped at zero x e f = rw e
-  stopped at (suc k) x e f = rw e (f (readAll k l))
+  -- no step from a place where none stands
+  stopped : (at k : ℕ) → OneOf (1 ∷ 2 ∷ []) (tagOf the-type (readAt l at)) → readAll k l at ≡ trail [] (readAt l at)
+  unfolding readAll onward
+  stopped at zero h = refl
+  stopped at (suc k) h = by (readAt l at) h
+    where
+      by : (x : Listed) → OneOf (1 ∷ 2 ∷ []) (tagOf the-type x) → onward x (readAll k l) ≡ trail [] x
+      by (Next r next) g = absurd (miss (1 ∷ 2 ∷ []) 0 tt g)
+      by End g = refl
+      by (Faulty fault place) g = refl
 
   pub records-next : (at : ℕ) {r : Record} {next : ℕ} → readAt l at ≡ Next r next → recordsFrom l at ≡ r ∷ recordsFrom l next
   unfolding recordsFrom
@@ -71,21 +80,13 @@ module _ (l : List ℕ) where
   unfolding endFrom
   end-next at {r} {next} e = ap (λ (t : Trail). t .last) (step at r next e)
 
-  pub records-end : (at : ℕ) → readAt l at ≡ End → recordsFrom l at ≡ []
-  unfolding recordsFrom onward
-  records-end at e = ap (λ (t : Trail). t .records) (stopped at (length l - at) End e (λ go. refl))
+  pub records-none : (at : ℕ) → OneOf (1 ∷ 2 ∷ []) (tagOf the-type (readAt l at)) → recordsFrom l at ≡ []
+  unfolding recordsFrom
+  records-none at h = ap (λ (t : Trail). t .records) (stopped at (length l - at) h)
 
-  pub records-faulty : (at : ℕ) {fault : Fault} {place : ℕ} → readAt l at ≡ Faulty fault place → recordsFrom l at ≡ []
-  unfolding recordsFrom onward
-  records-faulty at {fault} {place} e = ap (λ (t : Trail). t .records) (stopped at (length l - at) (Faulty fault place) e (λ go. refl))
-
-  pub end-end : (at : ℕ) → readAt l at ≡ End → endFrom l at ≡ End
-  unfolding endFrom onward
-  end-end at e = ap (λ (t : Trail). t .last) (stopped at (length l - at) End e (λ go. refl))
-
-  pub end-faulty : (at : ℕ) {fault : Fault} {place : ℕ} → readAt l at ≡ Faulty fault place → endFrom l at ≡ Faulty fault place
-  unfolding endFrom onward
-  end-faulty at {fault} {place} e = ap (λ (t : Trail). t .last) (stopped at (length l - at) (Faulty fault place) e (λ go. refl))
+  pub end-here : (at : ℕ) → OneOf (1 ∷ 2 ∷ []) (tagOf the-type (readAt l at)) → endFrom l at ≡ readAt l at
+  unfolding endFrom
+  end-here at h = ap (λ (t : Trail). t .last) (stopped at (length l - at) h)
 
 module _ (l : List ℕ) (view : View) (rapids : Bool) (from : Point) where
   -- a record drawn, and then the rest of the path
@@ -99,12 +100,8 @@ module _ (l : List ℕ) (view : View) (rapids : Bool) (from : Point) where
   unfolding path
   path-on place e p g q = rw (records-next l place e, ← g) (fills-then p q)
 
-  pub path-end : (out : List ℕ) (next place : ℕ) → readAt l place ≡ End → Fills out next (path view rapids from (recordsFrom l place)) out next
-  unfolding path
-  path-end out next place e = rw (records-end l place e) (fills-none out next)
-
-  pub path-faulty :
-      (out : List ℕ) (next place : ℕ) {fault : Fault} {spot : ℕ} → readAt l place ≡ Faulty fault spot
+  pub path-end :
+      (out : List ℕ) (next place : ℕ) → OneOf (1 ∷ 2 ∷ []) (tagOf the-type (readAt l place))
       → Fills out next (path view rapids from (recordsFrom l place)) out next
   unfolding path
-  path-faulty out next place e = rw (records-faulty l place e) (fills-none out next)
+  path-end out next place h = rw (records-none l place h) (fills-none out next)

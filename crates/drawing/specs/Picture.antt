@@ -1,14 +1,13 @@
 -- The whole picture of a list under a setup, as SVG text, and what the library answers.
 use Prim.Native.Nat.{ℕ, _+_, _*_, _/_, _≤_}
 use mathlib.Core.Path.{_≡_}
-use mathlib.Core.Bool.{Bool, true, false}
+use mathlib.Core.Bool.{true, false}
 use mathlib.Core.List.{List}
 use lib.Dec.{ltb}
 use lib.IntN.{pos, negℤ, natAbs, _-ℤ_}
 use lib.ListN.{length}
 use lib.Seq.{sets}
 use Rattle.terms.specs.Terms.{if_then_else_, bytes}
-use Rattle.lengths.specs.declared.Len.{Len}
 use Rattle.lengths.specs.Units.{len, _⊕_, _⊖_}
 use Rattle.points.specs.declared.Point.{Point}
 use Rattle.points.specs.declared.Flat.{Flat}
@@ -19,13 +18,13 @@ use Rattle.setup.specs.Limits.{validSetup}
 use Rattle.records.specs.declared.Record.{Record}
 use Rattle.records.specs.declared.Listed.{Listed}
 use Rattle.records.specs.declared.Listed.the-variants.{Next, End, Faulty as faulty}
-use Rattle.drawing.specs.declared.View.{View}
-use Rattle.drawing.specs.declared.View.the-variants.{Above, Side}
+use Rattle.svg.specs.declared.View.{View}
+use Rattle.svg.specs.declared.View.the-variants.{Above, Side}
 use Rattle.drawing.specs.declared.Sheet.{Sheet}
 use Rattle.drawing.specs.declared.Drawn.{Drawn}
 use Rattle.drawing.specs.declared.Drawn.the-variants.{Is, NoRoom, Faulty, BadSetup}
-use Rattle.drawing.specs.Text.{_⧺_, number}
-use Rattle.drawing.specs.Lines.{seenFrom, pair, dot}
+use Rattle.svg.specs.Text.{_⧺_, filled}
+use Rattle.svg.specs.Lines.{seenFrom}
 use Rattle.drawing.specs.Shapes.{path}
 use Rattle.drawing.specs.Walks.{recordsFrom, endFrom}
 
@@ -50,31 +49,22 @@ pub record Fair (sh : Sheet) : Type 0 where
   pub high : Near 100_000_000 (sh .high)
   pub gap : sh .gap ≤ 20_000_000
 
--- "the travel as a frame", its lower side first
-unfoldable pub side : Flat → Flat → List ℕ
-side low high = bytes "<path class=\"f\" d=\"M" ⧺ pair low ⧺ bytes "H" ⧺ number (high .first .v)
-
-unfoldable pub frame : Flat → Flat → List ℕ
-frame low high =
-    side low high ⧺ bytes "V" ⧺ number (high .second .v) ⧺ bytes "H" ⧺ number (low .first .v) ⧺ bytes "z\"/>\n"
-
--- "rapids and cuts told apart": a group for each, after the text that opens it
-unfoldable pub layer : List ℕ → View → Bool → Point → List Record → List ℕ
-layer text view rapids start rs = text ⧺ path view rapids start rs
-
--- the travel, and "the start marked"
+-- "the travel as a frame", and "the start marked"; then the group of the rapids is opened
 unfoldable pub marks : View → Sheet → List ℕ
 marks view sh =
-    frame (seenFrom view (sh .low)) (seenFrom view (sh .high))
-    ⧺ dot (bytes "<path class=\"s\" d=\"M") (seenFrom view (sh .start))
+    let start = seenFrom view (sh .start) in
+    filled (bytes "<path class=\"f\" d=\"M_ _H_V_H_z\"/>\n") (seenFrom view (sh .low)) (seenFrom view (sh .high))
+    ⧺ filled (bytes "<path class=\"s\" d=\"M_ _h0\"/>\n<g class=\"r\">\n") start start
 
--- One view, with these marks, and the cuts over the rapids, since a tool often leaves by the way it came. It stands in a
--- group that is turned so that its second axis is up; that group and the one of the cuts are closed after it.
+-- One view, with these marks, "rapids and cuts told apart": a group for each, and the cuts over the rapids, since a tool often
+-- leaves by the way it came. It stands in a group that is turned so that its second axis is up; that group and the one of the
+-- cuts are closed after it.
 unfoldable pub viewOf : View → Sheet → List Record → List ℕ
 viewOf view sh rs =
     marks view sh
-    ⧺ layer (bytes "<g class=\"r\">\n") view true (sh .start) rs
-    ⧺ layer (bytes "</g>\n<g class=\"c\">\n") view false (sh .start) rs
+    ⧺ path view true (sh .start) rs
+    ⧺ bytes "</g>\n<g class=\"c\">\n"
+    ⧺ path view false (sh .start) rs
 
 -- the part of the plane that is shown: both views, one above the other, at one scale
 unfoldable pub cornerOf : Sheet → Flat
@@ -91,27 +81,23 @@ sizeOf sh =
       second = sh .high .y ⊖ sh .low .y ⊕ (sh .high .z ⊖ sh .low .z) ⊕ len (pos (3 * sh .gap));
     }
 
--- how far down the side view stands
-unfoldable pub downOf : Sheet → Len
-downOf sh = sh .high .z ⊖ sh .low .y ⊕ len (pos (sh .gap))
+-- where the side view stands: straight below
+unfoldable pub downOf : Sheet → Flat
+downOf sh = record { first = len (pos 0); second = sh .high .z ⊖ sh .low .y ⊕ len (pos (sh .gap)) }
 
--- Thin lines at any scale. Where a viewer does not know how to keep a line's width, the widths are parts of the sheet.
-unfoldable pub style : List ℕ
-style =
-    bytes
-    "<style>svg{background:#fff}path{fill:none}.f{stroke:#999;stroke-width:.1%}.s{stroke:#6c6;stroke-width:1.2%;stroke-linecap:round}.r{stroke:#c60;stroke-width:.1%;stroke-dasharray:.4% .3%}.c{stroke:#036;stroke-width:.2%}.p{stroke-width:.6%;stroke-linecap:round}@supports(vector-effect:non-scaling-stroke){path{vector-effect:non-scaling-stroke}.f{stroke-width:1px}.s{stroke-width:14px}.r{stroke-width:1px;stroke-dasharray:4px 3px}.c{stroke-width:2px}.p{stroke-width:6px}}</style>\n"
-
--- the beginning of the text, which says what part of the plane is shown
-unfoldable pub extent : Sheet → List ℕ
-extent sh =
-    bytes "<svg xmlns=\"http://www.w3.org/2000/svg\" viewBox=\"" ⧺ pair (cornerOf sh) ⧺ bytes " " ⧺ pair (sizeOf sh) ⧺ bytes "\">\n"
-
+-- The beginning of the text, which says what part of the plane is shown, and thin lines at any scale. Where a viewer does not
+-- know how to keep a line's width, the widths are parts of the sheet.
 unfoldable pub opening : Sheet → List ℕ
-opening sh = extent sh ⧺ style ⧺ bytes "<g transform=\"scale(1 -1)\">\n"
+opening sh =
+    filled
+    (bytes
+    "<svg xmlns=\"http://www.w3.org/2000/svg\" viewBox=\"_ _ _ _\">\n<style>svg{background:#fff}path{fill:none}.f{stroke:#999;stroke-width:.1%}.s{stroke:#6c6;stroke-width:1.2%;stroke-linecap:round}.r{stroke:#c60;stroke-width:.1%;stroke-dasharray:.4% .3%}.c{stroke:#036;stroke-width:.2%}.p{stroke-width:.6%;stroke-linecap:round}@supports(vector-effect:non-scaling-stroke){path{vector-effect:non-scaling-stroke}.f{stroke-width:1px}.s{stroke-width:14px}.r{stroke-width:1px;stroke-dasharray:4px 3px}.c{stroke-width:2px}.p{stroke-width:6px}}</style>\n<g transform=\"scale(1 -1)\">\n")
+    (cornerOf sh)
+    (sizeOf sh)
 
 -- A matrix, since one browser shortens a long translation.
 unfoldable pub shift : Sheet → List ℕ
-shift sh = bytes "</g>\n</g>\n<g transform=\"matrix(1 0 0 -1 0 " ⧺ number (downOf sh .v) ⧺ bytes ")\">\n"
+shift sh = filled (bytes "</g>\n</g>\n<g transform=\"matrix(1 0 0 -1 _ _)\">\n") (downOf sh) (downOf sh)
 
 unfoldable pub pictureOf : Sheet → List Record → List ℕ
 pictureOf sh rs = opening sh ⧺ viewOf Above sh rs ⧺ shift sh ⧺ viewOf Side sh rs ⧺ bytes "</g>\n</g>\n</svg>\n"

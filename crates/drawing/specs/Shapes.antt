@@ -1,6 +1,6 @@
 -- What a record looks like: rapids, cuts and arcs as SVG text, in units, seen from above or from the side.
 use Prim.Native.Nat.{ℕ}
-use mathlib.Core.Bool.{Bool, true, false, not, _&&_}
+use mathlib.Core.Bool.{Bool, true, false, _&&_}
 use mathlib.Core.List.{List, [], _∷_}
 use lib.Dec.{eqb}
 use lib.IntN.{natAbs, _-ℤ_}
@@ -10,47 +10,44 @@ use Rattle.points.specs.declared.Flat.{Flat}
 use Rattle.records.specs.declared.Record.{Record}
 use Rattle.records.specs.declared.Record.the-variants.{RP, LN, AR, AL, DW, SP, SO, PA, EN}
 use Rattle.records.specs.Path.{pathOf, pathEnd}
-use Rattle.drawing.specs.declared.View.{View}
-use Rattle.drawing.specs.Text.{_⧺_}
-use Rattle.drawing.specs.Lines.{seenFrom, line, dot}
-use Rattle.drawing.specs.ArcText.{arc}
+use Rattle.svg.specs.declared.View.{View}
+use Rattle.svg.specs.Text.{_⧺_, filled}
+use Rattle.svg.specs.Lines.{seenFrom, line}
+use Rattle.svg.specs.ArcText.{arc}
 
 -- a cut along the line of sight, as a hole is from above, is seen as a dot
 unfoldable pub same : Flat → Flat → Bool
 same a b = eqb (natAbs (a .first .v -ℤ b .first .v)) 0 && eqb (natAbs (a .second .v -ℤ b .second .v)) 0
 
 unfoldable pub cut : Flat → Flat → List ℕ
-cut from to = if same from to then dot (bytes "<path class=\"p\" d=\"M") to else line from to
+cut from to = if same from to then filled (bytes "<path class=\"p\" d=\"M_ _h0\"/>\n") to to else line from to
 
--- what a record draws that begins at a point. "`AR` (clockwise), `AL`"
-unfoldable pub shape : View → Point → Record → List ℕ
-shape view from (RP p) = line (seenFrom view from) (seenFrom view p)
-shape view from (LN p feed) = cut (seenFrom view from) (seenFrom view p)
-shape view from (AR a) = arc view from a false
-shape view from (AL a) = arc view from a true
-shape view from (DW ms) = []
-shape view from (SP speed) = []
-shape view from SO = []
-shape view from PA = []
-shape view from EN = []
+-- "rapids and cuts told apart": what a record that begins at a point draws in a layer of rapids, and in one of cuts
+unfoldable pub asRapid : View → Point → Record → List ℕ
+asRapid view from (RP p) = line (seenFrom view from) (seenFrom view p)
+asRapid view from (LN p feed) = []
+asRapid view from (AR a) = []
+asRapid view from (AL a) = []
+asRapid view from (DW ms) = []
+asRapid view from (SP speed) = []
+asRapid view from SO = []
+asRapid view from PA = []
+asRapid view from EN = []
 
--- "rapids and cuts told apart": they are drawn in two layers
-unfoldable pub isRapid : Record → Bool
-isRapid (RP p) = true
-isRapid (LN p feed) = false
-isRapid (AR a) = false
-isRapid (AL a) = false
-isRapid (DW ms) = false
-isRapid (SP speed) = false
-isRapid SO = false
-isRapid PA = false
-isRapid EN = false
-
-unfoldable pub inLayer : Bool → Record → Bool
-inLayer rapids r = if rapids then isRapid r else not (isRapid r)
+-- "`AR` (clockwise), `AL`"
+unfoldable pub asCut : View → Point → Record → List ℕ
+asCut view from (RP p) = []
+asCut view from (LN p feed) = cut (seenFrom view from) (seenFrom view p)
+asCut view from (AR a) = arc view from a false
+asCut view from (AL a) = arc view from a true
+asCut view from (DW ms) = []
+asCut view from (SP speed) = []
+asCut view from SO = []
+asCut view from PA = []
+asCut view from EN = []
 
 unfoldable pub drawn : View → Bool → Point → Record → List ℕ
-drawn view rapids from r = if inLayer rapids r then shape view from r else []
+drawn view rapids from r = if rapids then asRapid view from r else asCut view from r
 
 -- the rapids, or all but the rapids, of records from a point on
 unfoldable pub path : View → Bool → Point → List Record → List ℕ

@@ -1,15 +1,9 @@
 // A record list drawn as SVG text, in units: the path seen from above and from the side, under a setup.
+mod layers;
 mod picture;
-mod quarters;
-mod svg_arcs;
-mod svg_lines;
-mod svg_path;
-mod svg_text;
 
 pub use picture::draw;
-use points::Flat;
 use points::Point;
-use records::Arc;
 
 // The travel and the start in machine units, and the gap around and between the views.
 pub struct Sheet {
@@ -25,21 +19,4 @@ pub enum Drawn {
     NoRoom,
     Faulty(usize),
     BadSetup,
-}
-
-// An arc as it is seen: from where, the point at which it begins, the directions from its centre to its start and to its end, and
-// its radius.
-pub struct SeenArc {
-    pub view: View,
-    pub from: Point,
-    pub arc: Arc,
-    pub start: Flat,
-    pub end: Flat,
-    pub radius: u64,
-}
-
-// From where a path is seen: X to the right, and Y up from above, Z up from the side.
-pub enum View {
-    Above,
-    Side,
 }

@@ -1,19 +1,17 @@
 // Pictures of a record list, as SVG text: the path seen from above and from the side, in units.
 use crate::Drawn;
 use crate::Sheet;
-use crate::View;
-use crate::svg_lines::put_dot;
-use crate::svg_lines::put_pair;
-use crate::svg_lines::seen;
-use crate::svg_path::last_of;
-use crate::svg_path::put_path;
-use crate::svg_text::put_named;
-use crate::svg_text::put_text;
+use crate::layers::last_of;
+use crate::layers::put_path;
 use lengths::Len;
 use points::Flat;
 use points::Point;
 use records::Listed;
 use setup::Setup;
+use svg::View;
+use svg::put_form;
+use svg::put_text;
+use svg::seen;
 ghost use Prim.Native.Nat.{_≤_};
 ghost use mathlib.Core.Path.{_≡_};
 ghost use mathlib.Core.Bool.{true};
@@ -21,51 +19,31 @@ ghost use Rattle.setup.specs.Limits.{validSetup};
 ghost use lib.ListN.{length};
 ghost use lib.Seq.{sets};
 ghost use Rattle.points.specs.Near.{Near};
-ghost use Rattle.drawing.specs.Text.{Fills};
+ghost use Rattle.svg.specs.Text.{Fills};
 ghost use Rattle.drawing.specs.Walks.{recordsFrom};
-ghost use Rattle.drawing.specs.Picture.{sheetOf, gapOf, Fair, cornerOf, sizeOf, downOf, side, frame, layer, marks, viewOf, style, extent, opening, shift, pictureOf, fitting, Draws};
+ghost use Rattle.drawing.specs.Picture.{sheetOf, gapOf, Fair, cornerOf, sizeOf, downOf, marks, viewOf, opening, shift, pictureOf, fitting, Draws};
 
-// The travel's lower side, from the left to the right.
-fn put_side(out: &mut [u8], at: usize, low: Flat, high: Flat) -> usize
-    ensures { λ next. ⌜ Fills (now (out .entry)) at (side low high) (now (out .exit)) next ⌝ }
-{
-    let corner = put_pair(out, at, b"<path class=\"f\" d=\"M", low);
-    put_named(out, corner, b"H", high.first)
-}
-
-fn put_frame(out: &mut [u8], at: usize, low: Flat, high: Flat) -> usize
-    ensures { λ next. ⌜ Fills (now (out .entry)) at (frame low high) (now (out .exit)) next ⌝ }
-{
-    let right = put_side(out, at, low, high);
-    let up = put_named(out, right, b"V", high.second);
-    let left = put_named(out, up, b"H", low.first);
-    put_text(out, left, b"z\"/>\n")
-}
-
-fn put_layer(
-    out: &mut [u8],
-    at: usize,
-    text: &[u8],
-    view: View,
-    rapids: bool,
-    start: Point,
-    list: &[u8],
-) -> usize
-    ensures { λ next. ⌜ Fills (now (out .entry)) at (layer (now (text .entry)) view rapids start (recordsFrom (now (list .entry)) 0)) (now (out .exit)) next ⌝ }
-{
-    let next = put_text(out, at, text);
-    put_path(out, next, view, rapids, start, list)
-}
-
-// The travel and the start.
+// The travel as a frame and the start, and the group of the rapids opened.
 fn put_marks(out: &mut [u8], at: usize, view: View, sh: Sheet) -> usize
     ensures { λ next. ⌜ Fills (now (out .entry)) at (marks view sh) (now (out .exit)) next ⌝ }
 {
     let low = seen(view, sh.low);
     let high = seen(view, sh.high);
-    let mark = put_frame(out, at, low, high);
     let start = seen(view, sh.start);
-    put_dot(out, mark, b"<path class=\"s\" d=\"M", start)
+    let next = put_form(
+        out,
+        at,
+        b"<path class=\"f\" d=\"M_ _H_V_H_z\"/>\n",
+        low,
+        high,
+    );
+    put_form(
+        out,
+        next,
+        b"<path class=\"s\" d=\"M_ _h0\"/>\n<g class=\"r\">\n",
+        start,
+        start,
+    )
 }
 
 // Cuts are drawn over rapids, since a tool often leaves by the way it came.
@@ -74,16 +52,9 @@ fn put_view(out: &mut [u8], at: usize, view: View, sh: Sheet, list: &[u8]) -> us
 {
     let start = sh.start;
     let rapids = put_marks(out, at, view, sh);
-    let cuts = put_layer(out, rapids, b"<g class=\"r\">\n", view, true, start, list);
-    put_layer(
-        out,
-        cuts,
-        b"</g>\n<g class=\"c\">\n",
-        view,
-        false,
-        start,
-        list,
-    )
+    let end = put_path(out, rapids, view, true, start, list);
+    let cuts = put_text(out, end, b"</g>\n<g class=\"c\">\n");
+    put_path(out, cuts, view, false, start, list)
 }
 
 fn corner_of(sh: Sheet) -> Flat
@@ -113,61 +84,47 @@ fn size_of(sh: Sheet) -> Flat
     }
 }
 
-fn down_of(sh: Sheet) -> Len
+fn down_of(sh: Sheet) -> Flat
     requires { ⌜ Fair sh ⌝ }
     ensures { λ r. ⌜ r ≡ downOf sh ⌝ }
 {
     let low = sh.low;
     let high = sh.high;
-    high.z.minus(low.y).plus(Len::of_count(sh.gap))
+    Flat {
+        first: Len::zero(),
+        second: high.z.minus(low.y).plus(Len::of_count(sh.gap)),
+    }
 }
 
-// Lines are thin at any scale: in browsers also where a part is enlarged, elsewhere in parts of the sheet.
-fn put_style(out: &mut [u8], at: usize) -> usize
-    ensures { λ next. ⌜ Fills (now (out .entry)) at style (now (out .exit)) next ⌝ }
-{
-    put_text(
-        out,
-        at,
-        b"<style>svg{background:#fff}path{fill:none}.f{stroke:#999;stroke-width:.1%}.s{stroke:#6c6;stroke-width:1.2%;stroke-linecap:round}.r{stroke:#c60;stroke-width:.1%;stroke-dasharray:.4% .3%}.c{stroke:#036;stroke-width:.2%}.p{stroke-width:.6%;stroke-linecap:round}@supports(vector-effect:non-scaling-stroke){path{vector-effect:non-scaling-stroke}.f{stroke-width:1px}.s{stroke-width:14px}.r{stroke-width:1px;stroke-dasharray:4px 3px}.c{stroke-width:2px}.p{stroke-width:6px}}</style>\n",
-    )
-}
-
-// The beginning of the text, which says what part of the plane is shown.
-fn put_extent(out: &mut [u8], sh: Sheet) -> usize
-    requires { ⌜ Fair sh ⌝ }
-    ensures { λ next. ⌜ Fills (now (out .entry)) 0 (extent sh) (now (out .exit)) next ⌝ }
-{
-    let corner = put_pair(
-        out,
-        0,
-        b"<svg xmlns=\"http://www.w3.org/2000/svg\" viewBox=\"",
-        corner_of(sh),
-    );
-    let size = put_pair(out, corner, b" ", size_of(sh));
-    put_text(out, size, b"\">\n")
-}
-
+// The beginning of the text, which says what part of the plane is shown, and how: lines are thin at any scale, in browsers also
+// where a part is enlarged, elsewhere in parts of the sheet.
 fn put_opening(out: &mut [u8], sh: Sheet) -> usize
     requires { ⌜ Fair sh ⌝ }
     ensures { λ next. ⌜ Fills (now (out .entry)) 0 (opening sh) (now (out .exit)) next ⌝ }
 {
-    let end = put_extent(out, sh);
-    let next = put_style(out, end);
-    put_text(out, next, b"<g transform=\"scale(1 -1)\">\n")
+    let corner = corner_of(sh);
+    let size = size_of(sh);
+    put_form(
+        out,
+        0,
+        b"<svg xmlns=\"http://www.w3.org/2000/svg\" viewBox=\"_ _ _ _\">\n<style>svg{background:#fff}path{fill:none}.f{stroke:#999;stroke-width:.1%}.s{stroke:#6c6;stroke-width:1.2%;stroke-linecap:round}.r{stroke:#c60;stroke-width:.1%;stroke-dasharray:.4% .3%}.c{stroke:#036;stroke-width:.2%}.p{stroke-width:.6%;stroke-linecap:round}@supports(vector-effect:non-scaling-stroke){path{vector-effect:non-scaling-stroke}.f{stroke-width:1px}.s{stroke-width:14px}.r{stroke-width:1px;stroke-dasharray:4px 3px}.c{stroke-width:2px}.p{stroke-width:6px}}</style>\n<g transform=\"scale(1 -1)\">\n",
+        corner,
+        size,
+    )
 }
 
 fn put_shift(out: &mut [u8], at: usize, sh: Sheet) -> usize
     requires { ⌜ Fair sh ⌝ }
     ensures { λ next. ⌜ Fills (now (out .entry)) at (shift sh) (now (out .exit)) next ⌝ }
 {
-    let next = put_named(
+    let down = down_of(sh);
+    put_form(
         out,
         at,
-        b"</g>\n</g>\n<g transform=\"matrix(1 0 0 -1 0 ",
-        down_of(sh),
-    );
-    put_text(out, next, b")\">\n")
+        b"</g>\n</g>\n<g transform=\"matrix(1 0 0 -1 _ _)\">\n",
+        down,
+        down,
+    )
 }
 
 fn put_picture(out: &mut [u8], sh: Sheet, list: &[u8]) -> usize
@@ -225,8 +182,7 @@ pub fn draw(list: &[u8], s: Setup, out: &mut [u8]) -> Drawn
     }
     let end = last_of(list);
     match end {
-        Listed::Next(_, _) => put_fitting(out, s, list),
-        Listed::End => put_fitting(out, s, list),
         Listed::Faulty(_, place) => Drawn::Faulty(place),
+        _ => put_fitting(out, s, list),
     }
 }

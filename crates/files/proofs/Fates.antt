@@ -1,8 +1,8 @@
 -- What becomes of a name, test by test. Assumes nothing.
 use Prim.Native.Nat.{ℕ, _/_, _%_}
 use mathlib.Core.Path.{_≡_, refl}
-use mathlib.Core.Bool.{Bool, true, false, not, _||_}
-use borrow.Author.Tests.{eq-eqb, ne-eqb, not-true, not-false}
+use mathlib.Core.Bool.{Bool, true, false, _||_}
+use borrow.Author.Tests.{eq-eqb, ne-eqb}
 use Rattle.files.specs.Names.{sameFile, missingFate, kindFate, fateOf}
 use Rattle.files.specs.declared.Named.{Named}
 use Rattle.files.specs.declared.Fate.{Fate}
@@ -26,26 +26,24 @@ module _ (kind : ℕ) (locked : Bool) where
   kind-special n k = rw (ne-eqb kind 8 n, ne-eqb kind 4 k)
 
 module _ (out first second : Named) where
-  pub first-read : sameFile out first ≡ true → Read ≡ fateOf out first second
+  pub is-read : (sameFile out first || sameFile out second) ≡ true → Read ≡ fateOf out first second
   unfolding fateOf
-  first-read e = rw e
+  is-read e = rw e
 
-  module _ (n : sameFile out first ≡ false) where
-    pub second-read : sameFile out second ≡ true → Read ≡ fateOf out first second
+  module _ (n : (sameFile out first || sameFile out second) ≡ false) where
+    pub is-link : out .link ≡ true → Link ≡ fateOf out first second
     unfolding fateOf
-    second-read e = rw (n, e)
+    is-link e = rw (n, e)
 
-    module _ (m : sameFile out second ≡ false) where
-      pub is-link : out .link ≡ true → Link ≡ fateOf out first second
+    module _ (l : out .link ≡ false) where
+      pub is-there : out .there ≡ true → kindFate (out .mode / 4096 % 16) (out .locked) ≡ fateOf out first second
       unfolding fateOf
-      is-link e = rw (n, m, e)
+      is-there e = rw (n, l, e)
 
-      pub not-there : out .link ≡ false → not (out .there) ≡ true → missingFate (out .missing) ≡ fateOf out first second
-      unfolding fateOf
-      not-there l e = rw (n, m, l, e)
+      pub is-new : out .there ≡ false → out .missing ≡ true → New ≡ fateOf out first second
+      unfolding fateOf missingFate
+      is-new e m = rw (n, l, e, m)
 
-      pub is-there :
-          out .link ≡ false → not (out .there) ≡ false
-          → kindFate (out .mode / 4096 % 16) (out .locked) ≡ fateOf out first second
-      unfolding fateOf
-      is-there l e = rw (n, m, l, e)
+      pub is-unknown : out .there ≡ false → out .missing ≡ false → Unknown ≡ fateOf out first second
+      unfolding fateOf missingFate
+      is-unknown e m = rw (n, l, e, m)

@@ -34,12 +34,30 @@ pub fn complain_why(err: i32, name: &[u8], what: &[u8]) {
     complain_error(err, name, what, os::errno());
 }
 
-// The same of an error that the system gave before.
+// The same of an error that the system gave before: the reasons that somebody at the machine can do something about in plain
+// words, the others by their number.
 pub fn complain_error(err: i32, name: &[u8], what: &[u8], error: i32) {
     begin_line(err, name);
     io::write_all(err, what);
-    io::write_all(err, b": ");
-    show_reason(err, error);
+    let reason = reason_of(error);
+    if reason == 0 {
+        io::write_all(err, b": the system's error ");
+        io::print_decimal(err, number_of(error));
+        io::write_all(err, b"\n");
+        return;
+    }
+    write_line(
+        err,
+        b": no such file or folder\n\
+          : a file stands where a folder should\n\
+          : it is a folder\n\
+          : not allowed\n\
+          : no space left\n\
+          : the file would be too large\n\
+          : the name is too long\n\
+          : links lead in a circle\n",
+        reason,
+    );
 }
 
 // A list that breaks off, or is none, by the place where no record can be read.
@@ -48,29 +66,6 @@ pub fn complain_record(err: i32, name: &[u8], place: usize) {
     io::write_all(err, b"no record can be read at byte ");
     io::print_decimal(err, place as u64);
     io::write_all(err, b"\n");
-}
-
-// The reasons that somebody at the machine can do something about in plain words, the others by their number.
-fn show_reason(err: i32, error: i32) {
-    let reason = reason_of(error);
-    if reason == 0 {
-        io::write_all(err, b"the system's error ");
-        io::print_decimal(err, number_of(error));
-        io::write_all(err, b"\n");
-        return;
-    }
-    write_line(
-        err,
-        b"no such file or folder\n\
-          a file stands where a folder should\n\
-          it is a folder\n\
-          not allowed\n\
-          no space left\n\
-          the file would be too large\n\
-          the name is too long\n\
-          links lead in a circle\n",
-        reason,
-    );
 }
 
 // The line above that tells a reason, or 0.

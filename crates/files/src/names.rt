@@ -4,7 +4,7 @@ use crate::Named;
 use libc::S_IFDIR;
 use libc::S_IFREG;
 ghost use mathlib.Core.Path.{_≡_};
-ghost use Rattle.files.specs.Names.{sameFile, missingFate, kindFate, fateOf};
+ghost use Rattle.files.specs.Names.{sameFile, kindFate, fateOf};
 
 // Kinds of files, as the system numbers them in four bits of the mode.
 const REGULAR: u32 = S_IFREG / 4096;
@@ -22,25 +22,16 @@ fn same_file(a: Named, b: Named) -> bool
 pub fn fate_of(out: Named, first: Named, second: Named) -> Fate
     ensures { λ r. ⌜ r ≡ fateOf out first second ⌝ }
 {
-    if same_file(out, first) {
-        return Fate::Read;
-    }
-    if same_file(out, second) {
+    if same_file(out, first) | same_file(out, second) {
         return Fate::Read;
     }
     if out.link {
         return Fate::Link;
     }
-    if !out.there {
-        return missing_fate(out.missing);
+    if out.there {
+        return kind_fate(out.mode / 4096 % 16, out.locked);
     }
-    kind_fate(out.mode / 4096 % 16, out.locked)
-}
-
-fn missing_fate(missing: bool) -> Fate
-    ensures { λ r. ⌜ r ≡ missingFate missing ⌝ }
-{
-    if missing {
+    if out.missing {
         return Fate::New;
     }
     Fate::Unknown

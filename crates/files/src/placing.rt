@@ -1,8 +1,9 @@
 // Whether a command may write under a name: what the system says of it is asked, and nothing is lost by what is written there.
 use crate::Fate;
 use crate::Named;
-use crate::messages::complain;
+use crate::messages::begin_line;
 use crate::messages::complain_error;
+use crate::messages::write_line;
 use crate::names::fate_of;
 use crate::status::named_by;
 
@@ -37,7 +38,16 @@ fn refused(path: &[u8], out: Named, fate: Fate, err: i32) -> Spot {
         // The system cannot tell what stands there, so that nothing is written over it.
         complain_error(err, path, b"cannot be written", out.error);
     } else {
-        complain_fate(path, fate, err);
+        begin_line(err, path);
+        write_line(
+            err,
+            b"is a file that this command reads, by this name or another; nothing is written there\n\
+              is a symbolic link; give the name of the file that it leads to\n\
+              is a folder\n\
+              is a device, a pipe or a socket; only a file is replaced\n\
+              may not be written by this user\n",
+            line_of(fate),
+        );
     }
     Spot {
         mode: 0,
@@ -46,24 +56,13 @@ fn refused(path: &[u8], out: Named, fate: Fate, err: i32) -> Spot {
     }
 }
 
-fn complain_fate(path: &[u8], fate: Fate, err: i32) {
+// The line above that tells a fate.
+fn line_of(fate: Fate) -> u64 {
     match fate {
-        Fate::Read => complain(
-            err,
-            path,
-            b"is a file that this command reads, by this name or another; nothing is written there",
-        ),
-        Fate::Link => complain(
-            err,
-            path,
-            b"is a symbolic link; give the name of the file that it leads to",
-        ),
-        Fate::Folder => complain(err, path, b"is a folder"),
-        Fate::Special => complain(
-            err,
-            path,
-            b"is a device, a pipe or a socket; only a file is replaced",
-        ),
-        _ => complain(err, path, b"may not be written by this user"),
+        Fate::Read => 1,
+        Fate::Link => 2,
+        Fate::Folder => 3,
+        Fate::Special => 4,
+        _ => 5,
     }
 }

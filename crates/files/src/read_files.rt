@@ -57,10 +57,7 @@ fn read_open(fd: i32, path: &[u8], buffer: &mut [u8], whole: bool, err: i32) -> 
         complain_why(err, path, b"cannot be read");
         return nothing();
     }
-    if !whole {
-        return got;
-    }
-    if got.count < buffer.len() {
+    if !whole | (got.count < buffer.len()) {
         return got;
     }
     if goes_on(fd, path, buffer.len(), err) {

@@ -59,13 +59,13 @@ fn create_own(name: &mut [u8]) -> i32 {
 
 // All bytes, and the rights of the file that is replaced, brought to the device. The new file is closed.
 fn fill_part(fd: i32, bytes: &[u8], spot: Spot) -> Ending {
-    let put = ended(io::write_all(fd, bytes) && has_rights(fd, spot) && libc::fsync(fd) == 0);
+    let put = ended(
+        io::write_all(fd, bytes)
+            && (!spot.old || libc::fchmod(fd, spot.mode) == 0)
+            && libc::fsync(fd) == 0,
+    );
     let shut = ended(libc::close(fd) == 0);
     if put.well { shut } else { put }
-}
-
-fn has_rights(fd: i32, spot: Spot) -> bool {
-    !spot.old || libc::fchmod(fd, spot.mode) == 0
 }
 
 fn ended(well: bool) -> Ending {

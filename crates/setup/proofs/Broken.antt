@@ -293,3 +293,11 @@ fault-none s e = sym (limits-kept s) ∙ none-broken (limits s) (limits-named s)
 pub none-fault : (s : Setup) → validSetup s ≡ true → faultOf s ≡ None
 unfolding faultOf
 none-fault s e = all-kept (limits s) (limits-kept s ∙ e)
+
+pub fault-some :
+    (s : Setup) (r : Fault) → r ≡ faultOf s → OneOf (1 ∷ 2 ∷ 3 ∷ 4 ∷ 5 ∷ 6 ∷ 7 ∷ 8 ∷ []) (tagOf the-type r) → validSetup s ≡ false
+fault-some s r e h = by (validSetup s) refl
+  where
+    by : (t : Bool) → validSetup s ≡ t → t ≡ false
+    by true f = absurd (silent r (e ∙ none-fault s f) (told r h))
+    by false f = refl

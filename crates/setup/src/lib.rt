@@ -10,9 +10,9 @@ use points::Travel;
 ghost use mathlib.Core.Path.{_≡_};
 ghost use mathlib.Core.Bool.{true};
 ghost use mathlib.Core.List.{map};
-ghost use Rattle.terms.specs.Terms.{all, between, within};
+ghost use Rattle.terms.specs.Terms.{between, within};
 ghost use Rattle.lengths.specs.Units.{len};
-ghost use Rattle.setup.specs.Limits.{axisFits, travelFits, offsetLimit, axesWithin, offsetsFit, feedFits, rangeFits, speedFits, speedsFit, switchFits, validSetup};
+ghost use Rattle.setup.specs.Limits.{feedFits, rangeFits, speedFits, switchFits, validSetup};
 ghost use Rattle.setup.specs.Frame.{pointOf, startOf, travelOf, bedOf, switchOn};
 
 // How far from 0 an end of the travel may be, and how far the common offset and an origin.
@@ -98,54 +98,6 @@ pub fn is_between(low: Len, high: Len, v: Len) -> bool
     low.at_most(v) & v.at_most(high)
 }
 
-fn axis_fits(low: Len, high: Len, start: Len) -> bool
-    ensures { λ r. ⌜ r ≡ axisFits (low .v) (high .v) (start .v) ⌝ }
-{
-    low.at_most(high)
-        & is_within(TRAVEL_LIMIT, low)
-        & is_within(TRAVEL_LIMIT, high)
-        & is_between(low, high, start)
-}
-
-fn travel_fits(s: Setup) -> bool
-    ensures { λ r. ⌜ r ≡ travelFits s ⌝ }
-{
-    let low = point_of(s.low);
-    let high = point_of(s.high);
-    let start = point_of(s.start);
-    axis_fits(low.x, high.x, start.x)
-        & axis_fits(low.y, high.y, start.y)
-        & axis_fits(low.z, high.z, start.z)
-}
-
-pub fn axes_within(n: u64, a: Axes) -> bool
-    ensures { λ r. ⌜ r ≡ axesWithin n a ⌝ }
-{
-    let p = point_of(a);
-    is_within(n, p.x) & is_within(n, p.y) & is_within(n, p.z)
-}
-
-fn origins_fit(origins: [Axes; 6]) -> bool
-    ensures { λ r. ⌜ r ≡ all (axesWithin offsetLimit) origins ⌝ }
-{
-    let mut i = 0;
-    while i < 6 {
-        let origin = origins[i];
-        if !axes_within(OFFSET_LIMIT, origin) {
-            return false;
-        }
-        i += 1;
-    }
-    true
-}
-
-fn offsets_fit(s: Setup) -> bool
-    ensures { λ r. ⌜ r ≡ offsetsFit s ⌝ }
-{
-    let origins = s.origins;
-    axes_within(OFFSET_LIMIT, s.exofs) & origins_fit(origins)
-}
-
 // The five numbers that belong to no axis, as lengths.
 pub fn feed_of(s: Setup) -> Len
     ensures { λ r. ⌜ r ≡ len (s .feed) ⌝ }
@@ -199,12 +151,6 @@ pub fn speed_fits(s: Setup) -> bool
     is_between(lowest_of(s), highest_of(s), speed_of(s))
 }
 
-fn speeds_fit(s: Setup) -> bool
-    ensures { λ r. ⌜ r ≡ speedsFit s ⌝ }
-{
-    range_fits(s) & speed_fits(s)
-}
-
 pub fn switch_fits(s: Setup) -> bool
     ensures { λ r. ⌜ r ≡ switchFits s ⌝ }
 {
@@ -215,7 +161,10 @@ pub fn switch_fits(s: Setup) -> bool
 pub fn is_valid(s: Setup) -> bool
     ensures { λ r. ⌜ r ≡ validSetup s ⌝ }
 {
-    travel_fits(s) & offsets_fit(s) & (feed_fits(s) & speeds_fit(s) & switch_fits(s))
+    let Fault::None = fault_of(s) else {
+        return false;
+    };
+    true
 }
 
 pub fn skips(s: Setup) -> bool

@@ -1,21 +1,16 @@
--- `setup::is_valid` meets its contract: each group of limits by its own function. Assumes nothing.
-use Rattle.setup.specs.Limits.{validSetup}
+-- `setup::is_valid` meets its contract: no limit is broken. Assumes nothing.
+use mathlib.Core.Path.{sym, _∙_}
 use borrow.Author.Needs.{needs}
+use Rattle.setup.proofs.Broken.{fault-none, fault-some}
 use Rattle.setup.proofs.is_valid.Statement.{statement}
 use Rattle.setup.proofs.is_valid.Tie as tie
 
 returns : tie.Need-returns
-unfolding validSetup
-returns c =
-    rw (
-      c .before .before .before .before .travel-fits .ensures,
-      c .before .before .before .offsets-fit .ensures,
-      c .before .before .feed-fits .ensures,
-      c .before .speeds-fit .ensures,
-      c .switch-fits .ensures,
-    )
+returns c = sym (fault-some (c .before .before .args .s) (c .before .fault-of .result) (c .before .fault-of .ensures) (c .match .keys2))
+
+returns-2 : tie.Need-returns-2
+returns-2 c =
+    sym (fault-none (c .before .before .before .args .s) (sym (c .before .before .fault-of .ensures) ∙ c .enum-told .given .1))
 
 pub is-valid-spec : {M : Type 1} → statement M
-is-valid-spec =
-    tie.close
-    (tie.spec (λ c κs. search needs) (λ c κs. search needs) (λ c κs. search needs) (λ c κs. search needs) (λ c κs. search needs) returns)
+is-valid-spec = tie.close (tie.spec (λ c κs. search needs) (λ c. search needs) returns returns-2)

@@ -6,10 +6,7 @@ use Rattle.drawing.proofs.picture.down_of.Tie as tie
 
 returns : tie.Need-returns
 unfolding downOf
-returns c =
-    rw (c .plus .ensures .is, c .before .before .minus .ensures .is, c .before .of-count .ensures .is)
+returns c = rw (c .plus .ensures .is, c .before .before .minus .ensures .is, c .before .of-count .ensures .is, c .before .before .before .zero .ensures .is)
 
 pub down-of-spec : {M : Type 1} → statement M
-down-of-spec =
-    tie.close
-    (tie.spec (λ c κs. search needs) (λ c κs. search needs) (λ c κs. search needs) returns)
+down-of-spec = tie.close (tie.spec (λ c κs. search needs) (λ c κs. search needs) (λ c κs. search needs) (λ c κs. search needs) returns)

@@ -1,17 +1,15 @@
 -- `drawing::picture::put_marks` meets its contract: its parts, one after the other. Assumes nothing.
 use borrow.Author.Needs.{needs}
-use Rattle.drawing.proofs.Filled.{fills-then}
 use Rattle.drawing.specs.Picture.{marks}
+use Rattle.svg.proofs.Filled.{fills-then}
 use Rattle.drawing.proofs.picture.put_marks.Statement.{statement}
 use Rattle.drawing.proofs.picture.put_marks.Tie as tie
 
 returns : tie.Need-returns
 unfolding marks
 returns c =
-    rw (← c .before .before .before .before .before .before .before .before .before .before .before .seen .ensures, ← c .before .before .before .before .before .before .before .before .before .before .seen2 .ensures, ← c .before .before .before .before .before .seen3 .ensures)
-    (fills-then (c .before .before .before .before .before .before .before .before .put-frame .ensures) (c .before .before .put-dot .ensures))
+    rw (← c .before .before .before .before .before .before .before .before .before .before .before .before .seen .ensures, ← c .before .before .before .before .before .before .before .before .before .before .before .seen2 .ensures, ← c .before .before .before .before .before .before .before .before .before .before .seen3 .ensures)
+    (fills-then (c .before .before .before .before .before .before .before .put-form .ensures) (c .before .before .put-form2 .ensures))
 
 pub put-marks-spec : {M : Type 1} → statement M
-put-marks-spec =
-    tie.close
-    (tie.spec (λ c κs. search needs) (λ c κs. search needs) (λ c κs. search needs) (λ c κs. search needs) (λ c. search needs) (λ c κs. search needs) (λ c. search needs) returns)
+put-marks-spec = tie.close (tie.spec (λ c κs. search needs) (λ c κs. search needs) (λ c κs. search needs) (λ c. search needs) (λ c κs. search needs) (λ c. search needs) (λ c κs. search needs) (λ c. search needs) returns)

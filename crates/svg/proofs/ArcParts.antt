@@ -1,0 +1,50 @@
+-- An arc that is drawn: its quarters and its extremes one by one. Assumes nothing.
+use Prim.Native.Nat.{ℕ, zero, suc, _-_, _≤_, _<_}
+use mathlib.Core.Path.{_≡_}
+use mathlib.Core.Bool.{true, false}
+use mathlib.Core.List.{List}
+use native.Mathlib.Omega.{arith}
+use Rattle.points.specs.declared.Flat.{Flat}
+use Rattle.svg.specs.Text.{Fills}
+use Rattle.svg.specs.Turns.{quarterOn, soon}
+use Rattle.svg.specs.declared.SeenArc.{SeenArc}
+use Rattle.svg.specs.ArcText.{piece, seenOn, quarters, extreme, extremes}
+use Rattle.svg.proofs.Filled.{fills-then, fills-none}
+
+module _ (s : SeenArc) (d : Flat) where
+  pub quarters-soon : (out : List ℕ) (next n : ℕ) → soon (s .turn) d (s .end) ≡ true → Fills out next (quarters s n d) out next
+  unfolding quarters
+  quarters-soon out next zero e = fills-none out next
+  quarters-soon out next (suc n) e = rw e (fills-none out next)
+
+  pub quarters-done : (out : List ℕ) (next n : ℕ) → n ≤ 0 → Fills out next (quarters s n d) out next
+  unfolding quarters
+  quarters-done out next zero h = fills-none out next
+  quarters-done out next (suc n) h = absurd (omega arith)
+
+  pub quarters-on :
+      {out mid is : List ℕ} {next k last : ℕ} (n : ℕ) → 0 < n → soon (s .turn) d (s .end) ≡ false
+      → Fills out next (piece s (seenOn s (quarterOn (s .turn) d))) mid k
+      → Fills mid k (quarters s (n - 1) (quarterOn (s .turn) d)) is last
+      → Fills out next (quarters s n d) is last
+  unfolding quarters
+  quarters-on zero h e p q = absurd (omega arith)
+  quarters-on (suc n) h e p q =
+      let m : suc n - 1 ≡ n = omega arith in
+      rw e (fills-then p (rw m at q))
+
+  pub extremes-done : (out : List ℕ) (next n : ℕ) → n ≤ 0 → Fills out next (extremes s n d) out next
+  unfolding extremes
+  extremes-done out next zero h = fills-none out next
+  extremes-done out next (suc n) h = absurd (omega arith)
+
+  pub extremes-on :
+      {out mid is : List ℕ} {next k last : ℕ} (n : ℕ) → 0 < n
+      → Fills out next (extreme s d) mid k
+      → Fills mid k (extremes s (n - 1) (quarterOn true d)) is last
+      → Fills out next (extremes s n d) is last
+  unfolding extremes
+  extremes-on zero h p q = absurd (omega arith)
+  extremes-on (suc n) h p q =
+      let m : suc n - 1 ≡ n = omega arith in
+      fills-then p (rw m at q)

@@ -1,0 +1,30 @@
+-- Texts with blanks, byte by byte. Assumes nothing.
+use Prim.Native.Nat.{ℕ, suc, _+_, _≤_, _<_}
+use mathlib.Core.Path.{_≡_}
+use mathlib.Core.Logic.{_≢_}
+use mathlib.Core.List.{List, [], _∷_}
+use native.Mathlib.Numerals.{add-one}
+use borrow.Author.Tests.{eq-eqb, ne-eqb}
+use lib.ListN.{length, getD, drop, drop-of-length-le}
+use lib.Seq.{drop-cons}
+use Rattle.points.specs.declared.Flat.{Flat}
+use Rattle.svg.specs.Text.{Fills, number, across, filled}
+use Rattle.svg.proofs.Filled.{fills-then, fills-none}
+
+module _ (form : List ℕ) (a b : Flat) (i : ℕ) where
+  pub filled-end : (out : List ℕ) (next : ℕ) → length form ≤ i → Fills out next (filled (drop i form) a b) out next
+  unfolding filled
+  filled-end out next h = rw (drop-of-length-le form h) (fills-none out next)
+
+  module _ {out mid is : List ℕ} {next k last : ℕ} (h : i < length form) where
+    pub filled-plain :
+        getD form i 0 ≢ 95 → Fills out next (getD form i 0 ∷ []) mid k
+        → Fills mid k (filled (drop (i + 1) form) a b) is last → Fills out next (filled (drop i form) a b) is last
+    unfolding filled
+    filled-plain f p q = rw (drop-cons form i 0 h, ne-eqb (getD form i 0) 95 f) (fills-then p (rw (add-one i) at q))
+
+    pub filled-blank :
+        getD form i 0 ≡ 95 → Fills out next (number (a .first .v)) mid k
+        → Fills mid k (filled (drop (i + 1) form) (across a b) (across b a)) is last → Fills out next (filled (drop i form) a b) is last
+    unfolding filled
+    filled-blank f p q = rw (drop-cons form i 0 h, eq-eqb (getD form i 0) 95 f) (fills-then p (rw (add-one i) at q))

@@ -1,0 +1,4 @@
+pub mod Lines
+pub mod Text
+pub mod Turns
+pub mod ArcText

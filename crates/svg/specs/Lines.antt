@@ -1,0 +1,17 @@
+-- Points seen from above or from the side, and lines as SVG text, in units.
+use Prim.Native.Nat.{ℕ}
+use mathlib.Core.List.{List}
+use Rattle.terms.specs.Terms.{bytes}
+use Rattle.points.specs.declared.Point.{Point}
+use Rattle.points.specs.declared.Flat.{Flat}
+use Rattle.svg.specs.declared.View.{View}
+use Rattle.svg.specs.declared.View.the-variants.{Above, Side}
+use Rattle.svg.specs.Text.{filled}
+
+-- "the path seen from above and from the side": X to the right, and Y or Z up
+unfoldable pub seenFrom : View → Point → Flat
+seenFrom Above p = record { first = p .x; second = p .y }
+seenFrom Side p = record { first = p .x; second = p .z }
+
+abbrev pub line : Flat → Flat → List ℕ
+line from to = filled (bytes "<path d=\"M_ _L_ _\"/>\n") from to
