@@ -154,6 +154,7 @@ module _ (s : Setup) (bytes : List ℕ) (room : ℕ) where
   some-are-enough =
       let n = suited s bytes room Whole in
       (n .0, λ e. n .1 (still-open (n .0) e))
+
 -- ---- the answer
 
 -- the whole is never "not finished"
