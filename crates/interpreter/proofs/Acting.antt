@@ -1,6 +1,6 @@
 -- What the code of a block answers, by the verdict of the rules, and what the verdict keeps. Assumes nothing.
 use Prim.Native.Nat.{ℕ, _+_, _-_, _≤_}
-use mathlib.Core.Path.{_≡_, refl, sym, _∙_, ap}
+use mathlib.Core.Path.{_≡_, refl, _∙_, ap}
 use mathlib.Core.Bool.{Bool, true, false, _&&_}
 use mathlib.Core.List.{List, [], _∷_}
 use native.Mathlib.Omega.{arith}
@@ -10,7 +10,6 @@ use Rattle.terms.specs.Terms.{if_then_else_}
 use Rattle.refusals.specs.declared.Refusal.{Refusal}
 use Rattle.lines.specs.Blocks.{Block, isSlashed, beginsWith, textFrom, lengthFrom, blockFrom}
 use Rattle.lines.proofs.Laws.{text-drop, text-next}
-use Rattle.setup.specs.declared.Bed.{Bed}
 use Rattle.setup.specs.Fair.{Fair}
 use Rattle.records.specs.declared.Record.{Record}
 use Rattle.records.specs.Layout.{roomOf, listBytes}
@@ -24,7 +23,6 @@ use Rattle.blocks.specs.Machine.{machineOf}
 use Rattle.blocks.specs.Exec.{Verdict, refused, accepted, exec}
 use Rattle.blocks.specs.Calling.{freely}
 use Rattle.blocks.specs.Reach.{Reachable}
-use Rattle.blocks.specs.Keeping.{Keeps}
 use Rattle.blocks.specs.Doing.{madeOf, executed, Does}
 use Rattle.blocks.proofs.Accepting.{accepted-kept}
 use Rattle.blocks.proofs.Calling.{exec-makes-none}

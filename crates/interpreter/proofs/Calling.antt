@@ -1,6 +1,6 @@
 -- The loop from call to call: what a call of a number leads to, and the walk of the subprogram. Assumes nothing.
 use Prim.Native.Nat.{ℕ, zero, suc, _+_, _-_, _≤_, _<_}
-use mathlib.Core.Path.{_≡_, refl, sym, _∙_, ap}
+use mathlib.Core.Path.{_≡_, refl, sym, _∙_}
 use mathlib.Core.Bool.{Bool, true, false}
 use mathlib.Core.Option.{Option, none, some}
 use mathlib.Core.List.{List, []}
@@ -8,7 +8,7 @@ use native.Mathlib.Omega.{arith}
 use borrow.Author.Tests.{eq-eqb, ne-eqb}
 use lib.Dec.{eqb}
 use lib.ListN.{length}
-use Rattle.terms.specs.Terms.{if_then_else_, firstOf, stands}
+use Rattle.terms.specs.Terms.{firstOf, stands}
 use Rattle.refusals.specs.declared.Refusal.{Refusal}
 use Rattle.refusals.specs.declared.Refusal.the-variants.{NumberNotFound, NestOver}
 use Rattle.lines.specs.Serving.{blocksFrom}
@@ -95,21 +95,14 @@ module _ (l : List ℕ) (task : Task) (left number : ℕ) (leg : Leg) (room : �
       go (some q) true e f = let h : callee ≡ Callee.Refused NestOver = rw (e, f) at c in rw h (rw (e, f))
       go (some q) false e f = let h : callee ≡ Callee.Found q = rw (e, f) at c in rw h (rw (e, f, going))
 
-module _ (l : List ℕ) (task : Task) (left : ℕ) {whole : Outcome} {p₀ : Progress} {was list : List ℕ} {n at : ℕ} {p : Progress} (w : Walking l task left whole p₀ was list n at p) where
-  -- a walk that ends with no call more
-  module _ {is : List ℕ} {e : Ending} (r : Ran (task .bed) (walkFrom l (length list) task left n at p) p list is e) where
-    pub leg-ends : Ran (task .bed) whole p₀ was is e
-    leg-ends = w .same is e r
-
-    pub leg-kept : length is ≡ length was
-    leg-kept = ran-length (task .bed) r ∙ w .kept
-
--- one that comes to a call
-pub record Comes (l : List ℕ) (task : Task) (left : ℕ) (whole : Outcome) (p₀ : Progress) (was list : List ℕ) (n at : ℕ) (p : Progress) (is : List ℕ) (number : ℕ) (leg : Leg) : Type 0 where
+-- a walk that comes to a call
+pub record Comes (l : List ℕ) (task : Task) (left : ℕ) (whole : Outcome) (p₀ : Progress) (was list : List ℕ) (n at : ℕ) (p : Progress)
+    (is : List ℕ) (number : ℕ) (leg : Leg) : Type 0 where
   pub walking : Walking l task left whole p₀ was list n at p
   pub reaches : Reaches l task left n at p list is number leg
 
-module _ {l : List ℕ} {task : Task} {left : ℕ} {whole : Outcome} {p₀ : Progress} {was list : List ℕ} {n at : ℕ} {p : Progress} {is : List ℕ} {number : ℕ} {leg : Leg} (c : Comes l task left whole p₀ was list n at p is number leg) where
+module _ {l : List ℕ} {task : Task} {left : ℕ} {whole : Outcome} {p₀ : Progress} {was list : List ℕ} {n at : ℕ} {p : Progress} {is : List ℕ}
+    {number : ℕ} {leg : Leg} (c : Comes l task left whole p₀ was list n at p is number leg) where
   pub caller-kept : length is ≡ length was
   caller-kept = c .reaches .kept ∙ c .walking .kept
 

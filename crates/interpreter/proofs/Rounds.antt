@@ -29,7 +29,7 @@ use Rattle.blocks.specs.declared.Done.{Done}
 use Rattle.blocks.specs.declared.Executed.{Executed}
 use Rattle.blocks.specs.declared.Executed.the-variants as Executed
 use Rattle.blocks.specs.Exec as Exec
-use Rattle.blocks.specs.Exec.{Verdict, refused, accepted, callsIn, callTo, unknownCall, tooDeep, atStart, unless}
+use Rattle.blocks.specs.Exec.{Verdict, accepted, callsIn, callTo, unknownCall, tooDeep, atStart, unless}
 use Rattle.blocks.specs.Calling.{called}
 use Rattle.blocks.specs.Doing.{madeOf, Does}
 use Rattle.runs.specs.Walk.{Going, Outcome, goingOn, isSpent, after, follow, obey, walk, callees}
@@ -39,7 +39,6 @@ use Rattle.interpreter.specs.declared.Progress.{Progress}
 use Rattle.interpreter.specs.declared.How.the-variants.{Ended, Returned, Unfinished, Refused}
 use Rattle.interpreter.specs.declared.Ending.{Ending}
 use Rattle.interpreter.specs.declared.Turn.the-variants.{Calls}
-use Rattle.interpreter.specs.declared.Leg.{Leg}
 use Rattle.interpreter.proofs.Walking.{freeVerdict, goes-inside, walk-spent, walk-ends, walk-goes}
 use Rattle.interpreter.proofs.Endings.{count-room, ran-still, ran-after}
 use Rattle.interpreter.proofs.Acting.{Accepts, accepted-is, refused-is, verdict-kept, verdict-quiet}
@@ -71,7 +70,8 @@ going-on room p done made e =
 
 -- the walk of an accepted block that calls no subprogram
 obeyed :
-    (calls : Exec.Calls) (b : Block) (callee : ℕ → Going → Outcome) (rest : Going → Outcome) (g : Going) {v : Verdict} {s : State} {control : Control} {made : List Record}
+    (calls : Exec.Calls) (b : Block) (callee : ℕ → Going → Outcome) (rest : Going → Outcome) (g : Going) {v : Verdict} {s : State}
+    {control : Control} {made : List Record}
     → v ≡ accepted s control made → called calls (b .start) (accepted s control made) ≡ accepted s control made
     → obey (called calls (b .start) v) b callee rest g ≡ after made (follow control callee rest (goingOn g s made))
 unfolding obey
@@ -104,14 +104,16 @@ module _ (l : List ℕ) (task : Task) (left : ℕ) where
         (ran-still (task .bed) (record { how = Refused NoEnd; place = here; progress = p }) (w .fits)))
 
 -- the block at the place, which is executed or skipped, and the code's answer
-pub record Meets (l : List ℕ) (task : Task) (left : ℕ) (whole : Outcome) (p₀ : Progress) (was list : List ℕ) (n at : ℕ) (p : Progress) (is : List ℕ) (a : Executed) : Type 0 where
+pub record Meets (l : List ℕ) (task : Task) (left : ℕ) (whole : Outcome) (p₀ : Progress) (was list : List ℕ) (n at : ℕ) (p : Progress)
+    (is : List ℕ) (a : Executed) : Type 0 where
   pub walking : Walking l task left whole p₀ was list n at p
   pub fair : Fair (task .bed)
   pub budget : isSpent (p .budget) ≡ false
   pub stays : programEnds (drop at l) ≡ false
   pub did : Does (task .bed .offset) (verdict-on l task left list n at p) list (p .next) (at + lengthFrom (drop at l)) is a
 
-module _ {l : List ℕ} {task : Task} {left : ℕ} {whole : Outcome} {p₀ : Progress} {was list : List ℕ} {n at : ℕ} {p : Progress} {is : List ℕ} {a : Executed} (m : Meets l task left whole p₀ was list n at p is a) where
+module _ {l : List ℕ} {task : Task} {left : ℕ} {whole : Outcome} {p₀ : Progress} {was list : List ℕ} {n at : ℕ} {p : Progress} {is : List ℕ}
+    {a : Executed} (m : Meets l task left whole p₀ was list n at p is a) where
   abbrev v : Verdict
   v = verdict-on l task left list n at p
 
@@ -127,10 +129,11 @@ module _ {l : List ℕ} {task : Task} {left : ℕ} {whole : Outcome} {p₀ : Pro
   -- what the block's walk leaves, the whole walk leaves
   on :
       {last : List ℕ} {r : Ending}
-      → Ran (task .bed) (obey (called calls at (v)) (blockFrom n at (drop at l)) (callees (jobOf l task) left) rest (goingOf (length list) p)) p list last r
+      → Ran (task .bed) (obey (called calls at v) (blockFrom n at (drop at l)) (callees (jobOf l task) left) rest (goingOf (length list) p)) p
+      list last r
       → Ran (task .bed) whole p₀ was last r
   unfolding walkFrom goingOf
-  on {last} {r} h = m .walking .same last r (rw (walk-goes l task left (callees (jobOf l task) left) (goingOf (length list) p) n at (m .budget) (m .stays)) h)
+  on {last} {r} h = m .walking .same last r (rw (walk-goes l task left (callees (jobOf l task) left) (goingOf (length list) p) n at (m .walking .begins) (m .budget) (m .stays)) h)
 
   list-length : length is ≡ length list
   list-length = ap length (m .did .bytes) ∙ length-sets list (p .next) (movedBytes (task .bed .offset) (madeOf v))

@@ -18,11 +18,10 @@ use Rattle.interpreter.specs.declared.How.the-variants.{Returned}
 use Rattle.interpreter.specs.declared.Turn.{Turn}
 use Rattle.interpreter.specs.declared.Callee.the-variants as Callee
 use Rattle.interpreter.proofs.How.{the-type}
+use Rattle.interpreter.proofs.Endings.{ran-length}
 use Rattle.interpreter.proofs.Rounds.{Walking, walking-starts}
 use Rattle.interpreter.proofs.Calling.{
   Comes,
-  leg-ends,
-  leg-kept,
   caller-kept,
   caller-less,
   call-refused,
@@ -89,15 +88,15 @@ same-length : (t : ℕ) → run-program-lts.Need-same-length (env t) (run-progra
 same-length t c =
     let run = c .before .before .before .before .before .before in
     let head = run .before .before in
-    let a = head .before .before .before .before .args in
-    leg-kept (a .s .now) (a .task) (a .left) (head .loop .inv) (rw (c .before .before .turn .given .1) at (run .run-leg .ensures (a .task .programs)))
+    let task = head .before .before .before .before .args .task in
+    ran-length (task .bed) (rw (c .before .before .turn .given .1) at (run .run-leg .ensures (task .programs))) ∙ head .loop .inv .kept
 
 returns : (t : ℕ) → run-program-lts.Need-returns (env t) (run-program-at t) run-program.Post Inv μ
 returns t c =
     let run = c .before .before .before .before .before .before in
     let head = run .before .before in
-    let a = head .before .before .before .before .args in
-    leg-ends (a .s .now) (a .task) (a .left) (head .loop .inv) (rw (c .before .before .turn .given .1) at (run .run-leg .ensures (a .task .programs)))
+    head .loop .inv .same _ _
+    (rw (c .before .before .turn .given .1) at (run .run-leg .ensures (head .before .before .before .before .args .task .programs)))
 
 -- the walk has come to a block that calls
 module _ (t : ℕ) (c : run-program-lts.After-known-told2 (env t) (run-program-at t) run-program.Post Inv μ) where
@@ -189,4 +188,7 @@ pub +run-program-spec : {M : Type 1} → statement M
 +run-program-spec =
     close μ-run-program
     (λ t.
-    run-program-lts.spec (env t) (run-program-at t) run-program.Post Inv μ (loop-holds t) (run-leg-requires t) (λ c. search needs) (same-length t) (returns t) (λ c. search needs) (find-callee-requires t) (λ c. search needs) (same-length-2 t) (returns-2 t) (λ c. search needs) (sub-run-program t) (run-program-requires t) (λ c. search needs) (same-length-3 t) (returns-3 t) (add-block t) (loop-less t) (loop-again t))
+    run-program-lts.spec (env t) (run-program-at t) run-program.Post Inv μ (loop-holds t) (run-leg-requires t) (λ c. search needs)
+    (same-length t) (returns t) (λ c. search needs) (find-callee-requires t) (λ c. search needs) (same-length-2 t) (returns-2 t)
+    (λ c. search needs) (sub-run-program t) (run-program-requires t) (λ c. search needs) (same-length-3 t) (returns-3 t) (add-block t)
+    (loop-less t) (loop-again t))
