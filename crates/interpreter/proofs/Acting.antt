@@ -1,138 +1,141 @@
--- What a block leads to: the laws of its verdict, and of the walk that goes on from it. Assumes nothing.
+-- What the code of a block answers, by the verdict of the rules, and what the verdict keeps. Assumes nothing.
 use Prim.Native.Nat.{ℕ, _+_, _-_, _≤_}
-use mathlib.Core.Path.{_≡_, refl}
-use mathlib.Core.List.{List, []}
+use mathlib.Core.Path.{_≡_, refl, _∙_, ap}
+use mathlib.Core.Bool.{Bool, true, false, _&&_}
+use mathlib.Core.List.{List, [], _∷_}
 use native.Mathlib.Omega.{arith}
-use lib.ListN.{length}
-use lib.Seq.{sets, length-sets}
-use Rattle.terms.specs.Terms.{firstOf}
-use Rattle.refusals.specs.declared.Place.{Place}
-use Rattle.lines.specs.Blocks.{Block}
-use Rattle.setup.specs.declared.Bed.{Bed}
+use lib.ListN.{length, drop}
+use lib.Seq.{drop-drop}
+use Rattle.terms.specs.Terms.{if_then_else_}
+use Rattle.refusals.specs.declared.Refusal.{Refusal}
+use Rattle.lines.specs.Blocks.{Block, isSlashed, beginsWith, textFrom, lengthFrom, blockFrom}
+use Rattle.lines.proofs.Laws.{text-drop, text-next}
+use Rattle.setup.specs.Fair.{Fair}
 use Rattle.records.specs.declared.Record.{Record}
 use Rattle.records.specs.Layout.{roomOf, listBytes}
 use Rattle.settings.specs.declared.State.{State}
-use Rattle.records.specs.Writing.{movedBytes}
 use Rattle.blocks.specs.declared.Control.{Control}
-use Rattle.blocks.specs.declared.Control.the-variants.{On, Call, Back, Stop}
-use Rattle.blocks.specs.Exec as Exec
-use Rattle.blocks.specs.Exec.{callTo, unknownCall, tooDeep, atStart, Verdict, refused, accepted, unless}
-use Rattle.blocks.specs.Calling.{called}
+use Rattle.blocks.specs.declared.Control.the-variants.{On, Call}
+use Rattle.blocks.specs.declared.Done.{Done}
+use Rattle.blocks.specs.declared.Executed.{Executed}
+use Rattle.blocks.specs.declared.Executed.the-variants as Executed
+use Rattle.blocks.specs.Machine.{machineOf}
+use Rattle.blocks.specs.Exec.{Verdict, refused, accepted, exec}
+use Rattle.blocks.specs.Calling.{freely}
 use Rattle.blocks.specs.Reach.{Reachable}
-use Rattle.blocks.specs.Keeping.{Keeps}
-use Rattle.blocks.specs.Doing.{madeOf}
-use Rattle.runs.specs.Walk.{Going, How, ended, returned, refusedAt, Outcome, nowhere, just, after, goingOn, follow, obey}
-use Rattle.interpreter.specs.Progressing.{goingOf, progressOn, wayAfter, wayBy, endingBy, Leads, Comes, Ran, Fits}
-use Rattle.interpreter.specs.declared.Progress.{Progress}
-use Rattle.interpreter.specs.declared.Ending.{Ending}
-use Rattle.interpreter.specs.declared.Ending.the-variants.{Ended, Returned}
-use Rattle.interpreter.specs.declared.Way.{Way}
-use Rattle.interpreter.specs.declared.Way.the-variants.{Next, Calls, Ends}
-use Rattle.interpreter.proofs.Endings.{count-room, going-on, ran-just, ran-after}
+use Rattle.blocks.specs.Doing.{madeOf, executed, Does}
+use Rattle.blocks.proofs.Accepting.{accepted-kept}
+use Rattle.blocks.proofs.Calling.{exec-makes-none}
+use Rattle.execution.specs.declared.Ground.{Ground}
+use Rattle.runs.specs.Walk.{slashLength}
+use Rattle.interpreter.specs.Progressing.{verdictAt}
 
--- a block that calls makes no record
-abbrev pub Quiet : Control → List Record → Type 0
-Quiet On made = Unit {0}
-Quiet (Call n) made = made ≡ []
-Quiet Back made = Unit {0}
-Quiet Stop made = Unit {0}
+-- ---- the verdict that an answer tells
 
--- what an accepted block keeps, with so much room before it
-abbrev pub StaysFair : Bed → ℕ → State → Verdict → Type 0
-StaysFair bed room before (refused blame) = Unit {0}
-StaysFair bed room before (accepted s control made) = Keeps bed room before s made × Quiet control made
+-- an accepted block: what its answer says of the verdict
+pub record Accepts (at after : ℕ) (v : Verdict) (done : Done) : Type 0 where
+  pub verdict : v ≡ accepted (done .state) (done .control) (madeOf v)
+  pub next : done .next ≡ at + roomOf (madeOf v)
+  pub count : done .count ≡ length (madeOf v)
+  pub place : done .after ≡ after
 
-abbrev Walk : Type 0
-Walk = (ℕ → Going → Outcome) → (Going → Outcome) → Outcome
+module _ (at after : ℕ) where
+  pub accepted-is : (v : Verdict) (done : Done) → Executed.Accepted done ≡ executed at after v → Accepts at after v done
+  unfolding executed madeOf
+  accepted-is (refused blame) done e = let z : _≡_ {A = ℕ} 0 1 = cc in absurd (omega arith)
+  accepted-is (accepted s control made) done e =
+      let f : done ≡ record { state = s; control = control; next = at + roomOf made; count = length made; after = after } = cc in
+      rw f (record { verdict = refl; next = refl; count = refl; place = refl })
 
--- the walk of a verdict on a block that is not yet asked for its call
-abbrev pub by : Exec.Calls → ℕ → Progress → Block → Verdict → Walk
-by calls room p b v callee rest = obey (called calls (b .start) v) b callee rest (goingOf room p)
+  pub refused-is :
+      (v : Verdict) {refusal : Refusal} {byte : ℕ} → Executed.Refused refusal byte ≡ executed at after v
+      → v ≡ refused (record { refusal = refusal; byte = byte })
+  unfolding executed
+  refused-is (refused blame) {refusal} {byte} e =
+      let f : refusal ≡ blame .refusal = cc in
+      let g : byte ≡ blame .byte = cc in
+      rw (f, g)
+  refused-is (accepted s control made) e = let z : _≡_ {A = ℕ} 0 1 = cc in absurd (omega arith)
 
-module _ (bed : Bed) (calls : Exec.Calls) (b : Block) (o : Walk) (p : Progress) (was is : List ℕ) (place : ℕ) where
-  -- a block after which the next one follows
-  pub record Onward (q : Progress) (next : ℕ) : Type 0 where
-    pub fits : Fits bed (length was) q
-    pub place-is : next ≡ place
-    pub ran :
-        (callee : ℕ → Going → Outcome) (rest : Going → Outcome) (last : List ℕ) (r : Ending)
-        → Ran bed (rest (goingOf (length was) q)) q is last r → Ran bed (o callee rest) p was last r
+-- ---- what an accepted block keeps, skipped or executed: settings that a run can reach, and its records in the room
 
-  -- a block that calls
-  pub record Inward (n : ℕ) (q : Progress) (next : ℕ) : Type 0 where
-    pub place-is : next ≡ place
-    pub state : Reachable bed (q .state)
-    pub after : q ≡ progressOn p (q .state) []
-    pub list : is ≡ was
-    pub walks : (callee : ℕ → Going → Outcome) (rest : Going → Outcome) → o callee rest ≡ by calls (length was) p b (accepted (q .state) (Call n) []) callee rest
+module _ (ground : Ground) (skips : Bool) (b : Block) (room : ℕ) (s : State) where
+  -- the verdict by whether the block is skipped
+  abbrev verdict-by : Bool → Verdict
+  verdict-by skipped =
+      if skipped then accepted s On []
+      else
+      exec (machineOf (ground .bed)) (freely (ground .left)) room s (b .start) (b .start + slashLength b)
+      (drop (slashLength b) (b .text))
 
-  abbrev pub Turns : Way → Type 0
-  Turns (Next q next) = Onward q next
-  Turns (Calls n q next) = Inward n q next
-  Turns (Ends e) = (callee : ℕ → Going → Outcome) (rest : Going → Outcome) → Ran bed (o callee rest) p was is e
+  pub verdict-kept :
+      {after : State} {control : Control} {made : List Record} → Fair (ground .bed) → Reachable (ground .bed) s → verdictAt ground skips b room s ≡ accepted after control made
+      → (Reachable (ground .bed) after) × (roomOf made ≤ room)
+  unfolding verdictAt roomOf
+  verdict-kept {after} {control} {made} fair state e = go (isSlashed b && skips) e
+    where
+      go : (skipped : Bool) → verdict-by skipped ≡ accepted after control made → (Reachable (ground .bed) after) × (roomOf made ≤ room)
+      go true e =
+          let f : s ≡ after = cc in
+          let g : [] ≡ made = cc in
+          rw (← f, ← g) (state, omega arith)
+      go false e =
+          let k = accepted-kept (ground .bed) (freely (ground .left)) room s (b .start) fair state (b .start + slashLength b) (drop (slashLength b) (b .text)) after control made e in
+          (k .state, k .fits)
 
--- the list after a block's records
-abbrev with-records : Bed → Progress → List ℕ → List Record → List ℕ
-with-records bed p was made = sets was (p .next) (movedBytes (bed .offset) made)
+  -- and a block that calls makes no record
+  pub verdict-quiet : {n : ℕ} {after : State} {made : List Record} → verdictAt ground skips b room s ≡ accepted after (Call n) made → made ≡ []
+  unfolding verdictAt
+  verdict-quiet {n} {after} {made} e = go (isSlashed b && skips) e
+    where
+      go : (skipped : Bool) → verdict-by skipped ≡ accepted after (Call n) made → made ≡ []
+      go true e = cc
+      go false e = exec-makes-none (machineOf (ground .bed)) (freely (ground .left)) room s (b .start) (b .start + slashLength b) (drop (slashLength b) (b .text)) n after made e
 
-module _ (bed : Bed) (calls : Exec.Calls) (b : Block) (here : Place) (place : ℕ) (p : Progress) (was : List ℕ) (number : here .block ≡ b .number) (fits : Fits bed (length was) p) where
-  abbrev Led : Verdict → List Record → Way → Type 0
-  Led v made w = Turns bed calls b (by calls (length was) p b v) p was (with-records bed p was made) place w
+-- ---- the verdict on a block without a slash, with one that is ignored, and on one that is skipped
 
-  module _ (s : State) (made : List Record) (state : Reachable bed s) (room : roomOf made ≤ length was - p .next) where
-    later-fits : Fits bed (length was) (progressOn p s made)
-    unfolding progressOn
-    later-fits = record { state = state; next = omega (arith, fits .next); count = omega (arith, fits .count, count-room made) }
+text-some : (text : List ℕ) → beginsWith 47 text ≡ true → 1 ≤ length text
+unfolding beginsWith
+text-some [] e = let z : _≡_ {A = ℕ} 0 1 = cc in absurd (omega arith)
+text-some (b ∷ bs) e = omega arith
 
-    later-ran :
-        {o : Outcome} {last : List ℕ} {r : Ending} → Ran bed o (progressOn p s made) (with-records bed p was made) last r → Ran bed (after made o) p was last r
-    unfolding progressOn
-    later-ran h = ran-after bed made refl refl refl h
+module _ (l : List ℕ) (ground : Ground) (skips : Bool) (n at next : ℕ) (state : State) (was : List ℕ) where
+  abbrev after-it : ℕ
+  after-it = at + lengthFrom (drop at l)
 
-    later-just :
-        (how : How) → ((g : Going) → how ≡ returned g → Comes s (length was - (p .next + roomOf made)) g)
-        → Ran bed (after made (just how s)) p was (with-records bed p was made) (endingBy how s nowhere (p .next + roomOf made) (p .count + length made))
-    unfolding progressOn
-    later-just how back =
-        let same = length-sets was (p .next) (movedBytes (bed .offset) made) in
-        let room′ : p .next + roomOf made ≤ length (with-records bed p was made) = omega (arith, fits .next) in
-        later-ran (ran-just bed how state room′ (λ g e. rw same (back g e)))
+  abbrev Did : List ℕ → Executed → Type 0
+  Did is r = Does (ground .bed .offset) (verdictAt ground skips (blockFrom n at (drop at l)) (length was - next) state) was next after-it is r
 
-    leads-on : Led (accepted s On made) made (Next (progressOn p s made) place)
-    unfolding obey follow called unless firstOf atStart callTo unknownCall tooDeep
-    leads-on =
-        record {
-          fits = later-fits;
-          place-is = refl;
-          ran = λ callee rest last r h. rw (going-on (length was) p s made) (later-ran h);
-        }
+  -- what the words from a byte on give
+  abbrev DidFrom : ℕ → List ℕ → Executed → Type 0
+  DidFrom from is r =
+      Does (ground .bed .offset)
+      (exec (machineOf (ground .bed)) (freely (ground .left)) (length was - next) state at from (textFrom (drop from l))) was next
+      (from + lengthFrom (drop from l)) is r
 
-    leads-call : (n : ℕ) → made ≡ [] → Led (accepted s (Call n) made) made (Calls n (progressOn p s made) place)
-    unfolding progressOn listBytes
-    leads-call n e = rw e (record { place-is = refl; state = state; after = refl; list = refl; walks = λ callee rest. refl })
+  pub does-plain : {is : List ℕ} {r : Executed} → beginsWith 47 (textFrom (drop at l)) ≡ false → DidFrom at is r → Did is r
+  unfolding verdictAt slashLength
+  does-plain e h =
+      let f : at + 0 ≡ at = omega arith in
+      rw (e, f) h
 
-    leads-back : Led (accepted s Back made) made (Ends (Returned (progressOn p s made)))
-    unfolding obey follow progressOn endingBy goingOn goingOf called unless firstOf atStart callTo unknownCall tooDeep
-    leads-back callee rest =
-        later-just (returned (goingOn (goingOf (length was) p) s made))
-        (λ g e.
-        let f : goingOn (goingOf (length was) p) s made ≡ g = cc in
-        rw (← f) (record { state = refl; room = omega arith }))
+  module _ (e : beginsWith 47 (textFrom (drop at l)) ≡ true) where
+    pub does-slashed : {is : List ℕ} {r : Executed} → skips ≡ false → DidFrom (at + 1) is r → Did is r
+    unfolding verdictAt slashLength
+    does-slashed f h =
+        let some : 1 ≤ length (textFrom (drop at l)) = text-some (textFrom (drop at l)) e in
+        let g : drop 1 (textFrom (drop at l)) ≡ textFrom (drop (at + 1) l) =
+        text-drop 1 (drop at l) some ∙ ap textFrom (drop-drop 1 at l)
+        in
+        let k : after-it ≡ at + 1 + lengthFrom (drop (at + 1) l) =
+        omega (arith, text-next 1 (drop at l) some, ap lengthFrom (drop-drop 1 at l))
+        in
+        rw (e, f, g, k) h
 
-    leads-stop : Led (accepted s Stop made) made (Ends (Ended (progressOn p s made .state) (progressOn p s made .count)))
-    unfolding obey follow progressOn endingBy goingOn called unless firstOf atStart callTo unknownCall tooDeep
-    leads-stop callee rest = later-just ended (λ g e. let z : _≡_ {A = ℕ} 0 1 = cc in absurd (omega arith))
-
-  leads : (v : Verdict) → StaysFair bed (length was - p .next) (p .state) v → Led v (madeOf v) (wayBy v here place p)
-  unfolding wayBy wayAfter madeOf obey called endingBy listBytes goingOf
-  leads (refused blame) k = λ callee rest.
-      rw number (ran-just bed (refusedAt (blame .refusal) (record { block = b .number; byte = blame .byte })) (fits .state) (fits .next) (λ g e. let z : _≡_ {A = ℕ} 0 1 = cc in absurd (omega arith)))
-  leads (accepted s On made) k = leads-on s made (k .0 .state) (k .0 .fits)
-  leads (accepted s (Call n) made) k = leads-call s made (k .0 .state) (k .0 .fits) n (k .1)
-  leads (accepted s Back made) k = leads-back s made (k .0 .state) (k .0 .fits)
-  leads (accepted s Stop made) k = leads-stop s made (k .0 .state) (k .0 .fits)
-
-  pub leads-turn :
-      {v : Verdict} {is : List ℕ} {w : Way} → StaysFair bed (length was - p .next) (p .state) v → Leads bed v here place p was is w
-      → Turns bed calls b (by calls (length was) p b v) p was is place w
-  leads-turn {v} k h = rw (h .answer, h .bytes) (leads v k)
+    pub does-skipped :
+        {after : ℕ} → skips ≡ true → after ≡ after-it
+        → Did was (Executed.Accepted (record { state = state; control = On; next = next; count = 0; after = after }))
+    unfolding verdictAt executed madeOf roomOf listBytes
+    does-skipped f g =
+        let h : next + 0 ≡ next = omega arith in
+        rw (e, f, g) (record { answer = rw h; bytes = refl })

@@ -2,9 +2,8 @@ pub mod Places
 pub mod Walking
 pub mod Endings
 pub mod Acting
-pub mod Keeping
 pub mod Rounds
-pub mod Executing
+pub mod Calling
 pub mod Starting
 pub mod OneOutcome
 pub mod ReadBack

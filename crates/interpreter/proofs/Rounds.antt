@@ -1,62 +1,47 @@
--- The loops over a program's blocks and calls. What is left gives the same: the walk from here, with the list as it is, ends and leaves
--- what the whole walk leaves of the list at entry. Assumes nothing.
-use Prim.Native.Nat.{ℕ, zero, suc, _+_, _-_, _≤_, _<_}
-use mathlib.Core.Path.{_≡_, refl, _∙_, ap}
-use mathlib.Core.Bool.{Bool, true, false}
-use mathlib.Core.Option.{Option, none, some}
+-- The loop over a program's blocks. What is left gives the same: the walk from here, with the list as it is, ends and leaves what the
+-- whole walk leaves of the list at entry. Assumes nothing.
+use Prim.Native.Nat.{ℕ, _+_, _-_, _≤_, _<_}
+use mathlib.Core.Path.{_≡_, refl, sym, _∙_, ap}
+use mathlib.Core.Bool.{true, false}
 use mathlib.Core.List.{List, []}
 use native.Mathlib.Omega.{arith}
-use borrow.Author.Tests.{eqb-false}
-use lib.Dec.{eqb}
 use lib.ListN.{length, drop}
-use lib.Seq.{length-sets}
-use Rattle.terms.specs.Terms.{if_then_else_, firstOf, stands}
+use lib.Seq.{sets, length-sets}
+use Rattle.terms.specs.Terms.{firstOf}
 use Rattle.refusals.specs.declared.Refusal.{Refusal}
-use Rattle.refusals.specs.declared.Refusal.the-variants.{NoEnd, NumberNotFound, NestOver}
-use Rattle.lines.specs.Blocks.{blockFrom, lengthFrom}
+use Rattle.refusals.specs.declared.Refusal.the-variants.{NoEnd}
+use Rattle.refusals.specs.declared.Place.{Place}
+use Rattle.lines.specs.Blocks.{Block, blockFrom, lengthFrom}
 use Rattle.lines.specs.Serving.{blocksFrom}
 use Rattle.lines.proofs.Lines.{length-some}
 use Rattle.setup.specs.Fair.{Fair}
+use Rattle.records.specs.declared.Record.{Record}
 use Rattle.records.specs.Layout.{roomOf, listBytes}
 use Rattle.records.specs.Writing.{movedBytes}
-use Rattle.programs.specs.declared.Program.{Program}
+use Rattle.settings.specs.declared.State.{State}
 use Rattle.programs.specs.declared.Programs.{Programs}
-use Rattle.programs.specs.Openings.{known}
 use Rattle.programs.specs.Found.{subsOf}
-use Rattle.programs.specs.Places.{Begins, Placed}
+use Rattle.programs.specs.Places.{Begins}
 use Rattle.programs.proofs.Places.{begins-next}
-use Rattle.blocks.specs.Exec.{Verdict, callsIn, callTo, unknownCall, tooDeep, atStart, unless}
+use Rattle.blocks.specs.declared.Control.{Control}
+use Rattle.blocks.specs.declared.Control.the-variants.{On, Call, Back, Stop}
+use Rattle.blocks.specs.declared.Done.{Done}
+use Rattle.blocks.specs.declared.Executed.{Executed}
+use Rattle.blocks.specs.declared.Executed.the-variants as Executed
+use Rattle.blocks.specs.Exec as Exec
+use Rattle.blocks.specs.Exec.{Verdict, accepted, callsIn, callTo, unknownCall, tooDeep, atStart, unless}
 use Rattle.blocks.specs.Calling.{called}
-use Rattle.blocks.specs.Doing.{madeOf}
-use Rattle.runs.specs.Walk.{Going, refusedAt, Outcome, just, after, thenRest, isSpent, follow, obey, walk, blocksFor, callees}
-use Rattle.interpreter.specs.Progressing.{
-  jobOf,
-  goingOf,
-  walkFrom,
-  callFrom,
-  progressOn,
-  programEnds,
-  calleeBy,
-  endingBy,
-  Leads,
-  Ran,
-  Sound,
-  Fits,
-  Reaches,
-}
+use Rattle.blocks.specs.Doing.{madeOf, Does}
+use Rattle.runs.specs.Walk.{Going, Outcome, goingOn, isSpent, after, follow, obey, walk, callees}
+use Rattle.interpreter.specs.Progressing.{jobOf, goingOf, walkFrom, callFrom, programEnds, progressBy, howBy, nextBy, outcomeBy, Ran, Fits, Reaches}
 use Rattle.interpreter.specs.declared.Task.{Task}
 use Rattle.interpreter.specs.declared.Progress.{Progress}
+use Rattle.interpreter.specs.declared.How.the-variants.{Ended, Returned, Unfinished, Refused}
 use Rattle.interpreter.specs.declared.Ending.{Ending}
-use Rattle.interpreter.specs.declared.Ending.the-variants.{Returned, Unfinished, Refused}
-use Rattle.interpreter.specs.declared.Way.{Way}
-use Rattle.interpreter.specs.declared.Way.the-variants.{Next, Calls, Ends}
-use Rattle.interpreter.specs.declared.Caller.{Caller}
-use Rattle.interpreter.specs.declared.Callee.{Callee}
-use Rattle.interpreter.specs.declared.Callee.the-variants as Callee
+use Rattle.interpreter.specs.declared.Turn.the-variants.{Calls}
 use Rattle.interpreter.proofs.Walking.{freeVerdict, goes-inside, walk-spent, walk-ends, walk-goes}
-use Rattle.interpreter.proofs.Endings.{going-on, ran-just, ran-spent, ran-after, ran-length, back-fits, ran-then, ran-stops}
-use Rattle.interpreter.proofs.Acting.{by, Turns, leads-turn}
-use Rattle.interpreter.proofs.Keeping.{verdict-kept}
+use Rattle.interpreter.proofs.Endings.{count-room, ran-still, ran-after}
+use Rattle.interpreter.proofs.Acting.{Accepts, accepted-is, refused-is, verdict-kept, verdict-quiet}
 
 pub record Walking (l : List ℕ) (task : Task) (left : ℕ) (whole : Outcome) (p₀ : Progress) (was list : List ℕ) (n at : ℕ) (p : Progress) : Type 0 where
   pub begins : Begins l n at
@@ -70,24 +55,27 @@ pub record Walking (l : List ℕ) (task : Task) (left : ℕ) (whole : Outcome) (
 pub noPrograms : Programs
 noPrograms = record { main = record { number = 0; block = 0; byte = 0 }; count = 0; subs = [] }
 
--- the verdict on the block at a place but for its call, and the walk from there
+-- the verdict on the block at a place but for its call
 abbrev verdict-on : List ℕ → Task → ℕ → List ℕ → ℕ → ℕ → Progress → Verdict
 verdict-on l task left list n at p = freeVerdict task left (blockFrom n at (drop at l)) (length list - p .next) (p .state)
 
-abbrev walk-on : List ℕ → Task → ℕ → List ℕ → ℕ → ℕ → Progress → (ℕ → Going → Outcome) → (Going → Outcome) → Outcome
-walk-on l task left list n at p =
-    by (callsIn (subsOf (task .programs)) left) (length list) p (blockFrom n at (drop at l)) (verdict-on l task left list n at p)
+-- going on after a block, as the rules and as the code count the room
+going-on :
+    (room : ℕ) (p : Progress) (done : Done) (made : List Record) → done .next ≡ p .next + roomOf made
+    → goingOn (goingOf room p) (done .state) made ≡ goingOf room (progressBy p done)
+unfolding goingOn goingOf progressBy
+going-on room p done made e =
+    let f : room - p .next - roomOf made ≡ room - done .next = omega arith in
+    rw f
 
--- the walk of a call is the walk of its subprogram, with one level less
-callee-is :
-    (l : List ℕ) (task : Task) (left room n : ℕ) (program : Program) (q : Progress) → 1 ≤ left
-    → known (subsOf (task .programs)) n ≡ some program → Placed l program
-    → callees (jobOf l task) left n (goingOf room q) ≡ walkFrom l room task (left - 1) (program .block) (program .byte) q
-unfolding callees blocksFor walkFrom jobOf
-callee-is l task zero room n program q h e b = absurd (omega arith)
-callee-is l task (suc left) room n program q h e b =
-    let one : suc left - 1 ≡ left = omega arith in
-    rw (one, e, b .begins .blocks)
+-- the walk of an accepted block that calls no subprogram
+obeyed :
+    (calls : Exec.Calls) (b : Block) (callee : ℕ → Going → Outcome) (rest : Going → Outcome) (g : Going) {v : Verdict} {s : State}
+    {control : Control} {made : List Record}
+    → v ≡ accepted s control made → called calls (b .start) (accepted s control made) ≡ accepted s control made
+    → obey (called calls (b .start) v) b callee rest g ≡ after made (follow control callee rest (goingOn g s made))
+unfolding obey
+obeyed calls b callee rest g e f = rw (e, f)
 
 module _ (l : List ℕ) (task : Task) (left : ℕ) where
   pub walking-starts :
@@ -96,251 +84,150 @@ module _ (l : List ℕ) (task : Task) (left : ℕ) where
   walking-starts n at p was b f = record { begins = b; fits = f; kept = refl; same = λ last r h. h }
 
   module _ {whole : Outcome} {p₀ : Progress} {was list : List ℕ} {n at : ℕ} {p : Progress} (w : Walking l task left whole p₀ was list n at p) where
-    pub walking-spent :
-        isSpent (p .budget) ≡ true → Ran (task .bed) whole p₀ was list (Unfinished (p .state) (record { block = n; byte = at }) (p .count))
-    unfolding walkFrom goingOf endingBy
+    abbrev here : Place
+    here = record { block = n; byte = at }
+
+    pub walking-spent : isSpent (p .budget) ≡ true → Ran (task .bed) whole p₀ was list (record { how = Unfinished; place = here; progress = p })
+    unfolding walkFrom goingOf outcomeBy howBy nextBy
     walking-spent e =
-        w .same list (Unfinished (p .state) (record { block = n; byte = at }) (p .count))
+        w .same list (record { how = Unfinished; place = here; progress = p })
         (rw (walk-spent l task left (callees (jobOf l task) left) (goingOf (length list) p) n at (w .begins) e)
-        (ran-spent (task .bed) (record { block = n; byte = at }) (w .fits .state) (w .fits .next)))
+        (ran-still (task .bed) (record { how = Unfinished; place = here; progress = p }) (w .fits)))
 
     pub walking-ends :
         isSpent (p .budget) ≡ false → programEnds (drop at l) ≡ true
-        → Ran (task .bed) whole p₀ was list (Refused NoEnd (record { block = n; byte = at }) (p .state) (p .count))
-    unfolding walkFrom goingOf endingBy
+        → Ran (task .bed) whole p₀ was list (record { how = Refused NoEnd; place = here; progress = p })
+    unfolding walkFrom goingOf outcomeBy howBy nextBy
     walking-ends e f =
-        w .same list (Refused NoEnd (record { block = n; byte = at }) (p .state) (p .count))
+        w .same list (record { how = Refused NoEnd; place = here; progress = p })
         (rw (walk-ends l task left (callees (jobOf l task) left) (goingOf (length list) p) n at (w .begins) e f)
-        (ran-just (task .bed) (refusedAt NoEnd (record { block = n; byte = at })) (w .fits .state) (w .fits .next) (λ g f. let z : _≡_ {A = ℕ} 0 1 = cc in absurd (omega arith))))
+        (ran-still (task .bed) (record { how = Refused NoEnd; place = here; progress = p }) (w .fits)))
 
-    -- the block at the place, which is executed or skipped
-    module _ (fair : Fair (task .bed)) (e : isSpent (p .budget) ≡ false) (f : programEnds (drop at l) ≡ false) where
-      pub walking-inside : at < length l
-      walking-inside = goes-inside l at f
+-- the block at the place, which is executed or skipped, and the code's answer
+pub record Meets (l : List ℕ) (task : Task) (left : ℕ) (whole : Outcome) (p₀ : Progress) (was list : List ℕ) (n at : ℕ) (p : Progress)
+    (is : List ℕ) (a : Executed) : Type 0 where
+  pub walking : Walking l task left whole p₀ was list n at p
+  pub fair : Fair (task .bed)
+  pub budget : isSpent (p .budget) ≡ false
+  pub stays : programEnds (drop at l) ≡ false
+  pub did : Does (task .bed .offset) (verdict-on l task left list n at p) list (p .next) (at + lengthFrom (drop at l)) is a
 
-      module _ {is : List ℕ} {a : Way} (led : Leads (task .bed) (verdict-on l task left list n at p) (record { block = n; byte = at }) (at + lengthFrom (drop at l)) p list is a) where
-        rest : Going → Outcome
-        rest = walk (jobOf l task) left (callees (jobOf l task) left) (blocksFrom l (n + 1) (at + lengthFrom (drop at l)))
+module _ {l : List ℕ} {task : Task} {left : ℕ} {whole : Outcome} {p₀ : Progress} {was list : List ℕ} {n at : ℕ} {p : Progress} {is : List ℕ}
+    {a : Executed} (m : Meets l task left whole p₀ was list n at p is a) where
+  abbrev v : Verdict
+  v = verdict-on l task left list n at p
 
-        abbrev Turned : Way → Type 0
-        Turned w =
-            Turns (task .bed) (callsIn (subsOf (task .programs)) left) (blockFrom n at (drop at l)) (walk-on l task left list n at p) p list is
-            (at + lengthFrom (drop at l)) w
+  abbrev calls : Exec.Calls
+  calls = callsIn (subsOf (task .programs)) left
 
-        turned : Turned a
-        turned =
-            leads-turn (task .bed) (callsIn (subsOf (task .programs)) left) (blockFrom n at (drop at l)) (record { block = n; byte = at }) (at + lengthFrom (drop at l)) p list refl (w .fits)
-            (verdict-kept (record { bed = task .bed; left = left }) (task .skips) (blockFrom n at (drop at l)) (length list - p .next) (p .state) fair (w .fits .state)) led
+  abbrev rest : Going → Outcome
+  rest = walk (jobOf l task) left (callees (jobOf l task) left) (blocksFrom l (n + 1) (at + lengthFrom (drop at l)))
 
-        -- what the block's walk leaves, the whole walk leaves
-        on :
-            {last : List ℕ} {r : Ending}
-            → Ran (task .bed) (walk-on l task left list n at p (callees (jobOf l task) left) rest) p list last r
-            → Ran (task .bed) whole p₀ was last r
-        unfolding walkFrom goingOf rest
-        on {last} {r} h = w .same last r (rw (walk-goes l task left (callees (jobOf l task) left) (goingOf (length list) p) n at e f) h)
+  inside : at < length l
+  inside = goes-inside l at (m .stays)
 
-        list-length : length is ≡ length list
-        list-length = ap length (led .bytes) ∙ length-sets list (p .next) (movedBytes (task .bed .offset) (madeOf (verdict-on l task left list n at p)))
+  -- what the block's walk leaves, the whole walk leaves
+  on :
+      {last : List ℕ} {r : Ending}
+      → Ran (task .bed) (obey (called calls at v) (blockFrom n at (drop at l)) (callees (jobOf l task) left) rest (goingOf (length list) p)) p
+      list last r
+      → Ran (task .bed) whole p₀ was last r
+  unfolding walkFrom goingOf
+  on {last} {r} h = m .walking .same last r (rw (walk-goes l task left (callees (jobOf l task) left) (goingOf (length list) p) n at (m .walking .begins) (m .budget) (m .stays)) h)
 
-        pub led-kept : length is ≡ length was
-        led-kept = list-length ∙ w .kept
+  list-length : length is ≡ length list
+  list-length = ap length (m .did .bytes) ∙ length-sets list (p .next) (movedBytes (task .bed .offset) (madeOf v))
 
-        pub walking-halts : {ending : Ending} → a ≡ Ends ending → Ran (task .bed) whole p₀ was is ending
-        walking-halts {ending} g = let h : Turned (Ends ending) = rw g at turned in on (h (callees (jobOf l task) left) rest)
+  pub did-kept : length is ≡ length was
+  did-kept = list-length ∙ m .walking .kept
 
-        module _ {q : Progress} {next : ℕ} (g : a ≡ Next q next) where
-          onward : Turned (Next q next)
-          onward = rw g at turned
+  pub did-refused :
+      {refusal : Refusal} {byte : ℕ} → a ≡ Executed.Refused refusal byte
+      → Ran (task .bed) whole p₀ was is (record { how = Refused refusal; place = record { block = n; byte = byte }; progress = p })
+  unfolding obey called madeOf listBytes goingOf outcomeBy howBy nextBy
+  did-refused {refusal} {byte} g =
+      let e = refused-is (p .next) (at + lengthFrom (drop at l)) v (sym g ∙ m .did .answer) in
+      let same : is ≡ list = m .did .bytes ∙ ap (λ (v : Verdict). sets list (p .next) (movedBytes (task .bed .offset) (madeOf v))) e in
+      rw same
+      (on (rw e (ran-still (task .bed) (record { how = Refused refusal; place = record { block = n; byte = byte }; progress = p }) (m .walking .fits))))
 
-          pub walking-goes : Walking l task left whole p₀ was is (n + 1) next q
-          unfolding walkFrom rest
-          walking-goes =
-              let o = onward in
-              let same = list-length in
-              record {
-                begins = rw (o .place-is) (begins-next (w .begins) walking-inside);
-                fits = rw same (o .fits);
-                kept = led-kept;
-                same = λ last r h. on (o .ran (callees (jobOf l task) left) rest last r (rw (same, o .place-is) at h));
-              }
+  module _ {done : Done} (g : a ≡ Executed.Accepted done) where
+    abbrev made : List Record
+    made = madeOf v
 
-          pub goes-less : at < next
-          goes-less = omega (arith, onward .place-is, length-some l at walking-inside)
+    accepts : Accepts (p .next) (at + lengthFrom (drop at l)) v done
+    accepts = accepted-is (p .next) (at + lengthFrom (drop at l)) v done (sym g ∙ m .did .answer)
 
-        module _ {number : ℕ} {q : Progress} {next : ℕ} (g : a ≡ Calls number q next) where
-          inward : Turned (Calls number q next)
-          inward = rw g at turned
+    pub did-fits : Fits (task .bed) (length is) (progressBy p done)
+    unfolding progressBy
+    did-fits =
+        let k = verdict-kept (record { bed = task .bed; left = left }) (task .skips) (blockFrom n at (drop at l)) (length list - p .next) (p .state) (m .fair) (m .walking .fits .state) (accepts .verdict) in
+        record {
+          state = k .0;
+          next = omega (arith, k .1, m .walking .fits .next, accepts .next, list-length);
+          count = omega (arith, m .walking .fits .count, accepts .next, accepts .count, count-room made);
+        }
 
-          abbrev caller : Caller
-          caller = record { number = number; place = record { block = n; byte = at }; before = p; after = q; back = next }
+    pub did-less : at < done .after
+    did-less = omega (arith, accepts .place, length-some l at inside)
 
-          pub walking-calls : (n₀ at₀ : ℕ) → whole ≡ walkFrom l (length was) task left n₀ at₀ p₀ → at₀ ≤ at → Reaches l task left n₀ at₀ p₀ was is caller
-          unfolding callFrom rest
-          walking-calls n₀ at₀ k h =
-              let i = inward in
-              let same = list-length in
-              record {
-                next = rw (i .place-is) (begins-next (w .begins) walking-inside);
-                later = omega (arith, i .place-is, length-some l at walking-inside);
-                kept = led-kept;
-                before = rw same (w .fits);
-                after = i .after;
-                state = i .state;
-                same =
-                    λ last r ran.
-                    rw (← k)
-                    (on (rw (i .walks (callees (jobOf l task) left) rest) (rw (same, i .list, i .place-is) at ran)));
-              }
+    -- the walk after a block that calls no subprogram
+    then :
+        {control : Control} {last : List ℕ} {r : Ending} → done .control ≡ control
+        → called calls at (accepted (done .state) control made) ≡ accepted (done .state) control made
+        → Ran (task .bed) (follow control (callees (jobOf l task) left) rest (goingOf (length is) (progressBy p done))) (progressBy p done) is last r
+        → Ran (task .bed) whole p₀ was last r
+    unfolding progressBy
+    then {control} k free h =
+        let e = accepts in
+        let count : p .count + done .count ≡ p .count + length made = omega (arith, e .count) in
+        let going : goingOn (goingOf (length list) p) (done .state) made ≡ goingOf (length is) (progressBy p done) =
+        going-on (length list) p done made (e .next) ∙ ap (λ (room : ℕ). goingOf room (progressBy p done)) (sym list-length)
+        in
+        let walked = obeyed calls (blockFrom n at (drop at l)) (callees (jobOf l task) left) rest (goingOf (length list) p) (e .verdict ∙ ap (λ (control : Control). accepted (done .state) control made) k) free in
+        on (rw (walked, going) (ran-after (task .bed) made (m .did .bytes) (e .next) count h))
 
--- ---- from call to call
+    pub did-back : (place : Place) → done .control ≡ Back → Ran (task .bed) whole p₀ was is (record { how = Returned; place = place; progress = progressBy p done })
+    unfolding follow outcomeBy howBy nextBy goingOf called unless firstOf atStart callTo unknownCall tooDeep
+    did-back place k = then k refl (ran-still (task .bed) (record { how = Returned; place = place; progress = progressBy p done }) did-fits)
 
--- "5; 6": a call that is refused
-module _ (l : List ℕ) (room : ℕ) (task : Task) (left : ℕ) (c : Caller) where
-  abbrev found : Option Program
-  found = known (subsOf (task .programs)) (c .number)
+    pub did-stop : (place : Place) → done .control ≡ Stop → Ran (task .bed) whole p₀ was is (record { how = Ended; place = place; progress = progressBy p done })
+    unfolding follow outcomeBy howBy nextBy goingOf called unless firstOf atStart callTo unknownCall tooDeep
+    did-stop place k = then k refl (ran-still (task .bed) (record { how = Ended; place = place; progress = progressBy p done }) did-fits)
 
-  -- the walk of the subprogram, and what follows it
-  abbrev follows : Outcome
-  follows =
-      let o = callees (jobOf l task) left (c .number) (goingOf room (c .after)) in
-      after (o .made)
-      (thenRest (o .how) (o .last) (o .next)
-      (walk (jobOf l task) left (callees (jobOf l task) left) (blocksFrom l (c .place .block + 1) (c .back))))
+    pub did-on : done .control ≡ On → Walking l task left whole p₀ was is (n + 1) (done .after) (progressBy p done)
+    unfolding walkFrom follow progressBy called unless firstOf atStart callTo unknownCall tooDeep
+    did-on k =
+        let place = accepts .place in
+        record {
+          begins = rw place (begins-next (m .walking .begins) inside);
+          fits = did-fits;
+          kept = did-kept;
+          same = λ last r h. then k refl (rw place at h);
+        }
 
-  call-unknown : found ≡ none → callFrom l room task left c ≡ just (refusedAt NumberNotFound (c .place)) (c .before .state)
-  unfolding callFrom called unless firstOf atStart callTo unknownCall callsIn obey goingOf stands
-  call-unknown e = rw e
-
-  module _ {program : Program} (e : found ≡ some program) where
-    call-deep : eqb left 0 ≡ true → callFrom l room task left c ≡ just (refusedAt NestOver (c .place)) (c .before .state)
-    unfolding callFrom called unless firstOf atStart callTo unknownCall tooDeep callsIn obey goingOf stands
-    call-deep f = rw (e, f)
-
-    call-follows : eqb left 0 ≡ false → c .after ≡ progressOn (c .before) (c .after .state) [] → callFrom l room task left c ≡ after [] follows
-    unfolding callFrom called unless firstOf atStart callTo unknownCall tooDeep callsIn obey follow stands
-    call-follows f h =
-        let going = going-on room (c .before) (c .after .state) [] in
-        rw (e, f, going, ← h)
-
-module _ (l : List ℕ) (task : Task) (left : ℕ) {whole : Outcome} {p₀ : Progress} {was list : List ℕ} {n at : ℕ} {p : Progress} (w : Walking l task left whole p₀ was list n at p) where
-  -- a walk that ends with no call more
-  module _ {is : List ℕ} {e : Ending} (r : Ran (task .bed) (walkFrom l (length list) task left n at p) p list is e) where
-    pub leg-ends : Ran (task .bed) whole p₀ was is e
-    leg-ends = w .same is e r
-
-    pub leg-kept : length is ≡ length was
-    leg-kept = ran-length (task .bed) r ∙ w .kept
-
-  -- one that comes to a call
-  module _ {is : List ℕ} {c : Caller} (r : Reaches l task left n at p list is c) where
-    pub caller-kept : length is ≡ length was
-    caller-kept = r .kept ∙ w .kept
-
-    pub caller-less : length l - c .back < length l - at
-    caller-less = omega (arith, r .later, r .next .inside)
-
-    -- what the walk from the call on leaves, the whole walk leaves
-    on-call :
-        {last : List ℕ} {e : Ending} → Ran (task .bed) (callFrom l (length is) task left c) (c .before) is last e
-        → Ran (task .bed) whole p₀ was last e
-    on-call {last} {e} h = w .same last e (r .same last e h)
-
-    pub call-refused :
-        {refusal : Refusal} → Callee.Refused refusal ≡ calleeBy (known (subsOf (task .programs)) (c .number)) left
-        → Ran (task .bed) whole p₀ was is (Refused refusal (c .place) (c .before .state) (c .before .count))
-    unfolding calleeBy endingBy
-    call-refused {refusal} e = go (known (subsOf (task .programs)) (c .number)) refl e
-      where
-        told :
-            (given : Refusal) → callFrom l (length is) task left c ≡ just (refusedAt given (c .place)) (c .before .state)
-            → Ran (task .bed) whole p₀ was is (Refused given (c .place) (c .before .state) (c .before .count))
-        told given f =
-            on-call
-            (rw f
-            (ran-just (task .bed) (refusedAt given (c .place)) (r .before .state) (r .before .next)
-            (λ g h. let z : _≡_ {A = ℕ} 0 1 = cc in absurd (omega arith))))
-
-        deep :
-            {program : Program} (t : Bool) → known (subsOf (task .programs)) (c .number) ≡ some program → eqb left 0 ≡ t
-            → Callee.Refused refusal ≡ (if t then Callee.Refused NestOver else Callee.Found program)
-            → Ran (task .bed) whole p₀ was is (Refused refusal (c .place) (c .before .state) (c .before .count))
-        deep true f t g = let same : refusal ≡ NestOver = cc in rw same (told NestOver (call-deep l (length is) task left c f t))
-        deep false f t g = let z : _≡_ {A = ℕ} 0 1 = cc in absurd (omega arith)
-
-        go :
-            (o : Option Program) → known (subsOf (task .programs)) (c .number) ≡ o → Callee.Refused refusal ≡ calleeBy o left
-            → Ran (task .bed) whole p₀ was is (Refused refusal (c .place) (c .before .state) (c .before .count))
-        go none f g = let same : refusal ≡ NumberNotFound = cc in rw same (told NumberNotFound (call-unknown l (length is) task left c f))
-        go (some program) f g = deep (eqb left 0) f refl g
-
-    module _ (sound : Sound l task) {program : Program} (e : Callee.Found program ≡ calleeBy (known (subsOf (task .programs)) (c .number)) left) where
-      enters : (known (subsOf (task .programs)) (c .number) ≡ some program) × (eqb left 0 ≡ false)
-      unfolding calleeBy
-      enters = go (known (subsOf (task .programs)) (c .number)) (eqb left 0) refl refl e
-        where
-          go :
-              (o : Option Program) (t : Bool) → known (subsOf (task .programs)) (c .number) ≡ o → eqb left 0 ≡ t → Callee.Found program ≡ calleeBy o left
-              → (known (subsOf (task .programs)) (c .number) ≡ some program) × (eqb left 0 ≡ false)
-          go none t f g h = let z : _≡_ {A = ℕ} 0 1 = cc in absurd (omega arith)
-          go (some q) true f g h =
-              let x : Callee.Found program ≡ Callee.Refused NestOver = rw g at h in
-              let z : _≡_ {A = ℕ} 0 1 = cc in
-              absurd (omega arith)
-          go (some q) false f g h =
-              let x : Callee.Found program ≡ Callee.Found q = rw g at h in
-              let y : q ≡ program = cc in
-              (f ∙ ap (λ (z : Program). some z) y, g)
-
-      pub call-level : 1 ≤ left
-      call-level = omega (arith, eqb-false left 0 (enters .1))
-
-      pub call-placed : Placed l program
-      call-placed = sound .places (c .number) program (enters .0)
-
-      pub call-fits : Fits (task .bed) (length is) (c .after)
-      unfolding progressOn roomOf
-      call-fits =
-          rw (r .after) (record {
-            state = r .state;
-            next = omega (arith, r .before .next);
-            count = omega (arith, r .before .count);
-          })
-
-      callee :
-          callees (jobOf l task) left (c .number) (goingOf (length is) (c .after))
-          ≡ walkFrom l (length is) task (left - 1) (program .block) (program .byte) (c .after)
-      callee = callee-is l task left (length is) (c .number) program (c .after) call-level (enters .0) call-placed
-
-      -- the call
-      module _ {is′ : List ℕ} {r′ : Ending} (ran : Ran (task .bed) (walkFrom l (length is) task (left - 1) (program .block) (program .byte) (c .after)) (c .after) is is′ r′) where
-        pub call-kept : length is′ ≡ length was
-        call-kept = ran-length (task .bed) ran ∙ caller-kept
-
-        abbrev onwards : Going → Outcome
-        onwards = walk (jobOf l task) left (callees (jobOf l task) left) (blocksFrom l (c .place .block + 1) (c .back))
-
-        into :
-            {last : List ℕ} {x : Ending} → Ran (task .bed) (follows l (length is) task left c) (c .after) is last x
-            → Ran (task .bed) whole p₀ was last x
-        unfolding progressOn listBytes
-        into h =
-            on-call
-            (rw (call-follows l (length is) task left c (enters .0) (enters .1) (r .after))
-            (ran-after (task .bed) [] refl (ap (λ (q : Progress). q .next) (r .after)) (ap (λ (q : Progress). q .count) (r .after)) h))
-
-        pub walking-stops : ((back : Progress) → r′ ≡ Returned back → ⊥) → Ran (task .bed) whole p₀ was is′ r′
-        walking-stops never = let x = callee in into (rw x (ran-stops (task .bed) onwards never ran))
-
-        pub walking-back : {back : Progress} → r′ ≡ Returned back → Walking l task left whole p₀ was is′ (c .place .block + 1) (c .back) back
-        unfolding walkFrom
-        walking-back {back} x =
-            let y = callee in
-            let came : Ran (task .bed) (walkFrom l (length is) task (left - 1) (program .block) (program .byte) (c .after)) (c .after) is is′ (Returned back) = rw x at ran in
-            let same = ran-length (task .bed) ran in
-            record {
-              begins = r .next;
-              fits = rw same (back-fits (task .bed) came (call-fits .count));
-              kept = call-kept;
-              same = λ last z h. into (rw y (ran-then (task .bed) came onwards (rw same at h)));
-            }
+    pub did-call :
+        {number : ℕ} (n₀ at₀ : ℕ) → done .control ≡ Call number → whole ≡ walkFrom l (length was) task left n₀ at₀ p₀ → at₀ ≤ at
+        → Reaches l task left n₀ at₀ p₀ was is number (record { turn = Calls number; place = record { block = n; byte = at }; byte = done .after; before = p; after = progressBy p done })
+    unfolding callFrom progressBy listBytes roomOf
+    did-call {number} n₀ at₀ k u h =
+        let a = accepts in
+        let same = list-length in
+        let place = a .place in
+        let calls-it = a .verdict ∙ ap (λ (control : Control). accepted (done .state) control made) k in
+        let none = verdict-quiet (record { bed = task .bed; left = left }) (task .skips) (blockFrom n at (drop at l)) (length list - p .next) (p .state) calls-it in
+        let e : v ≡ accepted (done .state) (Call number) [] = calls-it ∙ ap (accepted (done .state) (Call number)) none in
+        let list-is : is ≡ list = m .did .bytes ∙ ap (λ (made : List Record). sets list (p .next) (movedBytes (task .bed .offset) made)) none in
+        let next = a .next ∙ ap (λ (made : List Record). p .next + roomOf made) none in
+        let count = a .count ∙ ap length none in
+        record {
+          begins = rw place (begins-next (m .walking .begins) inside);
+          later = omega (arith, did-less);
+          kept = did-kept;
+          before = rw same (m .walking .fits);
+          after = did-fits;
+          going = sym (going-on (length is) p done [] next);
+          next = omega (arith, next);
+          count = omega (arith, count);
+          same = λ last r ran. rw (← u) (on (rw e (rw (list-is, place) at ran)));
+        }

@@ -28,6 +28,7 @@ use Rattle.setup.specs.Limits.{validSetup}
 use Rattle.setup.specs.Frame.{pointOf, offset, startOf, bedOf, switchOn}
 use Rattle.setup.specs.Fair.{Fair}
 use Rattle.setup.proofs.Valid.{valid-feed, valid-speed, start-inside}
+use Rattle.records.specs.declared.Record.{Record}
 use Rattle.records.specs.Layout.{roomOf, listBytes}
 use Rattle.settings.specs.declared.State.{State}
 use Rattle.settings.specs.Settings.{firstState, firstModes, stateMoved}
@@ -43,16 +44,15 @@ use Rattle.programs.specs.Places.{Placed, TablePlaced}
 use Rattle.programs.proofs.Places.{found-placed, main-placed, subs-placed, known-placed}
 use Rattle.blocks.specs.Reach.{Reachable}
 use Rattle.blocks.proofs.Nearness.{inside-sums}
-use Rattle.runs.specs.Walk.{How, ended, returned, unfinished, Outcome, nowhere, just}
+use Rattle.runs.specs.Walk.{How, Outcome, nowhere, just}
 use Rattle.runs.specs.Walk as Walk
 use Rattle.runs.specs.Run.{firstOf, runTable, runBlocks, outcome, recordsOf, answerBy, answerOf, standingOf}
-use Rattle.interpreter.specs.Progressing.{jobOf, goingOf, walkFrom, endingBy, nextBy, Ran, Sound, Fits}
+use Rattle.interpreter.specs.Progressing.{jobOf, goingOf, walkFrom, outcomeBy, Ran, Sound, Fits}
 use Rattle.interpreter.specs.Owing.{Owes}
-use Rattle.interpreter.specs.Serving.{answerFor, Opened, Gives, stateFor, nextFor, reportBy}
+use Rattle.interpreter.specs.Serving.{Opened, Gives, reportBy}
 use Rattle.runs.specs.declared.Budget.{Budget}
 use Rattle.runs.specs.declared.Report.{Report}
-use Rattle.runs.specs.declared.Standing.{Standing}
-use Rattle.refusals.specs.declared.Answer.{Answer}
+use Rattle.refusals.specs.declared.Answer.the-variants.{Refused}
 use Rattle.interpreter.specs.declared.Progress.{Progress}
 use Rattle.interpreter.specs.declared.Ending.{Ending}
 use Rattle.interpreter.proofs.Endings.{moved-length}
@@ -104,58 +104,22 @@ module _ {l : List ℕ} {t : Programs} (o : Opened l t) where
 
 -- ---- the answer
 
-module _ (s : State) (on : Place) (next count : ℕ) where
-  answer-by : (how : How) → answerFor (endingBy how s on next count) ≡ answerBy how count
-  unfolding answerFor endingBy answerBy
-  answer-by ended = refl
-  answer-by (returned g) = refl
-  answer-by unfinished = refl
-  answer-by (Walk.refusedAt refusal place) = refl
-
-  state-by : (how : How) → stateFor (endingBy how s on next count) ≡ s
-  unfolding stateFor endingBy
-  state-by ended = refl
-  state-by (returned g) = refl
-  state-by unfinished = refl
-  state-by (Walk.refusedAt refusal place) = refl
-
-  next-by : (how : How) → nextFor (endingBy how s on next count) ≡ nextBy how on
-  unfolding nextFor endingBy nextBy
-  next-by ended = refl
-  next-by (returned g) = refl
-  next-by unfinished = refl
-  next-by (Walk.refusedAt refusal place) = refl
-
 module _ {bed : Bed} {o : Outcome} {p : Progress} {was is : List ℕ} {e : Ending} (ran : Ran bed o p was is e) where
   -- the settings at the end can be told in machine units
-  pub main-sums : {by : Point} {s : State} → Fair bed → by ≡ bed .offset → s ≡ stateFor e → (Near (2 ^ 61) by) × (Near (2 ^ 61) (s .at))
-  main-sums fair b f =
-      let last = f ∙ ap stateFor (ran .answer) ∙ state-by (o .last) (o .next) (p .next + roomOf (o .made)) (p .count + length (o .made)) (o .how) in
-      rw (b, last) (inside-sums bed fair (o .last .at) (ran .state .at))
+  pub main-sums : {by : Point} → Fair bed → by ≡ bed .offset → (Near (2 ^ 61) by) × (Near (2 ^ 61) (e .progress .state .at))
+  main-sums fair b = rw b (inside-sums bed fair (e .progress .state .at) (ran .fits .state .at))
 
   pub main-gives :
-      {u : Outcome} {by : Point} {a : Answer} {s moved : State} {next : Place} → bed .offset ≡ by → p .next ≡ 0 → p .count ≡ 0 → o ≡ u
-      → a ≡ answerFor e → s ≡ stateFor e → moved ≡ stateMoved by s → next ≡ nextFor e
-      → Gives by u was is (record { answer = a; standing = record { state = moved; next = next } })
-  unfolding reportBy
-  main-gives {by = by} b n k f a s m on =
-      let count : p .count + length (o .made) ≡ length (o .made) = omega arith in
-      let place = p .next + roomOf (o .made) in
-      let many = p .count + length (o .made) in
-      let answer = a ∙ ap answerFor (ran .answer) ∙ answer-by (o .last) (o .next) place many (o .how) ∙ ap (answerBy (o .how)) count in
-      let state = m ∙ ap (stateMoved by) (s ∙ ap stateFor (ran .answer) ∙ state-by (o .last) (o .next) place many (o .how)) in
-      let next = on ∙ ap nextFor (ran .answer) ∙ next-by (o .last) (o .next) place many (o .how) ∙ sym (ran .on) in
+      {u : Outcome} {by : Point} {r : Report} → bed .offset ≡ by → p .next ≡ 0 → p .count ≡ 0 → o ≡ u
+      → ((room : ℕ) (made : List Record) → length made ≡ e .progress .count → r ≡ reportBy by (outcomeBy room e made))
+      → Gives by u was is r
+  main-gives {by = by} b n k f told =
       rw (← f)
       (record {
-        report = told answer state next;
+        report = told (length was) (o .made) (omega (arith, ran .count)) ∙ sym (ap (reportBy by) (ran .outcome));
         bytes = ran .bytes ∙ rw (n, b) refl;
-        room = omega (arith, ran .room);
+        room = omega (arith, ran .next, ran .fits .next);
       })
-    where
-      told :
-          {a b : Answer} {s t : State} {m n : Place} → a ≡ b → s ≡ t → m ≡ n
-          → _≡_ {A = Report} (record { answer = a; standing = record { state = s; next = m } }) (record { answer = b; standing = record { state = t; next = n } })
-      told e f g = rw (e, f, g)
 
 -- an outcome without records
 pub gives-just :
@@ -180,11 +144,12 @@ start-is s = points (again (s .start .x) (s .exofs .x)) (again (s .start .y) (s 
     points h j k = rw (h, j, k)
 
 pub stands-at-start :
-    (s : Setup) {start : Point} {feed speed : Len} {state : State} → start ≡ pointOf (s .start) → feed ≡ len (s .feed) → speed ≡ len (s .speed)
-    → state ≡ firstState start feed speed
-    → _≡_ {A = Standing} (record { state = state; next = nowhere }) (record { state = stateMoved (offset s) (firstOf s); next = nowhere })
-unfolding stateMoved firstOf firstState
-stands-at-start s e f g h = rw (h, e, f, g, start-is s)
+    (s : Setup) (refusal : Refusal) (place : Place) {start : Point} {feed speed : Len} {state : State} → start ≡ pointOf (s .start) → feed ≡ len (s .feed)
+    → speed ≡ len (s .speed) → state ≡ firstState start feed speed
+    → record { answer = Refused refusal place 0; standing = record { state = state; next = nowhere } }
+    ≡ reportBy (offset s) (just (Walk.refusedAt refusal place) (firstOf s))
+unfolding reportBy answerBy stateMoved firstOf firstState
+stands-at-start s refusal place e f g h = rw (h, e, f, g, start-is s)
 
 -- ---- "Order: 13, 12, 11; then per opening 1, 8, 7."
 

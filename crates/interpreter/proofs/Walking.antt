@@ -2,14 +2,14 @@
 use Prim.Native.Nat.{ℕ, _+_, _≤_, _<_}
 use mathlib.Core.Path.{_≡_, refl, sym, _∙_, ap}
 use mathlib.Core.Bool.{Bool, true, false, _&&_, _||_}
-use mathlib.Core.List.{List, [], _∷_}
+use mathlib.Core.List.{List, []}
 use native.Mathlib.Omega.{arith}
 use native.Mathlib.Decide.{decLt}
 use lib.ListN.{length, drop, drop-of-length-le}
 use Rattle.terms.specs.Terms.{if_then_else_, firstOf}
 use Rattle.refusals.specs.declared.Refusal.the-variants.{NoEnd}
 use Rattle.refusals.specs.declared.Place.{Place}
-use Rattle.lines.specs.Blocks.{Block, blockFrom, lengthFrom, beginsWith, isPercent, isSlashed, textFrom, opens, closes}
+use Rattle.lines.specs.Blocks.{Block, blockFrom, lengthFrom, beginsWith, isPercent, isSlashed, textFrom}
 use Rattle.lines.specs.Serving.{blocksFrom}
 use Rattle.lines.proofs.Lines.{at-place, blocks-step, blocks-end}
 use Rattle.programs.specs.Places.{Begins}
@@ -20,7 +20,7 @@ use Rattle.blocks.specs.Exec.{Calls, callsIn, callTo, unknownCall, tooDeep, atS
 use Rattle.blocks.specs.Calling.{freely, called}
 use Rattle.blocks.proofs.Calling.{exec-called}
 use Rattle.blocks.specs.declared.Control.the-variants.{On}
-use Rattle.runs.specs.Walk.{Job, Going, Outcome, refusedAt, just, spentAt, after, isSpent, isSkipped, slashLength, follow, obey, verdictOn, runBlock, reached, walk}
+use Rattle.runs.specs.Walk.{Going, Outcome, refusedAt, just, spentAt, after, isSpent, isSkipped, slashLength, follow, obey, verdictOn, runBlock, reached, walk}
 use Rattle.interpreter.specs.Progressing.{jobOf, programEnds, verdictAt}
 use Rattle.interpreter.specs.declared.Task.{Task}
 use Rattle.interpreter.proofs.Places.{begins-end}
@@ -54,27 +54,12 @@ goes-inside l at e =
           omega arith
     ]
 
-module _ (job : Job) (left : ℕ) (callee : ℕ → Going → Outcome) (g : Going) where
-  spent-none : isSpent (g .budget) ≡ true → walk job left callee [] g ≡ spentAt (g .state) (job .finish)
-  unfolding walk reached
-  spent-none e = rw e
-
-  spent-block : (b : Block) (bs : List Block) → isSpent (g .budget) ≡ true → walk job left callee (b ∷ bs) g ≡ spentAt (g .state) (record { block = b .number; byte = b .start })
-  unfolding walk reached
-  spent-block b bs e = rw e
-
-  walk-none : isSpent (g .budget) ≡ false → walk job left callee [] g ≡ just (refusedAt NoEnd (job .finish)) (g .state)
-  unfolding walk reached
-  walk-none e = rw e
-
-  module _ (b : Block) (bs : List Block) (e : isSpent (g .budget) ≡ false) where
-    walk-closed : (opens b || closes b) ≡ true → walk job left callee (b ∷ bs) g ≡ just (refusedAt NoEnd (record { block = b .number; byte = b .start })) (g .state)
-    unfolding walk reached
-    walk-closed f = rw (e, f)
-
-    walk-open : (opens b || closes b) ≡ false → walk job left callee (b ∷ bs) g ≡ runBlock (isSkipped job b) job left callee b (walk job left callee bs) g
-    unfolding walk reached
-    walk-open f = rw (e, f)
+-- where a program ends, no block is run
+not-run :
+    (spent : Bool) (place : Place) (run run′ : Going → Outcome) (g : Going) → reached spent true place run g ≡ reached spent true place run′ g
+unfolding reached
+not-run true place run run′ g = refl
+not-run false place run run′ g = refl
 
 -- the verdict on a block of a task, but for its call
 abbrev pub freeVerdict : Task → ℕ → Block → ℕ → State → Verdict
@@ -106,47 +91,42 @@ module _ (l : List ℕ) (task : Task) (left : ℕ) (callee : ℕ → Going → O
   unfolding verdictAt isSkipped jobOf
   run-as = skipped-as (isSlashed b && task .skips)
 
-module _ (l : List ℕ) (task : Task) (left : ℕ) (callee : ℕ → Going → Outcome) (g : Going) (n at : ℕ) where
+module _ (l : List ℕ) (task : Task) (left : ℕ) (callee : ℕ → Going → Outcome) (g : Going) (n at : ℕ) (begins : Begins l n at) where
+  abbrev b : Block
+  b = blockFrom n at (drop at l)
+
+  abbrev rest : Going → Outcome
+  rest = walk (jobOf l task) left callee (blocksFrom l (n + 1) (at + lengthFrom (drop at l)))
+
+  walk-at :
+      walk (jobOf l task) left callee (blocksFrom l n at) g
+      ≡ reached (isSpent (g .budget)) (programEnds (drop at l)) (record { block = n; byte = at })
+      (runBlock (isSkipped (jobOf l task) b) (jobOf l task) left callee b rest) g
+  unfolding walk jobOf
+  walk-at =
+      elim (decLt at (length l)) [
+        | yes h ↦ rw (blocks-step l n at h, ends-at l at h)
+        | no h ↦
+            let past : length l ≤ at = omega arith in
+            rw (blocks-end l n at past, ends-past l at past, ← begins-end begins past) (not-run (isSpent (g .budget)) _ _ _ g)
+      ]
+
   pub walk-spent :
-      Begins l n at → isSpent (g .budget) ≡ true
+      isSpent (g .budget) ≡ true
       → walk (jobOf l task) left callee (blocksFrom l n at) g ≡ spentAt (g .state) (record { block = n; byte = at })
-  unfolding jobOf
-  walk-spent b e =
-      elim (decLt at (length l)) [
-        | yes h ↦
-            rw (blocks-step l n at h)
-            (spent-block (jobOf l task) left callee g (blockFrom n at (drop at l)) (blocksFrom l (n + 1) (at + lengthFrom (drop at l))) e)
-        | no h ↦
-            let past : length l ≤ at = omega arith in
-            rw (blocks-end l n at past)
-            (spent-none (jobOf l task) left callee g e ∙ ap (λ (place : Place). spentAt (g .state) place) (begins-end b past))
-      ]
+  unfolding reached
+  walk-spent e = walk-at ∙ rw e
 
-  pub walk-ends :
-      Begins l n at → isSpent (g .budget) ≡ false → programEnds (drop at l) ≡ true
-      → walk (jobOf l task) left callee (blocksFrom l n at) g ≡ just (refusedAt NoEnd (record { block = n; byte = at })) (g .state)
-  unfolding jobOf
-  walk-ends b e f =
-      elim (decLt at (length l)) [
-        | yes h ↦
-            rw (blocks-step l n at h)
-            (walk-closed (jobOf l task) left callee g (blockFrom n at (drop at l)) (blocksFrom l (n + 1) (at + lengthFrom (drop at l))) e (sym (ends-at l at h) ∙ f))
-        | no h ↦
-            let past : length l ≤ at = omega arith in
-            rw (blocks-end l n at past)
-            (walk-none (jobOf l task) left callee g e ∙ ap (λ (place : Place). just (refusedAt NoEnd place) (g .state)) (begins-end b past))
-      ]
+  module _ (e : isSpent (g .budget) ≡ false) where
+    pub walk-ends :
+        programEnds (drop at l) ≡ true
+        → walk (jobOf l task) left callee (blocksFrom l n at) g ≡ just (refusedAt NoEnd (record { block = n; byte = at })) (g .state)
+    unfolding reached
+    walk-ends f = walk-at ∙ rw (e, f)
 
-  pub walk-goes :
-      isSpent (g .budget) ≡ false → programEnds (drop at l) ≡ false
-      → walk (jobOf l task) left callee (blocksFrom l n at) g
-      ≡ obey (called (callsIn (subsOf (task .programs)) left) at (freeVerdict task left (blockFrom n at (drop at l)) (g .room) (g .state)))
-      (blockFrom n at (drop at l)) callee
-      (walk (jobOf l task) left callee (blocksFrom l (n + 1) (at + lengthFrom (drop at l)))) g
-  walk-goes e f =
-      let h = goes-inside l at f in
-      let b = blockFrom n at (drop at l) in
-      let bs = blocksFrom l (n + 1) (at + lengthFrom (drop at l)) in
-      rw (blocks-step l n at h)
-      (walk-open (jobOf l task) left callee g b bs e (sym (ends-at l at h) ∙ f)
-      ∙ run-as l task left callee g b (walk (jobOf l task) left callee bs))
+    pub walk-goes :
+        programEnds (drop at l) ≡ false
+        → walk (jobOf l task) left callee (blocksFrom l n at) g
+        ≡ obey (called (callsIn (subsOf (task .programs)) left) at (freeVerdict task left b (g .room) (g .state))) b callee rest g
+    unfolding reached
+    walk-goes f = walk-at ∙ rw (e, f) (run-as l task left callee g b rest)

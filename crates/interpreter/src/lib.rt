@@ -45,37 +45,36 @@ pub struct Progress {
     pub budget: Budget,
 }
 
-// How the walk through a program ends: at the program's end, by a return with what goes on, by the budget's end before the
-// block at a place, or by a refusal with its place. Each tells the settings and the count of the records.
-pub enum Ending {
-    Ended(State, usize),
-    Returned(Progress),
-    Unfinished(State, Place, usize),
-    Refused(Refusal, Place, State, usize),
+// How the walk through a program ends: at the program's end, by a return, by the budget's end, or by a refusal.
+pub enum How {
+    Ended,
+    Returned,
+    Unfinished,
+    Refused(Refusal),
 }
 
-// Where a block leads: to the next block, at its byte; to the subprogram of a number, with the byte of the block to come back to;
-// or to the walk's ending.
-pub enum Way {
-    Next(Progress, usize),
-    Calls(u64, Progress, usize),
-    Ends(Ending),
-}
-
-// A block that calls the subprogram of a number: its place, the progress before it and after it, and the byte of the block to come
-// back to.
-pub struct Caller {
-    pub number: u64,
+// The ending of a walk: how, at which place (of the block that is not executed any more, or that which a refusal names), and the
+// progress that it leaves.
+pub struct Ending {
+    pub how: How,
     pub place: Place,
+    pub progress: Progress,
+}
+
+// What a block does that does not lead to the next one: it calls the subprogram of a number, or the walk is over.
+pub enum Turn {
+    Calls(u64),
+    Over(How),
+}
+
+// How far a walk comes that follows no call: what its last block does, the place of that block, the byte where the walk goes on after a
+// call or that a refusal names, and the progress before that block and after it.
+pub struct Leg {
+    pub turn: Turn,
+    pub place: Place,
+    pub byte: usize,
     pub before: Progress,
     pub after: Progress,
-    pub back: usize,
-}
-
-// How far a walk comes that follows no call: to a block that calls, or to its ending.
-pub enum Leg {
-    Calls(Caller),
-    Ends(Ending),
 }
 
 // What a call leads to: a subprogram, or a refusal.
@@ -107,12 +106,12 @@ fn run_main(
         count: 0,
         budget,
     };
-    let main = programs.main;
-    let ending = walk::run_program(bytes, list, task, 4, main, first);
-    let state = reporting::state_moved(setup::point_of(setup.exofs), reporting::state_by(ending));
-    let next = reporting::next_by(ending);
+    let ending = walk::run_program(bytes, list, task, 4, programs.main, first);
+    let how = ending.how;
+    let state = reporting::state_moved(setup::point_of(setup.exofs), ending.progress.state);
+    let next = reporting::next_by(how, ending.place);
     Report {
-        answer: reporting::answer_by(ending),
+        answer: reporting::answer_by(how, ending.place, ending.progress.count),
         standing: Standing { state, next },
     }
 }

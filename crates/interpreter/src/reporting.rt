@@ -1,5 +1,5 @@
 // What a run tells: where it starts, where it stands and what it answers.
-use crate::Ending;
+use crate::How;
 use points::Point;
 use refusals::Answer;
 use refusals::Place;
@@ -15,9 +15,10 @@ ghost use Rattle.points.specs.Near.{Near};
 ghost use Rattle.setup.specs.Limits.{validSetup};
 ghost use Rattle.setup.specs.Frame.{offset};
 ghost use Rattle.settings.specs.Settings.{stateMoved};
-ghost use Rattle.runs.specs.Walk.{just, nowhere, refusedAt};
-ghost use Rattle.runs.specs.Run.{firstOf};
-ghost use Rattle.interpreter.specs.Serving.{answerFor, reportBy, stateFor, nextFor};
+ghost use Rattle.runs.specs.Walk.{Going, just, refusedAt};
+ghost use Rattle.runs.specs.Run.{firstOf, answerBy};
+ghost use Rattle.interpreter.specs.Progressing.{howBy, nextBy};
+ghost use Rattle.interpreter.specs.Serving.{reportBy};
 
 // The settings that a run starts with.
 pub fn first_state(setup: Setup) -> State
@@ -28,24 +29,17 @@ pub fn first_state(setup: Setup) -> State
     settings::first_state(start, setup::feed_of(setup), setup::speed_of(setup))
 }
 
-// The same in machine units: the setup's own numbers, with no sum of them, since those of a refused setup may be any.
-fn first_standing(setup: Setup) -> Standing
-    ensures { λ r. ⌜ r ≡ record { state = stateMoved (offset setup) (firstOf setup); next = nowhere } ⌝ }
+// A refusal before any block: the run stands where it would have started, by the setup's own numbers, with no sum of them, since those
+// of a refused setup may be any.
+pub fn refused(setup: Setup, refusal: Refusal, place: Place) -> Report
+    ensures { λ r. ⌜ r ≡ reportBy (offset setup) (just (refusedAt refusal place) (firstOf setup)) ⌝ }
 {
     let start = setup::point_of(setup.start);
     let state = settings::first_state(start, setup::feed_of(setup), setup::speed_of(setup));
     let next = Place { block: 0, byte: 0 };
-    Standing { state, next }
-}
-
-// A refusal before any block: the run stands where it would have started.
-pub fn refused(setup: Setup, refusal: Refusal, place: Place) -> Report
-    ensures { λ r. ⌜ r ≡ reportBy (offset setup) (just (refusedAt refusal place) (firstOf setup)) ⌝ }
-{
-    let standing = first_standing(setup);
     Report {
         answer: Answer::Refused(refusal, place, 0),
-        standing,
+        standing: Standing { state, next },
     }
 }
 
@@ -68,37 +62,23 @@ pub fn state_moved(by: Point, s: State) -> State
 }
 
 // The answer that the main program's ending gives.
-pub fn answer_by(ending: Ending) -> Answer
-    ensures { λ r. ⌜ r ≡ answerFor ending ⌝ }
+pub fn answer_by(how: How, place: Place, count: usize) -> Answer
+    ensures { λ r. ⌜ ((g : Going) → r ≡ answerBy (howBy how place g) count) ⌝ }
 {
-    match ending {
-        Ending::Ended(_, count) => Answer::Done(count),
-        Ending::Returned(p) => Answer::Done(p.count),
-        Ending::Unfinished(_, _, count) => Answer::Unfinished(count),
-        Ending::Refused(refusal, place, _, count) => Answer::Refused(refusal, place, count),
-    }
-}
-
-// The settings that it leaves.
-pub fn state_by(ending: Ending) -> State
-    ensures { λ r. ⌜ r ≡ stateFor ending ⌝ }
-{
-    match ending {
-        Ending::Ended(state, _) => state,
-        Ending::Returned(p) => p.state,
-        Ending::Unfinished(state, _, _) => state,
-        Ending::Refused(_, _, state, _) => state,
+    match how {
+        How::Ended => Answer::Done(count),
+        How::Returned => Answer::Done(count),
+        How::Unfinished => Answer::Unfinished(count),
+        How::Refused(refusal) => Answer::Refused(refusal, place, count),
     }
 }
 
 // The place of the next block, where the run is not finished.
-pub fn next_by(ending: Ending) -> Place
-    ensures { λ r. ⌜ r ≡ nextFor ending ⌝ }
+pub fn next_by(how: How, place: Place) -> Place
+    ensures { λ r. ⌜ r ≡ nextBy how place ⌝ }
 {
-    match ending {
-        Ending::Ended(_, _) => Place { block: 0, byte: 0 },
-        Ending::Returned(_) => Place { block: 0, byte: 0 },
-        Ending::Unfinished(_, next, _) => next,
-        Ending::Refused(_, _, _, _) => Place { block: 0, byte: 0 },
+    match how {
+        How::Unfinished => place,
+        _ => Place { block: 0, byte: 0 },
     }
 }

@@ -1,23 +1,18 @@
-// From block to block: the budget, where a program ends, the progress after a block and where the block leads.
-use crate::Ending;
+// From block to block: the budget, where a program ends, and the progress after a block.
 use crate::Progress;
-use crate::Way;
-use blocks::Control;
 use blocks::Done;
 use runs::Budget;
 ghost use mathlib.Core.Path.{_≡_};
 ghost use mathlib.Core.Bool.{false};
-ghost use mathlib.Core.List.{[]};
 ghost use Prim.Native.Nat.{_+_, _≤_, _<_, _^_};
 ghost use lib.ListN.{length, drop};
 ghost use Rattle.runs.specs.Walk.{isSpent, oneLess};
-ghost use Rattle.interpreter.specs.Progressing.{programEnds, progressOn, progressBy, wayAfter};
+ghost use Rattle.interpreter.specs.Progressing.{programEnds, progressBy};
 
-pub fn is_spent(p: Progress) -> bool
-    ensures { λ r. ⌜ r ≡ isSpent (p .budget) ⌝ }
+pub fn is_spent(b: Budget) -> bool
+    ensures { λ r. ⌜ r ≡ isSpent b ⌝ }
 {
-    let budget = p.budget;
-    match budget {
+    match b {
         Budget::Whole => false,
         Budget::First(n) => n == 0,
     }
@@ -61,35 +56,5 @@ pub fn progress_after(p: Progress, done: Done) -> Progress
         next: done.next,
         count: p.count + done.count,
         budget: one_less(budget),
-    }
-}
-
-// The progress after a skipped block.
-pub fn progress_past(p: Progress) -> Progress
-    requires { ⌜ isSpent (p .budget) ≡ false ⌝ }
-    ensures { λ r. ⌜ r ≡ progressOn p (p .state) [] ⌝ }
-{
-    let state = p.state;
-    let budget = p.budget;
-    Progress {
-        state,
-        next: p.next,
-        count: p.count,
-        budget: one_less(budget),
-    }
-}
-
-// Where an accepted block leads, whose next block begins at the byte `after`.
-pub fn way_after(control: Control, after: usize, p: Progress) -> Way
-    ensures { λ r. ⌜ r ≡ wayAfter control after p ⌝ }
-{
-    match control {
-        Control::On => Way::Next(p, after),
-        Control::Call(n) => Way::Calls(n, p, after),
-        Control::Back => Way::Ends(Ending::Returned(p)),
-        Control::Stop => {
-            let state = p.state;
-            Way::Ends(Ending::Ended(state, p.count))
-        }
     }
 }

@@ -1,12 +1,14 @@
 // The walk through the blocks of a program. A call walks the subprogram by the same function, with one level less.
 use crate::Callee;
-use crate::Caller;
 use crate::Ending;
+use crate::How;
 use crate::Leg;
 use crate::Progress;
 use crate::Task;
-use crate::Way;
+use crate::Turn;
 use crate::stepping;
+use blocks::Control;
+use blocks::Done;
 use blocks::Executed;
 use execution::Ground;
 use execution::Spot;
@@ -15,124 +17,128 @@ use programs::Program;
 use programs::Programs;
 use refusals::Place;
 use refusals::Refusal;
+use settings::State;
 ghost use mathlib.Core.Path.{_≡_};
-ghost use mathlib.Core.Bool.{false};
-ghost use Prim.Native.Nat.{_+_, _-_, _≤_, _<_};
+ghost use Prim.Native.Nat.{ℕ, _+_, _-_, _≤_, _<_};
 ghost use lib.ListN.{length, drop};
-ghost use Rattle.lines.specs.Blocks.{textFrom, lengthFrom, blockFrom};
+ghost use Rattle.lines.specs.Blocks.{lengthFrom, blockFrom};
 ghost use Rattle.setup.specs.Fair.{Fair};
 ghost use Rattle.programs.specs.declared.Programs.{Programs};
 ghost use Rattle.programs.specs.Openings.{known};
 ghost use Rattle.programs.specs.Found.{subsOf, WellFound};
 ghost use Rattle.programs.specs.Places.{Begins, Placed};
-ghost use Rattle.blocks.specs.Machine.{machineOf};
-ghost use Rattle.blocks.specs.Exec.{exec};
-ghost use Rattle.blocks.specs.Calling.{freely};
-ghost use Rattle.runs.specs.Walk.{isSpent};
-ghost use Rattle.interpreter.specs.Progressing.{taskOn, walkFrom, verdictAt, calleeBy, Leads, Goes, Ran, Sound, Fits};
+ghost use Rattle.blocks.specs.Reach.{Reachable};
+ghost use Rattle.blocks.specs.Doing.{Does};
+ghost use Rattle.interpreter.specs.Progressing.{taskOn, walkFrom, verdictAt, calleeBy, Goes, Ran, Sound, Fits};
 
-// Executes the block at a place, whose words begin at the byte `from`.
-fn execute(s: &[u8], list: &mut [u8], ground: Ground, here: Place, from: usize, p: Progress) -> Way
-    requires { ⌜ from ≤ length (now s) ⌝ }
+// The block at a place: skipped unread, which is accepted with nothing done, or executed, a slash before its words left out.
+fn do_block(
+    s: &[u8],
+    list: &mut [u8],
+    ground: Ground,
+    skips: bool,
+    at: usize,
+    next: usize,
+    state: State,
+) -> Executed
+    requires { ⌜ at < length (now s) ⌝ }
+    requires { ⌜ next ≤ length (now list) ⌝ }
     requires { ⌜ Fair (ground .bed) ⌝ }
-    requires { ⌜ Fits (ground .bed) (length (now list)) p ⌝ }
-    requires { ⌜ isSpent (p .budget) ≡ false ⌝ }
-    ensures { λ r. ⌜ Leads (ground .bed)
-        (exec (machineOf (ground .bed)) (freely (ground .left)) (length (now (list .entry)) - p .next) (p .state) (here .byte) from (textFrom (drop from (now (s .entry)))))
-        here (from + lengthFrom (drop from (now (s .entry)))) p (now (list .entry)) (now (list .exit)) r ⌝ }
+    requires { ⌜ Reachable (ground .bed) state ⌝ }
+    ensures { λ r. ⌜ ((n : ℕ) → Does (ground .bed .offset)
+        (verdictAt ground skips (blockFrom n at (drop at (now (s .entry)))) (length (now (list .entry)) - next) state)
+        (now (list .entry)) next (at + lengthFrom (drop at (now (s .entry)))) (now (list .exit)) r) ⌝ }
 {
-    let state = p.state;
-    let spot = Spot {
-        start: here.byte,
-        from,
-    };
-    match execution::exec(s, list, p.next, ground, spot, state) {
-        Executed::Refused(refusal, byte) => Way::Ends(Ending::Refused(
-            refusal,
-            Place {
-                block: here.block,
-                byte,
-            },
-            state,
-            p.count,
-        )),
-        Executed::Accepted(done) => {
-            let control = done.control;
-            let after = stepping::progress_after(p, done);
-            stepping::way_after(control, done.after, after)
-        }
-    }
-}
-
-// The block at a place: skipped unread, or executed, a slash before its words left out. `execute` is called at one place,
-// so that it is compiled into the walk.
-fn do_block(s: &[u8], list: &mut [u8], ground: Ground, skips: bool, here: Place, p: Progress) -> Way
-    requires { ⌜ here .byte < length (now s) ⌝ }
-    requires { ⌜ Fair (ground .bed) ⌝ }
-    requires { ⌜ Fits (ground .bed) (length (now list)) p ⌝ }
-    requires { ⌜ isSpent (p .budget) ≡ false ⌝ }
-    ensures { λ r. ⌜ Leads (ground .bed)
-        (verdictAt ground skips (blockFrom (here .block) (here .byte) (drop (here .byte) (now (s .entry)))) (length (now (list .entry)) - p .next) (p .state))
-        here (here .byte + lengthFrom (drop (here .byte) (now (s .entry)))) p (now (list .entry)) (now (list .exit)) r ⌝ }
-{
-    let at = here.byte;
     let slashed = lines::begins_with(s, at, b'/');
     if slashed & skips {
-        let past = stepping::progress_past(p);
-        return Way::Next(past, lines::next_block(s, at));
+        return Executed::Accepted(Done {
+            state,
+            control: Control::On,
+            next,
+            count: 0,
+            after: lines::next_block(s, at),
+        });
     }
     let from = if slashed { at + 1 } else { at };
-    execute(s, list, ground, here, from, p)
+    execution::exec(s, list, next, ground, Spot { start: at, from }, state)
 }
 
-// Walks a program's blocks from a place on, up to a block that calls. It knows no table of programs and does not call itself, so that
-// the compiler works on the loop alone.
+// Walks a program's blocks from a place on, up to one that does not lead to the next. It knows no table of programs and does not call
+// itself, so that the compiler works on the loop alone.
 fn run_leg(
     s: &[u8],
     list: &mut [u8],
     ground: Ground,
     skips: bool,
     start: Place,
-    first: Progress,
+    mut p: Progress,
 ) -> Leg
     requires { ⌜ Fair (ground .bed) ⌝ }
     requires { ⌜ Begins (now s) (start .block) (start .byte) ⌝ }
-    requires { ⌜ Fits (ground .bed) (length (now list)) first ⌝ }
-    ensures { λ r. ⌜ ((programs : Programs) → Goes (now (s .entry)) (taskOn ground skips programs) (ground .left) (start .block) (start .byte)
-        first (now (list .entry)) (now (list .exit)) r) ⌝ }
+    requires { ⌜ Fits (ground .bed) (length (now list)) p ⌝ }
+    ensures { λ r. ⌜ ((programs : Programs) → Goes (r .turn) (now (s .entry)) (taskOn ground skips programs) (ground .left) (start .block) (start .byte)
+        p (now (list .entry)) (now (list .exit)) r) ⌝ }
 {
     let mut block = start.block;
     let mut at = start.byte;
-    let mut p = first;
-    while !stepping::is_spent(p) {
-        let here = Place { block, byte: at };
-        if stepping::program_ends(s, at) {
-            let state = p.state;
-            return Leg::Ends(Ending::Refused(Refusal::NoEnd, here, state, p.count));
+    loop {
+        let place = Place { block, byte: at };
+        let budget = p.budget;
+        if stepping::is_spent(budget) {
+            let turn = Turn::Over(How::Unfinished);
+            return Leg {
+                turn,
+                place,
+                byte: at,
+                before: p,
+                after: p,
+            };
         }
-        match do_block(s, list, ground, skips, here, p) {
-            Way::Ends(ending) => {
-                return Leg::Ends(ending);
+        if stepping::program_ends(s, at) {
+            let turn = Turn::Over(How::Refused(Refusal::NoEnd));
+            return Leg {
+                turn,
+                place,
+                byte: at,
+                before: p,
+                after: p,
+            };
+        }
+        match do_block(s, list, ground, skips, at, p.next, p.state) {
+            Executed::Refused(refusal, byte) => {
+                let turn = Turn::Over(How::Refused(refusal));
+                return Leg {
+                    turn,
+                    place,
+                    byte,
+                    before: p,
+                    after: p,
+                };
             }
-            Way::Calls(number, after, back) => {
-                return Leg::Calls(Caller {
-                    number,
-                    place: here,
+            Executed::Accepted(done) => {
+                let control = done.control;
+                let after = stepping::progress_after(p, done);
+                let turn = match control {
+                    Control::On => {
+                        p = after;
+                        at = done.after;
+                        block += 1;
+                        continue;
+                    }
+                    Control::Call(number) => Turn::Calls(number),
+                    Control::Back => Turn::Over(How::Returned),
+                    Control::Stop => Turn::Over(How::Ended),
+                };
+                return Leg {
+                    turn,
+                    place,
+                    byte: done.after,
                     before: p,
                     after,
-                    back,
-                });
-            }
-            Way::Next(after, next) => {
-                p = after;
-                at = next;
-                block += 1;
-                continue;
+                };
             }
         }
     }
-    let state = p.state;
-    Leg::Ends(Ending::Unfinished(state, Place { block, byte: at }, p.count))
 }
 
 // The subprogram of a number: 5 where there is none, and then 6 where no level is left for it.
@@ -157,44 +163,55 @@ pub fn run_program(
     task: Task,
     left: usize,
     program: Program,
-    first: Progress,
+    mut p: Progress,
 ) -> Ending
     requires { ⌜ Sound (now s) task ⌝ }
     requires { ⌜ Placed (now s) program ⌝ }
-    requires { ⌜ Fits (task .bed) (length (now list)) first ⌝ }
+    requires { ⌜ Fits (task .bed) (length (now list)) p ⌝ }
     ensures { λ r. ⌜ Ran (task .bed)
-        (walkFrom (now (s .entry)) (length (now (list .entry))) task left (program .block) (program .byte) first)
-        first (now (list .entry)) (now (list .exit)) r ⌝ }
+        (walkFrom (now (s .entry)) (length (now (list .entry))) task left (program .block) (program .byte) p)
+        p (now (list .entry)) (now (list .exit)) r ⌝ }
 {
     let bed = task.bed;
-    let programs = task.programs;
     let ground = Ground { bed, left };
     let mut block = program.block;
     let mut at = program.byte;
-    let mut p = first;
     loop {
         let leg = run_leg(s, list, ground, task.skips, Place { block, byte: at }, p);
-        let caller = match leg {
-            Leg::Ends(ending) => {
-                return ending;
+        let turn = leg.turn;
+        let number = match turn {
+            Turn::Over(how) => {
+                let progress = leg.after;
+                return Ending {
+                    how,
+                    place: Place {
+                        block: leg.place.block,
+                        byte: leg.byte,
+                    },
+                    progress,
+                };
             }
-            Leg::Calls(caller) => caller,
+            Turn::Calls(number) => number,
         };
-        let place = caller.place;
-        match find_callee(programs, left, caller.number) {
+        match find_callee(task.programs, left, number) {
             Callee::Refused(refusal) => {
-                let before = caller.before;
-                let state = before.state;
-                return Ending::Refused(refusal, place, state, before.count);
+                let place = leg.place;
+                let progress = leg.before;
+                return Ending {
+                    how: How::Refused(refusal),
+                    place,
+                    progress,
+                };
             }
             Callee::Found(callee) => {
-                let ending = run_program(s, list, task, left - 1, callee, caller.after);
-                let Ending::Returned(back) = ending else {
+                let ending = run_program(s, list, task, left - 1, callee, leg.after);
+                let how = ending.how;
+                let How::Returned = how else {
                     return ending;
                 };
-                p = back;
-                at = caller.back;
-                block = place.block + 1;
+                p = ending.progress;
+                at = leg.byte;
+                block = leg.place.block + 1;
                 continue;
             }
         }

@@ -2,12 +2,12 @@
 use mathlib.Core.Path.{_≡_, refl, sym, _∙_, ap}
 use borrow.Author.Needs.{needs}
 use lib.ListN.{length, length-map}
-use Rattle.points.specs.declared.Point.{Point}
 use Rattle.setup.specs.declared.Bed.{Bed}
 use Rattle.setup.specs.Frame.{offset, bedOf}
 use Rattle.setup.specs.Fair.{Fair}
 use Rattle.setup.proofs.Valid.{fair}
-use Rattle.settings.specs.Settings.{stateMoved}
+use Rattle.interpreter.specs.Progressing.{goingOf, outcomeBy}
+use Rattle.interpreter.specs.Serving.{reportBy}
 use Rattle.interpreter.proofs.Starting.{first-fits, main-begins, task-sound, main-walk, main-sums, main-gives}
 use Rattle.interpreter.proofs.run_main.Statement.{statement}
 use Rattle.interpreter.proofs.run_main.Tie as tie
@@ -22,41 +22,41 @@ bed-fair c =
 
 run-program-requires : tie.Need-run-program-requires
 run-program-requires c κs =
-    let bed = c .before .before .before .before in
+    let bed = c .before .before .before in
     let s = bed .before .before .before in
     let a = s .args in (
-      task-sound (s .pre .1) (c .before .before .before .skips .result) (bed-fair bed),
+      task-sound (s .pre .1) (c .before .before .skips .result) (bed-fair bed),
       (
         main-begins (s .pre .1),
-        first-fits (a .setup) (s .pre .0) (length (a .list .now)) (a .budget) (bed .bed-of .ensures) (c .before .before .first-state .ensures),
+        first-fits (a .setup) (s .pre .0) (length (a .list .now)) (a .budget) (bed .bed-of .ensures) (c .before .first-state .ensures),
       ),
     )
 
 state-moved-requires : tie.Need-state-moved-requires
 unfolding bedOf offset
 state-moved-requires c κs =
-    let point = c .before in
-    let ran = point .before .before .before in
-    let bed = ran .before .before .before .before .before in
-    main-sums (ran .run-program .ensures) (bed-fair bed) (point .point-of .ensures ∙ sym (ap (λ (b : Bed). b .offset) (bed .bed-of .ensures))) (c .state-by .ensures)
+    let ran = c .before .before .before in
+    let bed = ran .before .before .before .before in
+    main-sums (ran .run-program .ensures) (bed-fair bed) (c .point-of .ensures ∙ sym (ap (λ (b : Bed). b .offset) (bed .bed-of .ensures)))
 
 returns : tie.Need-returns
-unfolding bedOf offset
+unfolding bedOf offset reportBy outcomeBy
 returns c =
     let moved = c .before .before in
-    let point = moved .before .before in
+    let point = moved .before in
     let ran = point .before .before .before in
-    let first = ran .before .before .before in
+    let first = ran .before .before in
     let skips = first .before in
     let bed = skips .before in
     let s = bed .before .before .before in
     let a = s .args in
     main-gives (ran .run-program .ensures) (ap (λ (b : Bed). b .offset) (bed .bed-of .ensures)) refl refl
     (main-walk (s .pre .1) (a .setup) (length (a .list .now)) (a .budget) (bed .bed-of .ensures) (first .first-state .ensures) (skips .skips .ensures))
-    (c .answer-by .ensures) (moved .before .state-by .ensures) (moved .state-moved .ensures ∙ ap (λ (by : Point). stateMoved by (moved .before .state-by .result)) (point .point-of .ensures)) (c .before .next-by .ensures)
+    (λ room made e.
+    rw (c .answer-by .ensures (goingOf room (ran .run-program .result .progress)), c .before .next-by .ensures, moved .state-moved .ensures, point .point-of .ensures, e))
 
 pub run-main-spec : {M : Type 1} → statement M
 run-main-spec =
     tie.close
     (tie.spec (λ c κs. search needs) (λ c κs. search needs) (λ c κs. search needs) run-program-requires (λ c κs. search needs)
-    (λ c κs. search needs) state-moved-requires (λ c κs. search needs) (λ c κs. search needs) (λ c. search needs) returns)
+    state-moved-requires (λ c κs. search needs) (λ c κs. search needs) (λ c. search needs) returns)

@@ -1,13 +1,17 @@
 -- `interpreter::reporting::refused` meets its contract. Assumes nothing.
 use borrow.Author.Needs.{needs}
-use Rattle.runs.specs.Run.{answerBy}
-use Rattle.interpreter.specs.Serving.{reportBy}
+use Rattle.interpreter.proofs.Starting.{stands-at-start}
 use Rattle.interpreter.proofs.reporting.refused.Statement.{statement}
 use Rattle.interpreter.proofs.reporting.refused.Tie as tie
 
 returns : tie.Need-returns
-unfolding reportBy answerBy
-returns c = rw (c .first-standing .ensures)
+returns c =
+    let speed = c .before in
+    let point = speed .before .before in
+    let a = point .before .args in
+    stands-at-start (a .setup) (a .refusal) (a .place) (point .point-of .ensures) (speed .before .feed-of .ensures) (speed .speed-of .ensures) (c .first-state .ensures)
 
 pub refused-spec : {M : Type 1} → statement M
-refused-spec = tie.close (tie.spec (λ c κs. search needs) returns)
+refused-spec =
+    tie.close
+    (tie.spec (λ c κs. search needs) (λ c κs. search needs) (λ c κs. search needs) (λ c κs. search needs) returns)

@@ -10,4 +10,4 @@ unfolding isSpent
 is-spent-spec =
     tie.close
     (tie.spec (λ c. search needs) (λ c. search needs) (λ c. sym (ap isSpent (c .enum-told .given .1)))
-    (λ c. sym (ap isSpent (c .before .budget .given .1))))
+    (λ c. sym (ap isSpent (c .before .b .given .1))))

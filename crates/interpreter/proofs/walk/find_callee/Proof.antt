@@ -2,7 +2,7 @@
 use borrow.Author.Needs.{needs}
 use Rattle.programs.specs.Openings.{known}
 use Rattle.programs.specs.Found.{subsOf}
-use Rattle.interpreter.proofs.Executing.{callee-unknown, callee-deep, callee-found}
+use Rattle.interpreter.proofs.Calling.{callee-unknown, callee-deep, callee-found}
 use Rattle.interpreter.proofs.walk.find_callee.Statement.{statement}
 use Rattle.interpreter.proofs.walk.find_callee.Tie as tie
 
