@@ -16,12 +16,10 @@ ghost use Prim.Native.Nat.{_≤_};
 ghost use mathlib.Core.Path.{_≡_};
 ghost use mathlib.Core.Bool.{true};
 ghost use Rattle.setup.specs.Limits.{validSetup};
-ghost use lib.ListN.{length};
-ghost use lib.Seq.{sets};
 ghost use Rattle.points.specs.Near.{Near};
 ghost use Rattle.svg.specs.Text.{Fills};
 ghost use Rattle.drawing.specs.Walks.{recordsFrom};
-ghost use Rattle.drawing.specs.Picture.{sheetOf, gapOf, Fair, cornerOf, sizeOf, downOf, marks, viewOf, opening, shift, pictureOf, fitting, Draws};
+ghost use Rattle.drawing.specs.Picture.{sheetOf, gapOf, Fair, cornerOf, sizeOf, downOf, marks, viewOf, opening, shift, pictureOf, Draws};
 
 // The travel as a frame and the start, and the group of the rapids opened.
 fn put_marks(out: &mut [u8], at: usize, view: View, sh: Sheet) -> usize
@@ -161,18 +159,6 @@ fn sheet_of(s: Setup) -> Sheet
     }
 }
 
-fn put_fitting(out: &mut [u8], s: Setup, list: &[u8]) -> Drawn
-    requires { ⌜ validSetup s ≡ true ⌝ }
-    ensures { λ r. ⌜ r ≡ fitting (pictureOf (sheetOf s) (recordsFrom (now (list .entry)) 0)) (length (now (out .entry))) ⌝ }
-    ensures { λ _. ⌜ now (out .exit) ≡ sets (now (out .entry)) 0 (pictureOf (sheetOf s) (recordsFrom (now (list .entry)) 0)) ⌝ }
-{
-    let n = put_picture(out, sheet_of(s), list);
-    if n < out.len() {
-        return Drawn::Is(n);
-    }
-    Drawn::NoRoom
-}
-
 // Draws a list under a setup into a buffer, which has to be longer than the picture.
 pub fn draw(list: &[u8], s: Setup, out: &mut [u8]) -> Drawn
     ensures { λ r. ⌜ Draws (now (list .entry)) s (now (out .entry)) (now (out .exit)) r ⌝ }
@@ -181,8 +167,12 @@ pub fn draw(list: &[u8], s: Setup, out: &mut [u8]) -> Drawn
         return Drawn::BadSetup;
     }
     let end = last_of(list);
-    match end {
-        Listed::Faulty(_, place) => Drawn::Faulty(place),
-        _ => put_fitting(out, s, list),
+    if let Listed::Faulty(_, place) = end {
+        return Drawn::Faulty(place);
     }
+    let n = put_picture(out, sheet_of(s), list);
+    if n < out.len() {
+        return Drawn::Is(n);
+    }
+    Drawn::NoRoom
 }

@@ -140,7 +140,5 @@ fn show_check(fault: Fault) -> bool {
     if let Fault::None = fault {
         return io::write_all(STDOUT_FILENO, b"valid\n");
     }
-    io::write_all(STDOUT_FILENO, b"breaks a limit: ")
-        && show_fault(fault)
-        && io::write_all(STDOUT_FILENO, b"\n")
+    io::write_all(STDOUT_FILENO, b"breaks a limit: ") && show_fault(fault)
 }

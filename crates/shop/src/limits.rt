@@ -1,4 +1,5 @@
-// Which limit a setup breaks, in plain words, for the end of a line; and whether all of it was written.
+// Which limit a setup breaks, in plain words, to the end of a line; and whether all of it was written.
+use files::write_line;
 use libc::STDOUT_FILENO;
 use setup::Axis;
 use setup::Fault;
@@ -6,63 +7,82 @@ use setup::Offset;
 
 pub fn show_fault(fault: Fault) -> bool {
     match fault {
-        Fault::TravelOrder(axis) => say_travel(axis, b": the low end is above the high end"),
-        Fault::TravelFar(axis) => say_travel(axis, b": it reaches more than 100000000 from 0"),
-        Fault::StartOutside(axis) => show_start(axis),
-        Fault::OffsetFar(offset, axis) => show_far(offset, axis),
-        _ => show_number(fault),
-    }
-}
-
-// The numbers that belong to no axis.
-fn show_number(fault: Fault) -> bool {
-    match fault {
-        Fault::Feed => say(b"the feed: it is not from 1 to 1000000000"),
-        Fault::Speeds => say(
-            b"the lowest and the highest speed: they are not from 1 to 99999, in this order",
+        Fault::TravelOrder(axis) => say_of(
+            b"the travel's ",
+            axis,
+            b": the low end is above the high end\n",
         ),
-        Fault::Speed => say(b"the speed: it is not between the lowest and the highest"),
-        Fault::Switch => say(b"the switch: it is neither 0 nor 1"),
-        _ => say(b"none"),
+        Fault::TravelFar(axis) => say_of(
+            b"the travel's ",
+            axis,
+            b": it reaches more than 100000000 from 0\n",
+        ),
+        Fault::StartOutside(axis) => say_of(
+            b"the start's ",
+            axis,
+            b": it lies outside the travel\n",
+        ),
+        Fault::OffsetFar(offset, axis) => show_far(offset, axis),
+        _ => write_line(
+            STDOUT_FILENO,
+            b"the feed: it is not from 1 to 1000000000\n\
+              the lowest and the highest speed: they are not from 1 to 99999, in this order\n\
+              the speed: it is not between the lowest and the highest\n\
+              the switch: it is neither 0 nor 1\n",
+            line_of(fault),
+        ),
     }
 }
 
-fn show_start(axis: Axis) -> bool {
-    say(b"the start's ") && show_axis(axis) && say(b": it lies outside the travel")
-}
-
-fn say_travel(axis: Axis, how: &[u8]) -> bool {
-    say(b"the travel's ") && show_axis(axis) && say(how)
+// The line above that tells of a number which belongs to no axis.
+fn line_of(fault: Fault) -> u64 {
+    match fault {
+        Fault::Feed => 1,
+        Fault::Speeds => 2,
+        Fault::Speed => 3,
+        _ => 4,
+    }
 }
 
 fn show_far(offset: Offset, axis: Axis) -> bool {
-    let said = match offset {
-        Offset::Common => say(b"the common offset's "),
-        Offset::Origin(k) => show_origin(k),
-    };
-    said && show_axis(axis) && say(b": it is more than 1000000000 from 0")
+    match offset {
+        Offset::Common => say_of(
+            b"the common offset's ",
+            axis,
+            b": it is more than 1000000000 from 0\n",
+        ),
+        Offset::Origin(k) => {
+            let name = origin_of(k);
+            say_of(&name, axis, b": it is more than 1000000000 from 0\n")
+        }
+    }
 }
 
 // The workpiece origins are G54 to G59, in the order of the table.
-fn show_origin(k: usize) -> bool {
-    match k {
-        0 => say(b"G54's "),
-        1 => say(b"G55's "),
-        2 => say(b"G56's "),
-        3 => say(b"G57's "),
-        4 => say(b"G58's "),
-        _ => say(b"G59's "),
-    }
+fn origin_of(k: usize) -> [u8; 6] {
+    let digit = digit_of(k);
+    [b'G', b'5', digit, b'\'', b's', b' ']
 }
 
-fn show_axis(axis: Axis) -> bool {
+fn digit_of(k: usize) -> u8 {
+    if k < 5 {
+        return 52 + k as u8;
+    }
+    57
+}
+
+// What is wrong with an axis of something.
+fn say_of(whose: &[u8], axis: Axis, how: &[u8]) -> bool {
+    let letter = letter_of(axis);
+    io::write_all(STDOUT_FILENO, whose)
+        && io::write_all(STDOUT_FILENO, &letter)
+        && io::write_all(STDOUT_FILENO, how)
+}
+
+fn letter_of(axis: Axis) -> [u8; 1] {
     match axis {
-        Axis::X => say(b"X"),
-        Axis::Y => say(b"Y"),
-        Axis::Z => say(b"Z"),
+        Axis::X => [b'X'],
+        Axis::Y => [b'Y'],
+        Axis::Z => [b'Z'],
     }
-}
-
-fn say(text: &[u8]) -> bool {
-    io::write_all(STDOUT_FILENO, text)
 }

@@ -1,6 +1,7 @@
 // Setups in files: one is read, or a line says what is wrong with it.
 use crate::Known;
 use files::begin_line;
+use files::write_line;
 use texts::Wrong;
 use texts::none_wrong;
 ghost use mathlib.Core.Path.{_≡_};
@@ -42,7 +43,15 @@ fn is_read(path: &[u8], text: &[u8], wrong: Wrong, at: usize, err: i32) -> bool
     begin_line(err, path);
     io::write_all(err, b"line ");
     io::print_decimal(err, line_of(text, at));
-    show_wrong(err, wrong);
+    write_line(
+        err,
+        b": a whole number is wanted here, of 19 digits at most\n\
+          : the number is too large\n\
+          : another name is wanted here\n\
+          : the setup ends too early\n\
+          : the setup is over before this\n",
+        words_of(wrong),
+    );
     false
 }
 
@@ -64,17 +73,13 @@ fn line_of(text: &[u8], at: usize) -> u64
     number
 }
 
-fn show_wrong(err: i32, wrong: Wrong) {
+// The line above that tells what is wrong with a number or a name; where nothing is, none is asked for.
+fn words_of(wrong: Wrong) -> u64 {
     match wrong {
-        Wrong::Nothing => io::write_all(err, b"\n"),
-        Wrong::NoNumber => io::write_all(
-            err,
-            b": a whole number is wanted here, of 19 digits at most\n",
-        ),
-        Wrong::TooLarge => io::write_all(err, b": the number is too large\n"),
-        Wrong::OtherName => io::write_all(err, b": another name is wanted here\n"),
-        Wrong::TooFew => io::write_all(err, b": the setup ends too early\n"),
-        Wrong::TooMuch => io::write_all(err, b": the setup is over before this\n"),
+        Wrong::NoNumber => 1,
+        Wrong::TooLarge => 2,
+        Wrong::OtherName => 3,
+        Wrong::TooFew => 4,
+        _ => 5,
     }
-    ;
 }

@@ -4,11 +4,12 @@ use mathlib.Core.Path.{_≡_}
 use mathlib.Core.Bool.{true, false}
 use mathlib.Core.List.{List}
 use native.Mathlib.Omega.{arith}
+use Rattle.terms.specs.Terms.{bytes}
 use Rattle.points.specs.declared.Flat.{Flat}
-use Rattle.svg.specs.Text.{Fills}
+use Rattle.svg.specs.Text.{Fills, filled}
 use Rattle.svg.specs.Turns.{quarterOn, soon}
 use Rattle.svg.specs.declared.SeenArc.{SeenArc}
-use Rattle.svg.specs.ArcText.{piece, seenOn, quarters, extreme, extremes}
+use Rattle.svg.specs.ArcText.{piece, seenOn, quarters, passes, extreme, extremes}
 use Rattle.svg.proofs.Filled.{fills-then, fills-none}
 
 module _ (s : SeenArc) (d : Flat) where
@@ -32,6 +33,16 @@ module _ (s : SeenArc) (d : Flat) where
   quarters-on (suc n) h e p q =
       let m : suc n - 1 ≡ n = omega arith in
       rw e (fills-then p (rw m at q))
+
+  pub extreme-not : (out : List ℕ) (next : ℕ) → passes s d ≡ false → Fills out next (extreme s d) out next
+  unfolding extreme
+  extreme-not out next e = rw e (fills-none out next)
+
+  pub extreme-is :
+      {out mid : List ℕ} {next k : ℕ} → passes s d ≡ true → Fills out next (filled (bytes "L_ _") (seenOn s d) (seenOn s d)) mid k
+      → Fills out next (extreme s d) mid k
+  unfolding extreme
+  extreme-is e p = rw e p
 
   pub extremes-done : (out : List ℕ) (next n : ℕ) → n ≤ 0 → Fills out next (extremes s n d) out next
   unfolding extremes

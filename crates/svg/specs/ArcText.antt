@@ -69,18 +69,12 @@ module _ (s : SeenArc) where
   unfoldable pub seenOn : Flat → Flat
   seenOn d = seenFrom (s .view) (pointOn (s .from) (s .arc) d)
 
-  unfoldable pub seenEnd : Flat
-  seenEnd = seenFrom (s .view) (s .arc .end)
-
   -- From quarter to quarter of a turn, until the end is at most a quarter on: three at most. In pieces as short as that, an end
   -- that is off the circle by what the rules allow does not bend the others.
   unfoldable pub quarters : ℕ → Flat → List ℕ
   quarters zero d = []
   quarters (suc n) d =
       if soon (s .turn) d (s .end) then [] else piece (seenOn (quarterOn (s .turn) d)) ⧺ quarters n (quarterOn (s .turn) d)
-
-  unfoldable pub rounded : List ℕ
-  rounded = quarters 3 (s .start) ⧺ piece seenEnd
 
   -- the directions that the path passes: to the left from its start to its end, or to the right
   unfoldable pub passes : Flat → Bool
@@ -94,18 +88,16 @@ module _ (s : SeenArc) where
   extremes zero e = []
   extremes (suc n) e = extreme e ⧺ extremes n (quarterOn true e)
 
-  unfoldable pub edge : List ℕ
-  edge = extremes 4 (towards (s .radius .v) (pos 0)) ⧺ filled (bytes "L_ _") seenEnd seenEnd
-
+  -- from the start on, round or from the edge, to the end
   unfoldable pub bend : List ℕ
-  bend = if isRound (s .view) (s .arc .plane) then rounded else edge
-
-  unfoldable pub bent : List ℕ
-  bent =
-      let start = seenFrom (s .view) (s .from) in
-      filled (bytes "<path d=\"M_ _") start start ⧺ bend ⧺ bytes "\"/>\n"
+  bend =
+      let end = seenFrom (s .view) (s .arc .end) in
+      if isRound (s .view) (s .arc .plane) then quarters 3 (s .start) ⧺ piece end
+      else extremes 4 (towards (s .radius .v) (pos 0)) ⧺ filled (bytes "L_ _") end end
 
 -- an arc of another list, whose numbers leave no room, is drawn as the straight line between its ends
 unfoldable pub arc : View → Point → Arc → Bool → List ℕ
 arc view from a turn =
-    if drawable from a then bent (seenArc view from a turn) else line (seenFrom view from) (seenFrom view (a .end))
+    if drawable from a then
+    filled (bytes "<path d=\"M_ _") (seenFrom view from) (seenFrom view from) ⧺ bend (seenArc view from a turn) ⧺ bytes "\"/>\n"
+    else line (seenFrom view from) (seenFrom view (a .end))

@@ -21,7 +21,7 @@ ghost use Rattle.arcs.specs.Arcs.{towards};
 ghost use Rattle.arcs.specs.Bounds.{Small};
 ghost use Rattle.svg.specs.Text.{Fills};
 ghost use Rattle.svg.specs.Turns.{Drawable};
-ghost use Rattle.svg.specs.ArcText.{Ready, isRound, turnSeen, piece, seenArc, seenOn, seenEnd, quarters, rounded, passes, extreme, extremes, edge, bend, bent, arc};
+ghost use Rattle.svg.specs.ArcText.{Ready, isRound, turnSeen, piece, seenArc, seenOn, quarters, passes, extremes, bend, arc};
 
 fn is_round(view: View, plane: Plane) -> bool
     ensures { λ r. ⌜ r ≡ isRound view plane ⌝ }
@@ -108,22 +108,6 @@ fn put_quarters(out: &mut [u8], at: usize, s: SeenArc) -> usize
     next
 }
 
-fn seen_end(s: SeenArc) -> Flat
-    ensures { λ r. ⌜ r ≡ seenEnd s ⌝ }
-{
-    let view = s.view;
-    let arc = s.arc;
-    seen(view, arc.end)
-}
-
-fn put_round(out: &mut [u8], at: usize, s: SeenArc) -> usize
-    requires { ⌜ Ready s ⌝ }
-    ensures { λ next. ⌜ Fills (now (out .entry)) at (rounded s) (now (out .exit)) next ⌝ }
-{
-    let turned = put_quarters(out, at, s);
-    put_piece(out, turned, s, seen_end(s))
-}
-
 // Whether the path passes a direction.
 fn is_passed(s: SeenArc, e: Flat) -> bool
     requires { ⌜ (Ready s) × (Small e) ⌝ }
@@ -133,17 +117,6 @@ fn is_passed(s: SeenArc, e: Flat) -> bool
         return paths::is_on_left_way(s.start, s.end, e.first, e.second);
     }
     paths::is_on_left_way(s.end, s.start, e.first, e.second)
-}
-
-fn put_extreme(out: &mut [u8], at: usize, s: SeenArc, e: Flat) -> usize
-    requires { ⌜ (Ready s) × (Small e) ⌝ }
-    ensures { λ next. ⌜ Fills (now (out .entry)) at (extreme s e) (now (out .exit)) next ⌝ }
-{
-    if !is_passed(s, e) {
-        return at;
-    }
-    let to = seen_on(s, e);
-    put_form(out, at, b"L_ _", to, to)
 }
 
 fn put_extremes(out: &mut [u8], at: usize, s: SeenArc) -> usize
@@ -158,20 +131,16 @@ fn put_extremes(out: &mut [u8], at: usize, s: SeenArc) -> usize
     };
     let mut left: u32 = 4;
     while 0 < left {
-        next = put_extreme(out, next, s, e);
+        let here = e;
         e = quarter_on(true, e);
         left -= 1;
+        if !is_passed(s, here) {
+            continue;
+        }
+        let to = seen_on(s, here);
+        next = put_form(out, next, b"L_ _", to, to);
     }
     next
-}
-
-fn put_edge(out: &mut [u8], at: usize, s: SeenArc) -> usize
-    requires { ⌜ Ready s ⌝ }
-    ensures { λ next. ⌜ Fills (now (out .entry)) at (edge s) (now (out .exit)) next ⌝ }
-{
-    let reached = put_extremes(out, at, s);
-    let end = seen_end(s);
-    put_form(out, reached, b"L_ _", end, end)
 }
 
 fn put_bend(out: &mut [u8], at: usize, s: SeenArc) -> usize
@@ -181,29 +150,24 @@ fn put_bend(out: &mut [u8], at: usize, s: SeenArc) -> usize
     let view = s.view;
     let arc = s.arc;
     let plane = arc.plane;
+    let end = seen(view, arc.end);
     if is_round(view, plane) {
-        return put_round(out, at, s);
+        let turned = put_quarters(out, at, s);
+        return put_piece(out, turned, s, end);
     }
-    put_edge(out, at, s)
-}
-
-fn put_bent(out: &mut [u8], at: usize, s: SeenArc) -> usize
-    requires { ⌜ Ready s ⌝ }
-    ensures { λ next. ⌜ Fills (now (out .entry)) at (bent s) (now (out .exit)) next ⌝ }
-{
-    let view = s.view;
-    let start = seen(view, s.from);
-    let begun = put_form(out, at, b"<path d=\"M_ _", start, start);
-    let last = put_bend(out, begun, s);
-    put_text(out, last, b"\"/>\n")
+    let reached = put_extremes(out, at, s);
+    put_form(out, reached, b"L_ _", end, end)
 }
 
 pub fn put_arc(out: &mut [u8], at: usize, view: View, from: Point, a: Arc, turn: bool) -> usize
     ensures { λ next. ⌜ Fills (now (out .entry)) at (arc view from a turn) (now (out .exit)) next ⌝ }
 {
     let end = a.end;
-    if is_drawable(from, a) {
-        return put_bent(out, at, seen_arc(view, from, a, turn));
+    if !is_drawable(from, a) {
+        return put_line(out, at, view, from, end);
     }
-    put_line(out, at, view, from, end)
+    let start = seen(view, from);
+    let begun = put_form(out, at, b"<path d=\"M_ _", start, start);
+    let last = put_bend(out, begun, seen_arc(view, from, a, turn));
+    put_text(out, last, b"\"/>\n")
 }

@@ -2,7 +2,7 @@
 use mathlib.Core.Path.{sym, _∙_}
 use borrow.Author.Needs.{needs}
 use borrow.Author.Tests.{not-true, not-false}
-use Rattle.drawing.proofs.Fitting.{draws-bad, draws-faulty, draws-whole}
+use Rattle.drawing.proofs.Fitting.{draws-bad, draws-faulty, draws-whole, fits-is, fits-not}
 use Rattle.drawing.proofs.picture.draw.Statement.{statement}
 use Rattle.drawing.proofs.picture.draw.Tie as tie
 
@@ -10,19 +10,27 @@ returns : tie.Need-returns
 returns c =
     let x = c .before .before .before .before .args in draws-bad (x .list .now) (x .s) (x .out .now) (sym (c .before .is-valid .ensures) ∙ not-true _ (c .if1 .taken))
 
-put-fitting-requires : tie.Need-put-fitting-requires
-put-fitting-requires c κs = sym (c .before .before .before .before .is-valid .ensures) ∙ not-false _ (c .before .before .before .if1 .left)
-
 returns-2 : tie.Need-returns-2
 returns-2 c =
     let x = c .before .before .before .before .before .before .before .before .args in
     draws-faulty (x .list .now) (x .s) (x .out .now) (sym (c .before .before .before .before .before .is-valid .ensures) ∙ not-false _ (c .before .before .before .before .if1 .left)) (sym (c .before .before .before .last-of .ensures) ∙ c .before .end .given .1)
 
+sheet-of-requires : tie.Need-sheet-of-requires
+sheet-of-requires c κs = sym (c .before .before .before .before .is-valid .ensures) ∙ not-false _ (c .before .before .before .if1 .left)
+
 returns-3 : tie.Need-returns-3
 returns-3 c =
-    let x = c .before .before .before .before .before .before .before .before .before .before .args in
-    let drawn = c .before .before .put-fitting .ensures in
-    draws-whole (x .list .now) (x .s) (sym (c .before .before .before .before .before .before .before .is-valid .ensures) ∙ not-false _ (c .before .before .before .before .before .before .if1 .left)) (rw (c .before .before .before .before .before .last-of .ensures) at (c .before .before .before .before .match .keys2)) (drawn .0) (drawn .1)
+    let x = c .before .before .before .before .before .before .before .before .before .before .before .before .args in
+    let put = rw (c .before .before .before .before .sheet-of .ensures .0) at (c .before .before .before .put-picture .ensures) in
+    let valid = sym (c .before .before .before .before .before .before .before .before .before .is-valid .ensures) ∙ not-false _ (c .before .before .before .before .before .before .before .before .if1 .left) in
+    draws-whole (x .list .now) (x .s) valid (rw (c .before .before .before .before .before .before .before .last-of .ensures) at (c .before .before .before .before .before .before .match .keys2)) (fits-is put (c .if2 .taken)) (put .bytes)
+
+returns-4 : tie.Need-returns-4
+returns-4 c =
+    let x = c .before .before .before .before .before .before .before .before .before .before .before .before .args in
+    let put = rw (c .before .before .before .before .sheet-of .ensures .0) at (c .before .before .before .put-picture .ensures) in
+    let valid = sym (c .before .before .before .before .before .before .before .before .before .is-valid .ensures) ∙ not-false _ (c .before .before .before .before .before .before .before .before .if1 .left) in
+    draws-whole (x .list .now) (x .s) valid (rw (c .before .before .before .before .before .before .before .last-of .ensures) at (c .before .before .before .before .before .before .match .keys2)) (fits-not put (c .if2 .left)) (put .bytes)
 
 pub draw-spec : {M : Type 1} → statement M
-draw-spec = tie.close (tie.spec (λ c κs. search needs) returns (λ c κs. search needs) (λ c. search needs) put-fitting-requires returns-2 (λ c. search needs) returns-3)
+draw-spec = tie.close (tie.spec (λ c κs. search needs) returns (λ c κs. search needs) (λ c. search needs) returns-2 sheet-of-requires (λ c κs. c .sheet-of .ensures .1) (λ c. search needs) returns-3 (λ c. search needs) returns-4)
