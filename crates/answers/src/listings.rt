@@ -4,8 +4,8 @@
 use crate::Shown;
 use codes::Plane;
 use lengths::Len;
+use lengths::Point;
 use libc::STDOUT_FILENO;
-use points::Point;
 use records::Arc;
 use records::Fault;
 use records::Listed;
@@ -23,7 +23,7 @@ fn show_records(list: &[u8], count: usize) -> bool {
     let mut at: usize = 0;
     let mut left = count;
     while 0 < left {
-        let found = loading::read(list, at);
+        let found = records::read(list, at);
         let Listed::Next(r, next) = found else {
             return true;
         };
@@ -65,7 +65,7 @@ pub fn show_count(n: u64) -> bool {
 pub fn show_list(list: &[u8]) -> Shown {
     let mut at: usize = 0;
     loop {
-        let found = loading::read(list, at);
+        let found = records::read(list, at);
         match found {
             Listed::Next(r, next) => {
                 if !show_record(r) {

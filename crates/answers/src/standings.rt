@@ -9,7 +9,7 @@ use codes::Motion;
 use codes::Plane;
 use codes::Return;
 use codes::Unit;
-use points::Point;
+use lengths::Point;
 use refusals::Place;
 use settings::Modes;
 use settings::State;

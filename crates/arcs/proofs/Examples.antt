@@ -5,7 +5,7 @@ use mathlib.Core.Bool.{Bool, true, false}
 use lib.IntN.{pos}
 use Rattle.lengths.specs.Units.{len}
 use Rattle.codes.specs.declared.Plane.the-variants.{G17}
-use Rattle.points.specs.declared.Point.{Point}
+use Rattle.lengths.specs.declared.Point.{Point}
 use Rattle.records.specs.declared.Arc.{Arc}
 use Rattle.records.specs.Path.{Path, clockwise, counter}
 use Rattle.arcs.specs.Arcs.{pathStays}

@@ -2,7 +2,6 @@
 use Rattle.terms.proofs.Opened.{opened as terms-opened}
 use Rattle.lengths.proofs.Opened.{opened as lengths-opened}
 use Rattle.codes.proofs.Opened.{opened as codes-opened}
-use Rattle.points.proofs.Opened.{opened as points-opened}
 use Rattle.records.proofs.Opened.{opened as records-opened}
 use Rattle.arcs.specs.Arcs.{distance², radius², roundEnough, arcHolds, notAbove, notBelow, coordinateInside, extremeInside, extremesInside, leftWay, rightWay, arcStays, pathStays, centreFits}
 use Rattle.arcs.specs.Root.{nextRoot, rootBelow}
@@ -13,7 +12,6 @@ unfolding
     terms-opened
     lengths-opened
     codes-opened
-    points-opened
     records-opened
     distance²
     radius²

@@ -10,11 +10,11 @@ use Rattle.terms.proofs.Laws.{both-left, both-right}
 use Rattle.lengths.specs.declared.Len.{Len}
 use Rattle.lengths.specs.View.{Within}
 use Rattle.lengths.proofs.Laws.{view}
-use Rattle.points.specs.declared.Flat.{Flat}
-use Rattle.points.specs.declared.Point.{Point}
-use Rattle.points.specs.declared.Travel.{Travel}
-use Rattle.points.specs.Points.{flat, inside}
-use Rattle.points.specs.Near.{Near}
+use Rattle.lengths.specs.declared.Flat.{Flat}
+use Rattle.lengths.specs.declared.Point.{Point}
+use Rattle.lengths.specs.declared.Travel.{Travel}
+use Rattle.lengths.specs.Points.{flat, inside}
+use Rattle.lengths.specs.Near.{Near}
 use Rattle.records.specs.declared.Arc.{Arc}
 use Rattle.records.specs.declared.Record.{Record}
 use Rattle.records.specs.Path.{Path, straight, clockwise, counter, still, pathOf, pathEnd, endOf, pathStaysIn}

@@ -13,10 +13,10 @@ use Rattle.lengths.specs.View.{Within}
 use Rattle.lengths.proofs.Laws.{diff-bal, sq-near, near-sq}
 use Rattle.codes.specs.declared.Plane.{Plane}
 use Rattle.codes.specs.declared.Plane.the-variants.{G17, G18, G19}
-use Rattle.points.specs.declared.Point.{Point}
-use Rattle.points.specs.declared.Flat.{Flat}
-use Rattle.points.specs.declared.Travel.{Travel}
-use Rattle.points.specs.Points.{flat}
+use Rattle.lengths.specs.declared.Point.{Point}
+use Rattle.lengths.specs.declared.Flat.{Flat}
+use Rattle.lengths.specs.declared.Travel.{Travel}
+use Rattle.lengths.specs.Points.{flat}
 use Rattle.records.specs.declared.Arc.{Arc}
 use Rattle.arcs.specs.Root.{Root, root}
 use Rattle.arcs.specs.Arcs.{distance², centreOf, radius², roundEnough, arcHolds}

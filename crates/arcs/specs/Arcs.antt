@@ -7,10 +7,10 @@ use lib.Signed.{leZ, ltZ}
 use Rattle.terms.specs.Terms.{if_then_else_, between}
 use Rattle.lengths.specs.Units.{len, sq, fitsFour}
 use Rattle.lengths.specs.declared.Len.{Len}
-use Rattle.points.specs.declared.Point.{Point}
-use Rattle.points.specs.declared.Flat.{Flat}
-use Rattle.points.specs.declared.Travel.{Travel}
-use Rattle.points.specs.Points.{flat, inside}
+use Rattle.lengths.specs.declared.Point.{Point}
+use Rattle.lengths.specs.declared.Flat.{Flat}
+use Rattle.lengths.specs.declared.Travel.{Travel}
+use Rattle.lengths.specs.Points.{flat, inside}
 use Rattle.records.specs.declared.Arc.{Arc}
 use Rattle.records.specs.Path.{Path, straight, clockwise, counter, still}
 use Rattle.arcs.specs.Root.{root}

@@ -4,10 +4,10 @@ use mathlib.Core.Path.{_≡_}
 use mathlib.Core.Bool.{true}
 use Rattle.lengths.specs.declared.Len.{Len}
 use Rattle.lengths.specs.View.{over, under, Within}
-use Rattle.points.specs.declared.Point.{Point}
-use Rattle.points.specs.declared.Flat.{Flat}
-use Rattle.points.specs.declared.Travel.{Travel}
-use Rattle.points.specs.Points.{flat}
+use Rattle.lengths.specs.declared.Point.{Point}
+use Rattle.lengths.specs.declared.Flat.{Flat}
+use Rattle.lengths.specs.declared.Travel.{Travel}
+use Rattle.lengths.specs.Points.{flat}
 use Rattle.records.specs.declared.Arc.{Arc}
 use Rattle.records.specs.Path.{Path, straight, clockwise, counter, still}
 use Rattle.arcs.specs.Turning.{direction}

@@ -1,8 +1,8 @@
 -- Whether the paths of records stay in the travel, one after the other.
 use mathlib.Core.Bool.{Bool}
 use mathlib.Core.List.{List}
-use Rattle.points.specs.declared.Point.{Point}
-use Rattle.points.specs.declared.Travel.{Travel}
+use Rattle.lengths.specs.declared.Point.{Point}
+use Rattle.lengths.specs.declared.Travel.{Travel}
 use Rattle.records.specs.declared.Record.{Record}
 use Rattle.records.specs.Path.{pathOf, pathStaysIn}
 use Rattle.arcs.specs.Arcs.{pathStays}

@@ -4,7 +4,7 @@ use lib.IntN.{ℤ, pos, _+ℤ_, _-ℤ_, _*ℤ_}
 use lib.Signed.{ltZ}
 use Rattle.terms.specs.Terms.{if_then_else_}
 use Rattle.lengths.specs.Units.{_⊖_}
-use Rattle.points.specs.declared.Flat.{Flat}
+use Rattle.lengths.specs.declared.Flat.{Flat}
 
 -- the direction from one point to another
 unfoldable pub direction : Flat → Flat → Flat

@@ -1,14 +1,20 @@
 // Arcs: the root of the radius and the end's tolerance. The rules stand in specs/, those of the path among them.
-use points::Flat;
-use points::Point;
+mod staying;
+
+use lengths::Flat;
+use lengths::Point;
 use records::Arc;
 use records::Record;
+pub use staying::from_centre;
+pub use staying::is_left;
+pub use staying::is_on_left_way;
+pub use staying::path_stays;
 ghost use mathlib.Core.Path.{_≡_};
 ghost use mathlib.Core.Bool.{_&&_};
 ghost use Prim.Native.Nat.{_*_, _^_, _≤_};
 ghost use Rattle.lengths.specs.Units.{fitsFour};
-ghost use Rattle.points.specs.Near.{Near};
-ghost use Rattle.points.specs.Points.{flat};
+ghost use Rattle.lengths.specs.Near.{Near};
+ghost use Rattle.lengths.specs.Points.{flat};
 ghost use Rattle.records.specs.Path.{pathOf, recordMoved};
 ghost use Rattle.records.specs.Displacing.{Loose};
 ghost use Rattle.arcs.specs.Root.{root};
@@ -60,7 +66,7 @@ pub fn squared_radius(from: Point, a: Arc) -> u64
     ensures { λ r. ⌜ r ≡ radius² from a ⌝ }
 {
     let plane = a.plane;
-    squared_distance(centre_of(a), points::in_plane(plane, from))
+    squared_distance(centre_of(a), lengths::in_plane(plane, from))
 }
 
 // The square of a number below 2 ^ 32 fits.
@@ -91,7 +97,7 @@ pub fn arc_holds(from: Point, a: Arc) -> bool
     let plane = a.plane;
     let end = a.end;
     let centre = centre_of(a);
-    let at = points::in_plane(plane, end);
+    let at = lengths::in_plane(plane, end);
     let r = root_of(squared_radius(from, a));
     if r + 1000 < at.first.apart(centre.first) {
         return false;

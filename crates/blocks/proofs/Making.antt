@@ -16,8 +16,8 @@ use Rattle.codes.specs.declared.Return.{Return}
 use Rattle.codes.specs.declared.Return.the-variants.{ToInitial, ToR}
 use Rattle.codes.specs.Codes.{isM, endsProgram}
 use Rattle.words.specs.declared.Values.{Values}
-use Rattle.points.specs.declared.Point.{Point}
-use Rattle.points.specs.Points.{atHeight}
+use Rattle.lengths.specs.declared.Point.{Point}
+use Rattle.lengths.specs.Points.{atHeight}
 use Rattle.records.specs.declared.Arc.{Arc}
 use Rattle.records.specs.declared.Record.{Record}
 use Rattle.records.specs.declared.Record.the-variants.{RP, LN, AR, AL, DW, SP, SO, PA, EN}

@@ -18,11 +18,11 @@ use Rattle.codes.specs.declared.Plane.{Plane}
 use Rattle.codes.specs.declared.Plane.the-variants.{G17, G18, G19}
 use Rattle.words.specs.declared.Given.{Given}
 use Rattle.words.specs.declared.Values.{Values}
-use Rattle.points.specs.declared.Point.{Point}
-use Rattle.points.specs.declared.Flat.{Flat}
-use Rattle.points.specs.Points.{moved, flat, inside}
-use Rattle.points.specs.Near.{Near}
-use Rattle.points.proofs.Near.{flat-near}
+use Rattle.lengths.specs.declared.Point.{Point}
+use Rattle.lengths.specs.declared.Flat.{Flat}
+use Rattle.lengths.specs.Points.{moved, flat, inside}
+use Rattle.lengths.specs.Near.{Near}
+use Rattle.lengths.proofs.Near.{flat-near}
 use Rattle.records.specs.Path.{arcMoved}
 use Rattle.setup.specs.declared.Bed.{Bed}
 use Rattle.setup.specs.Frame.{originAt}

@@ -8,9 +8,9 @@ use Rattle.terms.specs.Terms.{all}
 use Rattle.terms.proofs.Laws.{both-left, both-right}
 use Rattle.lengths.specs.declared.Len.{Len}
 use Rattle.lengths.specs.View.{Short}
-use Rattle.points.specs.declared.Point.{Point}
-use Rattle.points.specs.Points.{moved, flat, inside}
-use Rattle.points.specs.Near.{Near}
+use Rattle.lengths.specs.declared.Point.{Point}
+use Rattle.lengths.specs.Points.{moved, flat, inside}
+use Rattle.lengths.specs.Near.{Near}
 use Rattle.records.specs.declared.Arc.{Arc}
 use Rattle.records.specs.declared.Record.{Record}
 use Rattle.records.specs.declared.Record.the-variants.{RP, LN, AR, AL, DW, SP, SO, PA, EN}

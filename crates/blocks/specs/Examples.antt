@@ -8,7 +8,7 @@ use lib.IntN.{pos}
 use Rattle.terms.specs.Terms.{byte, bytes}
 use Rattle.refusals.specs.Numbers.{numberOf}
 use Rattle.lengths.specs.Units.{len}
-use Rattle.points.specs.declared.Point.{Point}
+use Rattle.lengths.specs.declared.Point.{Point}
 use Rattle.words.specs.declared.Values.{Values}
 use Rattle.words.specs.Values.{noValues}
 use Rattle.words.specs.Words.{Words, these, badAt, wordsOf}

@@ -8,9 +8,9 @@ use Rattle.codes.specs.declared.Cycle.{Cycle}
 use Rattle.codes.specs.declared.Motion.{Motion}
 use Rattle.codes.specs.declared.Motion.the-variants.{Off, G00, G01, G02, G03, Drilling}
 use Rattle.words.specs.declared.Values.{Values}
-use Rattle.points.specs.declared.Point.{Point}
-use Rattle.points.specs.declared.Flat.{Flat}
-use Rattle.points.specs.Points.{moved, flat}
+use Rattle.lengths.specs.declared.Point.{Point}
+use Rattle.lengths.specs.declared.Flat.{Flat}
+use Rattle.lengths.specs.Points.{moved, flat}
 use Rattle.records.specs.declared.Arc.{Arc}
 use Rattle.records.specs.declared.Record.{Record}
 use Rattle.records.specs.declared.Record.the-variants.{RP, LN, AR, AL, DW}

@@ -4,7 +4,7 @@ use Prim.Native.Nat.{_<_}
 use mathlib.Core.Path.{_≡_}
 use mathlib.Core.Bool.{true}
 use Rattle.lengths.specs.View.{Within}
-use Rattle.points.specs.Points.{inside}
+use Rattle.lengths.specs.Points.{inside}
 use Rattle.setup.specs.declared.Bed.{Bed}
 use Rattle.setup.specs.Fair.{Fair}
 use Rattle.letters.specs.Sizes.{Sizes}

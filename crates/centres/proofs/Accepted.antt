@@ -8,7 +8,7 @@ use lib.IntN.{ℤ, natAbs}
 use borrow.Author.Tests.{leb-true, ltb-true}
 use Rattle.terms.proofs.Laws.{both-left, both-right}
 use Rattle.lengths.specs.Units.{sq}
-use Rattle.points.specs.declared.Flat.{Flat}
+use Rattle.lengths.specs.declared.Flat.{Flat}
 use Rattle.arcs.specs.Arcs.{distance²}
 use Rattle.centres.specs.Centres.{radiusHolds, spare}
 

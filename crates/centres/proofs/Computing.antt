@@ -13,7 +13,7 @@ use lib.Signed.{leZ}
 use borrow.Author.Tests.{lt-leb, eq-eqb, ne-eqb, eqb-true, eqb-false}
 use Rattle.lengths.specs.Units.{sq}
 use Rattle.lengths.proofs.Laws.{sq-near, near-sq}
-use Rattle.points.specs.declared.Flat.{Flat}
+use Rattle.lengths.specs.declared.Flat.{Flat}
 use Rattle.arcs.specs.Root.{Root, root}
 use Rattle.arcs.specs.Turning.{direction}
 use Rattle.arcs.specs.Arcs.{distance²}

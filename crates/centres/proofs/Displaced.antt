@@ -10,9 +10,9 @@ use Rattle.lengths.proofs.Laws.{view, sum-bal, halved-over, halved-under}
 use Rattle.lengths.proofs.Ring.{var, _⊞_, same, shift}
 use Rattle.codes.specs.declared.Plane.{Plane}
 use Rattle.codes.specs.declared.Plane.the-variants.{G17, G18, G19}
-use Rattle.points.specs.declared.Flat.{Flat}
-use Rattle.points.specs.declared.Point.{Point}
-use Rattle.points.specs.Points.{moved, flat}
+use Rattle.lengths.specs.declared.Flat.{Flat}
+use Rattle.lengths.specs.declared.Point.{Point}
+use Rattle.lengths.specs.Points.{moved, flat}
 use Rattle.arcs.specs.Turning.{direction}
 use Rattle.arcs.specs.Arcs.{distance²}
 use Rattle.centres.specs.Centres.{radiusHolds, across, spare, scaledRoot, coordinate, centreBy}

@@ -13,7 +13,7 @@ use Rattle.lengths.specs.Units.{sq}
 use Rattle.lengths.specs.View.{over, under, Within}
 use Rattle.lengths.proofs.Laws.{sum-bal, diff-bal, abs-sum, near-abs}
 use Rattle.lengths.proofs.Ring.{var, _⊞_, _⊟_}
-use Rattle.points.specs.declared.Flat.{Flat}
+use Rattle.lengths.specs.declared.Flat.{Flat}
 use Rattle.arcs.specs.Root.{root}
 use Rattle.arcs.specs.Turning.{direction, dot}
 use Rattle.arcs.specs.Arcs.{distance², roundEnough}

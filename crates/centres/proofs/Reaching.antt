@@ -10,7 +10,7 @@ use lib.Signed.{leZ}
 use Rattle.lengths.specs.Units.{len, sq}
 use Rattle.lengths.specs.View.{over, under, Within}
 use Rattle.lengths.proofs.Laws.{view, sum-bal, diff-bal, neg-over, neg-under, abs-sum, near-abs, near-sq}
-use Rattle.points.specs.declared.Flat.{Flat}
+use Rattle.lengths.specs.declared.Flat.{Flat}
 use Rattle.arcs.specs.Turning.{direction}
 use Rattle.arcs.specs.Arcs.{distance²}
 use Rattle.arcs.specs.Bounds.{Close, Reach}

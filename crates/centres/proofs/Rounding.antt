@@ -11,7 +11,7 @@ use borrow.Author.Tests.{eqb-true, eqb-false}
 use Rattle.lengths.specs.Units.{sq, halved}
 use Rattle.lengths.specs.View.{over, under, Within}
 use Rattle.lengths.proofs.Laws.{view, sum-bal, diff-bal, neg-over, neg-under, halved-over, halved-under, sq-near}
-use Rattle.points.specs.declared.Flat.{Flat}
+use Rattle.lengths.specs.declared.Flat.{Flat}
 use Rattle.arcs.specs.Root.{Root, root}
 use Rattle.arcs.specs.Turning.{direction}
 use Rattle.arcs.specs.Arcs.{distance²}

@@ -11,7 +11,7 @@ use borrow.Author.Tests.{lt-ltb}
 use Rattle.lengths.specs.Units.{sq, halved}
 use Rattle.lengths.proofs.Laws.{view, sq-neg, sq-mul, halved-over, halved-under}
 use Rattle.lengths.proofs.Ring.{var, _⊞_, _⊟_, _⊠_, neg, same}
-use Rattle.points.specs.declared.Flat.{Flat}
+use Rattle.lengths.specs.declared.Flat.{Flat}
 use Rattle.arcs.specs.Arcs.{distance²}
 use Rattle.arcs.specs.Turning.{direction, cross, dot, left}
 use Rattle.centres.specs.Centres.{radiusHolds, across, spare, RoundedDown, Centre}

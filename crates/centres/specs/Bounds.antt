@@ -6,8 +6,8 @@ use lib.IntN.{ℤ}
 use Rattle.lengths.specs.declared.Len.{Len}
 use Rattle.lengths.specs.Units.{len, sq}
 use Rattle.lengths.specs.View.{Within}
-use Rattle.points.specs.declared.Flat.{Flat}
-use Rattle.points.specs.Near.{FlatNear}
+use Rattle.lengths.specs.declared.Flat.{Flat}
+use Rattle.lengths.specs.Near.{FlatNear}
 use Rattle.wide.specs.declared.Division.{Division}
 use Rattle.centres.specs.Centres.{radiusHolds, scaledRoot}
 

@@ -6,7 +6,7 @@ use mathlib.Core.Option.{Option, none, some}
 use lib.IntN.{ℤ, pos, negℤ}
 use Rattle.terms.specs.Terms.{when}
 use Rattle.lengths.specs.Units.{len}
-use Rattle.points.specs.declared.Flat.{Flat}
+use Rattle.lengths.specs.declared.Flat.{Flat}
 use Rattle.centres.specs.Centres.{radiusHolds, centreBy}
 
 pub record Row : Type 0 where

@@ -2,7 +2,7 @@
 -- units more or less. proofs/Nearness.antt shows it of every arc by its radius that is accepted.
 use Prim.Native.Nat.{_+_, _-_, _*_, _<_}
 use lib.IntN.{ℤ, natAbs}
-use Rattle.points.specs.declared.Flat.{Flat}
+use Rattle.lengths.specs.declared.Flat.{Flat}
 use Rattle.arcs.specs.Arcs.{distance²}
 
 -- The distance of c and p is more than |r| − 2 and less than |r| + 2. Squares are compared; |r| is at least 3,000.

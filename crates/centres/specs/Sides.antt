@@ -5,7 +5,7 @@ use Prim.Native.Nat.{ℕ}
 use mathlib.Core.Bool.{Bool}
 use lib.IntN.{pos, _+ℤ_, _*ℤ_}
 use Rattle.lengths.specs.Units.{len}
-use Rattle.points.specs.declared.Flat.{Flat}
+use Rattle.lengths.specs.declared.Flat.{Flat}
 use Rattle.arcs.specs.Turning.{direction}
 use Rattle.centres.specs.Centres.{across}
 

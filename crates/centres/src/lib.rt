@@ -1,6 +1,6 @@
 // The centre of an arc that is given by its radius. The rules stand in specs/.
+use lengths::Flat;
 use lengths::Len;
-use points::Flat;
 use wide::Division;
 ghost use mathlib.Core.Path.{_≡_};
 ghost use Prim.Native.Nat.{ℕ, _≤_};
@@ -8,7 +8,7 @@ ghost use lib.IntN.{_+ℤ_};
 ghost use Rattle.lengths.specs.Units.{len};
 ghost use Rattle.arcs.specs.Arcs.{distance²};
 ghost use Rattle.centres.specs.Centres.{radiusHolds, across, coordinate, centreBy};
-ghost use Rattle.points.specs.Near.{FlatNear};
+ghost use Rattle.lengths.specs.Near.{FlatNear};
 ghost use Rattle.centres.specs.Bounds.{Chord, Spanned, Shares, Part, Parted, Scaled, Coordinates};
 
 // Whether a circle of the radius goes through start and end. An end may lie 3,200,000,000 units away, and the square of that

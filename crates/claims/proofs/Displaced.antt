@@ -16,8 +16,8 @@ use Rattle.refusals.specs.declared.Refusal.the-variants.{LeavesTravel}
 use Rattle.refusals.specs.declared.Place.{Place}
 use Rattle.refusals.specs.Numbers.{numberOf}
 use Rattle.refusals.specs.Answers.{refusedWith, reportOf}
-use Rattle.points.specs.declared.Point.{Point}
-use Rattle.points.specs.Points.{moved, movedBack}
+use Rattle.lengths.specs.declared.Point.{Point}
+use Rattle.lengths.specs.Points.{moved, movedBack}
 use Rattle.setup.specs.declared.Axes.{Axes}
 use Rattle.setup.specs.declared.Setup.{Setup}
 use Rattle.setup.specs.Limits.{validSetup}

@@ -6,9 +6,9 @@ use mathlib.Core.List.{List, map, [], _∷_, _++_}
 use native.Mathlib.Omega.{arith}
 use lib.IntN.{ℤ, _+ℤ_, _-ℤ_}
 use lib.Signed.{leZ}
-use Rattle.points.specs.declared.Point.{Point}
-use Rattle.points.specs.declared.Travel.{Travel}
-use Rattle.points.specs.Points.{moved, movedBack, inside}
+use Rattle.lengths.specs.declared.Point.{Point}
+use Rattle.lengths.specs.declared.Travel.{Travel}
+use Rattle.lengths.specs.Points.{moved, movedBack, inside}
 use Rattle.setup.specs.declared.Setup.{Setup}
 use Rattle.setup.specs.Frame.{pointOf, offset, startOf, travelOf, bedOf}
 use Rattle.records.specs.declared.Record.{Record}

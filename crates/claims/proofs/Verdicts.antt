@@ -14,7 +14,7 @@ use Rattle.terms.specs.Terms.{if_then_else_, all, any, first, firstOf}
 use Rattle.terms.proofs.Laws.{either-left, either-right}
 use Rattle.refusals.specs.declared.Refusal.{Refusal}
 use Rattle.refusals.specs.declared.Refusal.the-variants.{BadParameter, AddressUndefined, ParameterUndefined, CannotExecute, NumberNotFound, NestOver, LeavesTravel, NoRoom, Unreadable, CentreTooFar}
-use Rattle.points.specs.declared.Point.{Point}
+use Rattle.lengths.specs.declared.Point.{Point}
 use Rattle.codes.specs.Codes.{miscNumber, isM, isNoM, endsProgram}
 use Rattle.words.specs.declared.Word.{Word}
 use Rattle.words.specs.Words.{Words, these, badAt, wordsOf}

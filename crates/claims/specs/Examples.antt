@@ -7,7 +7,7 @@ use lib.IntN.{ℤ, pos}
 use Rattle.terms.specs.Terms.{bytes}
 use Rattle.lengths.specs.Units.{len}
 use Rattle.codes.specs.declared.Plane.the-variants.{G17}
-use Rattle.points.specs.declared.Point.{Point}
+use Rattle.lengths.specs.declared.Point.{Point}
 use Rattle.setup.specs.declared.Axes.{Axes}
 use Rattle.records.specs.declared.Record.{Record}
 use Rattle.records.specs.declared.Record.the-variants.{RP, AL, EN}

@@ -1,7 +1,7 @@
 -- The travel of a setup in machine units, as the setup gives it.
 use mathlib.Core.Bool.{Bool}
-use Rattle.points.specs.declared.Point.{Point}
-use Rattle.points.specs.declared.Travel.{Travel}
+use Rattle.lengths.specs.declared.Point.{Point}
+use Rattle.lengths.specs.declared.Travel.{Travel}
 use Rattle.setup.specs.declared.Setup.{Setup}
 use Rattle.setup.specs.Frame.{pointOf}
 use Rattle.records.specs.declared.Record.{Record}

@@ -15,8 +15,8 @@ use Rattle.codes.proofs.Cycle.{the-type as cycle-type}
 use Rattle.codes.specs.declared.Return.{Return}
 use Rattle.codes.specs.declared.Return.the-variants.{ToInitial, ToR}
 use Rattle.words.specs.declared.Given.{Given}
-use Rattle.points.specs.declared.Point.{Point}
-use Rattle.points.specs.Points.{atHeight}
+use Rattle.lengths.specs.declared.Point.{Point}
+use Rattle.lengths.specs.Points.{atHeight}
 use Rattle.records.specs.declared.Record.{Record}
 use Rattle.records.specs.declared.Record.the-variants.{RP, LN, DW}
 use Rattle.cycles.specs.declared.Hole.{Hole}

@@ -9,9 +9,9 @@ use Rattle.codes.specs.declared.Return.{Return}
 use Rattle.lengths.specs.View.{Within}
 use Rattle.words.specs.declared.Given.{Given}
 use Rattle.words.specs.declared.Values.{Values}
-use Rattle.points.specs.declared.Point.{Point}
-use Rattle.points.specs.declared.Travel.{Travel}
-use Rattle.points.specs.Near.{Near}
+use Rattle.lengths.specs.declared.Point.{Point}
+use Rattle.lengths.specs.declared.Travel.{Travel}
+use Rattle.lengths.specs.Near.{Near}
 use Rattle.records.specs.declared.Record.{Record}
 use Rattle.settings.specs.Bounds.{Aims}
 use Rattle.cycles.specs.declared.Hole.{Hole}

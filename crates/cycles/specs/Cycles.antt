@@ -13,8 +13,8 @@ use Rattle.codes.specs.declared.Return.the-variants.{ToInitial, ToR}
 use Rattle.codes.specs.declared.Distance.{Distance}
 use Rattle.words.specs.declared.Given.{Given}
 use Rattle.words.specs.declared.Values.{Values}
-use Rattle.points.specs.declared.Point.{Point}
-use Rattle.points.specs.Points.{atHeight}
+use Rattle.lengths.specs.declared.Point.{Point}
+use Rattle.lengths.specs.Points.{atHeight}
 use Rattle.records.specs.declared.Record.{Record}
 use Rattle.records.specs.declared.Record.the-variants.{RP, LN, DW}
 use Rattle.settings.specs.declared.State.{State}

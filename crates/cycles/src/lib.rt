@@ -4,7 +4,7 @@ use codes::Cycle;
 use codes::Distance;
 use codes::Return;
 use lengths::Len;
-use points::Point;
+use lengths::Point;
 use records::Record;
 use settings::State;
 use words::Given;
@@ -124,13 +124,13 @@ fn row_up(h: Hole, i: usize, p: Point) -> Record
     let cycle = h.cycle;
     let feed = h.feed;
     if i == 1 {
-        return Record::RP(points::at_height(p, h.initial));
+        return Record::RP(lengths::at_height(p, h.initial));
     }
     match cycle {
-        Cycle::G81 => Record::RP(points::at_height(p, return_level(h))),
-        Cycle::G82 => Record::RP(points::at_height(p, return_level(h))),
-        Cycle::G85 => Record::LN(points::at_height(p, h.r), feed),
-        Cycle::G89 => Record::LN(points::at_height(p, h.r), feed),
+        Cycle::G81 => Record::RP(lengths::at_height(p, return_level(h))),
+        Cycle::G82 => Record::RP(lengths::at_height(p, return_level(h))),
+        Cycle::G85 => Record::LN(lengths::at_height(p, h.r), feed),
+        Cycle::G89 => Record::LN(lengths::at_height(p, h.r), feed),
     }
 }
 
@@ -158,16 +158,16 @@ pub fn row_at(h: Hole, i: usize, level: Len, p: Point) -> Record
     let z = h.z;
     let feed = h.feed;
     if !z.stands {
-        return Record::RP(points::at_height(p, h.initial));
+        return Record::RP(lengths::at_height(p, h.initial));
     }
     if i == 0 {
-        return Record::RP(points::at_height(p, level));
+        return Record::RP(lengths::at_height(p, level));
     }
     if i == 1 {
-        return Record::RP(points::at_height(p, h.r));
+        return Record::RP(lengths::at_height(p, h.r));
     }
     if i == 2 {
-        return Record::LN(points::at_height(p, z.v), feed);
+        return Record::LN(lengths::at_height(p, z.v), feed);
     }
     row_after_cut(h, i - 3, p)
 }
@@ -178,8 +178,8 @@ pub fn pass_end(h: Hole, p: Point) -> Point
 {
     let z = h.z;
     if z.stands {
-        points::at_height(p, return_level(h))
+        lengths::at_height(p, return_level(h))
     } else {
-        points::at_height(p, h.initial)
+        lengths::at_height(p, h.initial)
     }
 }

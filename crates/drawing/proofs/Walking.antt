@@ -14,7 +14,7 @@ use Rattle.records.specs.declared.Listed.{Listed}
 use Rattle.records.specs.declared.Listed.the-variants.{Next, End, Faulty}
 use Rattle.records.specs.Reading.{readAt, readAll, onward, after, trail, Trail}
 use Rattle.records.proofs.Again.{read-on}
-use Rattle.points.specs.declared.Point.{Point}
+use Rattle.lengths.specs.declared.Point.{Point}
 use Rattle.records.specs.Path.{pathOf, pathEnd}
 use Rattle.svg.specs.declared.View.{View}
 use Rattle.svg.specs.Text.{Fills}

@@ -9,9 +9,9 @@ use lib.ListN.{length}
 use lib.Seq.{sets}
 use Rattle.terms.specs.Terms.{if_then_else_, bytes}
 use Rattle.lengths.specs.Units.{len, _⊕_, _⊖_}
-use Rattle.points.specs.declared.Point.{Point}
-use Rattle.points.specs.declared.Flat.{Flat}
-use Rattle.points.specs.Near.{Near}
+use Rattle.lengths.specs.declared.Point.{Point}
+use Rattle.lengths.specs.declared.Flat.{Flat}
+use Rattle.lengths.specs.Near.{Near}
 use Rattle.setup.specs.declared.Setup.{Setup}
 use Rattle.setup.specs.Frame.{pointOf}
 use Rattle.setup.specs.Limits.{validSetup}

@@ -1,6 +1,6 @@
 // The path of a record list as SVG text, rapids and cuts in two layers.
-use points::Flat;
-use points::Point;
+use lengths::Flat;
+use lengths::Point;
 use records::Listed;
 use records::Record;
 use svg::View;
@@ -61,7 +61,7 @@ pub fn last_of(list: &[u8]) -> Listed
 {
     let mut at: usize = 0;
     loop {
-        let found = loading::read(list, at);
+        let found = records::read(list, at);
         match found {
             Listed::Next(_, next) => {
                 at = next;
@@ -87,7 +87,7 @@ pub fn put_path(
     let mut place: usize = 0;
     let mut from = start;
     loop {
-        let found = loading::read(list, place);
+        let found = records::read(list, place);
         match found {
             Listed::Next(r, after) => {
                 next = put_record(out, next, view, rapids, from, r);

@@ -2,8 +2,8 @@
 mod layers;
 mod picture;
 
+use lengths::Point;
 pub use picture::draw;
-use points::Point;
 
 // The travel and the start in machine units, and the gap around and between the views.
 pub struct Sheet {

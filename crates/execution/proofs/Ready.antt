@@ -9,12 +9,12 @@ use lib.ListN.{length, length-append}
 use Rattle.refusals.specs.declared.Refusal.the-variants.{BadParameter, LeavesTravel}
 use Rattle.lengths.specs.Units.{fitsFour}
 use Rattle.words.specs.declared.Values.{Values}
-use Rattle.points.specs.declared.Flat.{Flat}
-use Rattle.points.specs.declared.Point.{Point}
-use Rattle.points.specs.declared.Travel.{Travel}
-use Rattle.points.specs.Points.{inside, flat}
-use Rattle.points.specs.Near.{Near, FlatNear}
-use Rattle.points.proofs.Near.{flat-near}
+use Rattle.lengths.specs.declared.Flat.{Flat}
+use Rattle.lengths.specs.declared.Point.{Point}
+use Rattle.lengths.specs.declared.Travel.{Travel}
+use Rattle.lengths.specs.Points.{inside, flat}
+use Rattle.lengths.specs.Near.{Near, FlatNear}
+use Rattle.lengths.proofs.Near.{flat-near}
 use Rattle.records.specs.declared.Arc.{Arc}
 use Rattle.records.specs.declared.Record.{Record}
 use Rattle.records.specs.declared.Record.the-variants.{RP, LN, AR, AL, DW, SP, SO, PA, EN}

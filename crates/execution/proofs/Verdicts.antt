@@ -24,7 +24,7 @@ use Rattle.refusals.specs.declared.Refusal.the-variants.{
 use Rattle.words.specs.declared.Word.{Word}
 use Rattle.words.specs.declared.Values.{Values}
 use Rattle.words.specs.Words.{Words, these, badAt}
-use Rattle.points.specs.declared.Point.{Point}
+use Rattle.lengths.specs.declared.Point.{Point}
 use Rattle.records.specs.Layout.{listBytes, roomOf}
 use Rattle.records.specs.Path.{pathStaysIn, recordMoved}
 use Rattle.records.specs.Serving.{Wrote}

@@ -10,7 +10,7 @@ use Rattle.refusals.specs.declared.Refusal.{Refusal}
 use Rattle.refusals.specs.declared.Refusal.the-variants.{BadParameter, LeavesTravel, NoRoom}
 use Rattle.codes.specs.declared.Misc.{Misc}
 use Rattle.words.specs.declared.Word.{Word}
-use Rattle.points.specs.declared.Point.{Point}
+use Rattle.lengths.specs.declared.Point.{Point}
 use Rattle.records.specs.declared.Record.{Record}
 use Rattle.records.specs.Layout.{roomOf}
 use Rattle.records.specs.Path.{endOf, recordMoved, pathStaysIn}

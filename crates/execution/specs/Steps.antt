@@ -9,7 +9,7 @@ use Rattle.refusals.specs.declared.Refusal.the-variants.{BadParameter, LeavesTr
 use Rattle.codes.specs.declared.Misc.{Misc}
 use Rattle.codes.specs.Codes.{isM}
 use Rattle.words.specs.declared.Word.{Word}
-use Rattle.points.specs.declared.Point.{Point}
+use Rattle.lengths.specs.declared.Point.{Point}
 use Rattle.setup.specs.declared.Bed.{Bed}
 use Rattle.setup.specs.Frame.{originAt}
 use Rattle.records.specs.declared.Record.{Record}

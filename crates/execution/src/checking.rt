@@ -6,7 +6,7 @@ use blocks::Done;
 use blocks::Executed;
 use blocks::Said;
 use codes::Misc;
-use points::Point;
+use lengths::Point;
 use refusals::Refusal;
 use settings::State;
 use setup::Bed;

@@ -8,7 +8,7 @@ use blocks::Control;
 use blocks::Said;
 use codes::Misc;
 use lengths::Len;
-use points::Point;
+use lengths::Point;
 use settings::State;
 use words::Given;
 use work::Brief;

@@ -5,7 +5,7 @@ use mathlib.Core.List.{List, [], _∷_, _++_, map, append-nil}
 use native.Mathlib.Omega.{arith}
 use lib.ListN.{length, length-append}
 use lib.Seq.{sets, length-sets}
-use Rattle.points.specs.declared.Point.{Point}
+use Rattle.lengths.specs.declared.Point.{Point}
 use Rattle.setup.specs.declared.Bed.{Bed}
 use Rattle.records.specs.declared.Record.{Record}
 use Rattle.records.specs.Layout.{kindOf, roomOf, listBytes}

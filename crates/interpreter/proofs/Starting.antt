@@ -19,9 +19,9 @@ use lib.IntN.{ℤ, _+ℤ_, _-ℤ_}
 use Rattle.lengths.specs.declared.Len.{Len}
 use Rattle.lengths.specs.Units.{len}
 use Rattle.lengths.proofs.Ring.{var, _⊞_, _⊟_, same}
-use Rattle.points.specs.declared.Point.{Point}
-use Rattle.points.specs.Points.{moved, movedBack}
-use Rattle.points.specs.Near.{Near}
+use Rattle.lengths.specs.declared.Point.{Point}
+use Rattle.lengths.specs.Points.{moved, movedBack}
+use Rattle.lengths.specs.Near.{Near}
 use Rattle.setup.specs.declared.Bed.{Bed}
 use Rattle.setup.specs.declared.Setup.{Setup}
 use Rattle.setup.specs.Limits.{validSetup}

@@ -6,7 +6,7 @@ use lib.ListN.{length}
 use lib.Seq.{sets}
 use Rattle.lines.specs.Blocks.{blockFrom, lengthFrom}
 use Rattle.lines.specs.Serving.{blocksFrom}
-use Rattle.points.specs.declared.Point.{Point}
+use Rattle.lengths.specs.declared.Point.{Point}
 use Rattle.records.specs.Layout.{roomOf}
 use Rattle.records.specs.Writing.{movedBytes}
 use Rattle.programs.specs.declared.Programs.{Programs}

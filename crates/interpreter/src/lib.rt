@@ -156,5 +156,5 @@ pub fn run_blocks(setup: Setup, bytes: &[u8], list: &mut [u8], n: u64) -> Report
 pub fn read_record(list: &[u8], at: usize) -> Listed
     ensures { λ r. ⌜ r ≡ readAt (now (list .entry)) at ⌝ }
 {
-    loading::read(list, at)
+    records::read(list, at)
 }

@@ -1,6 +1,6 @@
 // What a run tells: where it starts, where it stands and what it answers.
 use crate::How;
-use points::Point;
+use lengths::Point;
 use refusals::Answer;
 use refusals::Place;
 use refusals::Refusal;
@@ -11,7 +11,7 @@ use setup::Setup;
 ghost use mathlib.Core.Path.{_≡_};
 ghost use mathlib.Core.Bool.{true};
 ghost use Prim.Native.Nat.{_^_};
-ghost use Rattle.points.specs.Near.{Near};
+ghost use Rattle.lengths.specs.Near.{Near};
 ghost use Rattle.setup.specs.Limits.{validSetup};
 ghost use Rattle.setup.specs.Frame.{offset};
 ghost use Rattle.settings.specs.Settings.{stateMoved};
@@ -48,7 +48,7 @@ pub fn state_moved(by: Point, s: State) -> State
     requires { ⌜ (Near (2 ^ 61) by) × (Near (2 ^ 61) (s .at)) ⌝ }
     ensures { λ r. ⌜ r ≡ stateMoved by s ⌝ }
 {
-    let at = points::moved(by, s.at);
+    let at = lengths::moved(by, s.at);
     let modes = s.modes;
     let feed = s.feed;
     let speed = s.speed;

@@ -1,6 +1,12 @@
 // Signed whole numbers in units of 0.00001 mm, the only place where a raw i64 is added. A number is wrapped so that a
 // caller's proof speaks of its contract and not of the bits of an i64.
+mod points;
 
+pub use points::at_height;
+pub use points::in_plane;
+pub use points::is_inside;
+pub use points::moved;
+pub use points::moved_back;
 ghost use mathlib.Core.Path.{_≡_};
 ghost use Prim.Native.Nat.{_+_, _<_, _^_};
 ghost use lib.Signed.{leZ, ltZ};
@@ -148,4 +154,23 @@ impl Len {
             }
         }
     }
+}
+
+// Points of the machine, one length for each axis. Another axis is added here.
+pub struct Point {
+    pub x: Len,
+    pub y: Len,
+    pub z: Len,
+}
+
+// A point or a direction in a plane, by the plane's first and second axis.
+pub struct Flat {
+    pub first: Len,
+    pub second: Len,
+}
+
+// The box that the tool may not leave.
+pub struct Travel {
+    pub low: Point,
+    pub high: Point,
 }

@@ -36,7 +36,7 @@ fn records_end(list: &[u8], count: usize) -> usize
     let mut at: usize = 0;
     let mut left = count;
     while 0 < left {
-        match loading::read(list, at) {
+        match records::read(list, at) {
             Listed::Next(_, next) => {
                 at = next;
             }

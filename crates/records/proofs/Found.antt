@@ -11,7 +11,7 @@ use lib.ListN.{length, getD}
 use Rattle.terms.specs.Terms.{first}
 use Rattle.lengths.specs.declared.Len.{Len}
 use Rattle.codes.specs.declared.Plane.{Plane}
-use Rattle.points.specs.declared.Point.{Point}
+use Rattle.lengths.specs.declared.Point.{Point}
 use Rattle.records.specs.declared.Arc.{Arc}
 use Rattle.records.specs.declared.Kind.{Kind}
 use Rattle.records.specs.declared.Kind.the-variants.{RP, LN, AR, AL, DW, SP, SO, PA, EN}

@@ -7,10 +7,10 @@ use lib.IntN.{ℤ, _+ℤ_}
 use lib.ListN.{length}
 use Rattle.lengths.specs.View.{Within, Short}
 use Rattle.lengths.proofs.Laws.{sum-bal}
-use Rattle.points.specs.declared.Point.{Point}
-use Rattle.points.specs.Points.{moved, flat}
-use Rattle.points.specs.Near.{Near}
-use Rattle.points.proofs.Near.{flat-near}
+use Rattle.lengths.specs.declared.Point.{Point}
+use Rattle.lengths.specs.Points.{moved, flat}
+use Rattle.lengths.specs.Near.{Near}
+use Rattle.lengths.proofs.Near.{flat-near}
 use Rattle.records.specs.declared.Arc.{Arc}
 use Rattle.records.specs.declared.Record.{Record}
 use Rattle.records.specs.declared.Record.the-variants.{RP, LN, AR, AL, DW, SP, SO, PA, EN}

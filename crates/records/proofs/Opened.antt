@@ -2,7 +2,6 @@
 use Rattle.terms.proofs.Opened.{opened as terms-opened}
 use Rattle.lengths.proofs.Opened.{opened as lengths-opened}
 use Rattle.codes.proofs.Opened.{opened as codes-opened}
-use Rattle.points.proofs.Opened.{opened as points-opened}
 use Rattle.records.specs.Layout.{planeOf, planeBytes, numbersOf, numberBytes, recordBytes, listBytes, roomOf, recordOf}
 use Rattle.records.specs.Path.{pathOf, pathEnd, endOf, pathStaysIn, arcMoved, recordMoved}
 use Rattle.records.specs.Reading.{marked, kindAt, planeAt, planeFor, numbersAt, planeRead, kindRead, readAt, onward, readAll}
@@ -12,7 +11,6 @@ unfolding
     terms-opened
     lengths-opened
     codes-opened
-    points-opened
     planeOf
     planeBytes
     numbersOf

@@ -1,7 +1,7 @@
 -- What displacing a record asks: each of its places leaves room for a sum in 64 bits.
 use Prim.Native.Nat.{_^_}
 use Rattle.lengths.specs.View.{Within}
-use Rattle.points.specs.Near.{Near}
+use Rattle.lengths.specs.Near.{Near}
 use Rattle.records.specs.declared.Arc.{Arc}
 use Rattle.records.specs.Path.{Path, straight, clockwise, counter, still}
 

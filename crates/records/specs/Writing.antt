@@ -4,8 +4,8 @@ use mathlib.Core.List.{List, [], _∷_, map}
 use lib.ListN.{length}
 use Rattle.lengths.specs.View.{Short}
 use Rattle.lengths.specs.declared.Len.{Len}
-use Rattle.points.specs.declared.Point.{Point}
-use Rattle.points.specs.Near.{Near}
+use Rattle.lengths.specs.declared.Point.{Point}
+use Rattle.lengths.specs.Near.{Near}
 use Rattle.records.specs.declared.Record.{Record}
 use Rattle.records.specs.Layout.{numbersOf, listBytes, roomOf}
 use Rattle.records.specs.Path.{recordMoved}

@@ -1,11 +1,11 @@
 // An arc displaced: its end and its centre by the numbers of a point, every other number as it is.
 ghost use Prim.Native.Nat.{_^_};
 ghost use mathlib.Core.Path.{_≡_};
-ghost use Rattle.points.specs.Near.{Near};
+ghost use Rattle.lengths.specs.Near.{Near};
 ghost use Rattle.records.specs.Displacing.{LooseArc};
 ghost use Rattle.records.specs.Path.{arcMoved};
 use crate::Arc;
-use points::Point;
+use lengths::Point;
 
 pub fn displaced_arc(by: Point, a: Arc) -> Arc
     requires { ⌜ (Near (2 ^ 61) by) × (LooseArc a) ⌝ }
@@ -14,10 +14,10 @@ pub fn displaced_arc(by: Point, a: Arc) -> Arc
     let plane = a.plane;
     let end = a.end;
     let feed = a.feed;
-    let step = points::in_plane(plane, by);
+    let step = lengths::in_plane(plane, by);
     Arc {
         plane,
-        end: points::moved(by, end),
+        end: lengths::moved(by, end),
         first: a.first.plus(step.first),
         second: a.second.plus(step.second),
         feed,

@@ -2,7 +2,7 @@
 ghost use mathlib.Core.Path.{_≡_};
 ghost use Rattle.records.specs.Path.{pathOf, pathEnd};
 use crate::Record;
-use points::Point;
+use lengths::Point;
 
 // The end of a record's path that begins at a point.
 pub fn path_end(from: Point, r: Record) -> Point

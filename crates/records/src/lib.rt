@@ -2,6 +2,8 @@
 mod displacing;
 mod kinds;
 mod leading;
+mod loading;
+mod storing;
 
 use codes::Plane;
 pub use displacing::displaced_arc;
@@ -13,7 +15,11 @@ pub use kinds::mark_of;
 pub use kinds::room;
 pub use leading::path_end;
 use lengths::Len;
-use points::Point;
+use lengths::Point;
+pub use loading::read;
+pub use storing::put;
+pub use storing::put_mark;
+pub use storing::put_number;
 
 // What AR and AL hold: the plane, the end, the centre by the plane's first and second axis, and the feed.
 pub struct Arc {

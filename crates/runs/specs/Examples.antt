@@ -14,7 +14,7 @@ use Rattle.codes.specs.declared.Plane.the-variants.{G17, G18}
 use Rattle.codes.specs.declared.Unit.the-variants.{Millimetre}
 use Rattle.codes.specs.declared.Distance.the-variants.{Incremental}
 use Rattle.codes.specs.declared.Return.the-variants.{ToInitial}
-use Rattle.points.specs.declared.Point.{Point}
+use Rattle.lengths.specs.declared.Point.{Point}
 use Rattle.setup.specs.Examples.{setupT}
 use Rattle.records.specs.declared.Arc.{Arc}
 use Rattle.records.specs.declared.Record.{Record}

@@ -10,8 +10,8 @@ use Rattle.lengths.proofs.Laws.{sum-bal}
 use Rattle.codes.specs.declared.Distance.{Distance}
 use Rattle.codes.specs.declared.Distance.the-variants.{Absolute, Incremental}
 use Rattle.words.specs.declared.Given.{Given}
-use Rattle.points.specs.declared.Point.{Point}
-use Rattle.points.specs.Near.{Near}
+use Rattle.lengths.specs.declared.Point.{Point}
+use Rattle.lengths.specs.Near.{Near}
 use Rattle.words.specs.declared.Values.{Values}
 use Rattle.settings.specs.Target.{base, aimed, target}
 use Rattle.settings.specs.Bounds.{Aims}

@@ -3,7 +3,6 @@ use Rattle.terms.proofs.Opened.{opened as terms-opened}
 use Rattle.lengths.proofs.Opened.{opened as lengths-opened}
 use Rattle.codes.proofs.Opened.{opened as codes-opened}
 use Rattle.words.proofs.Opened.{opened as words-opened}
-use Rattle.points.proofs.Opened.{opened as points-opened}
 use Rattle.settings.specs.Settings.{firstModes, firstState, stateMoved, switched, orElse}
 use Rattle.settings.specs.Target.{base, aimed, target}
 
@@ -13,7 +12,6 @@ unfolding
     lengths-opened
     codes-opened
     words-opened
-    points-opened
     firstModes
     firstState
     stateMoved

@@ -6,8 +6,8 @@ use Rattle.lengths.specs.View.{Within}
 use Rattle.codes.specs.declared.Distance.{Distance}
 use Rattle.words.specs.declared.Given.{Given}
 use Rattle.words.specs.declared.Values.{Values}
-use Rattle.points.specs.declared.Point.{Point}
-use Rattle.points.specs.Near.{Near}
+use Rattle.lengths.specs.declared.Point.{Point}
+use Rattle.lengths.specs.Near.{Near}
 use Rattle.settings.specs.Target.{target}
 
 -- an axis' origin, the place that a word may count from, which is a point of the tool or a level that a word led to, and the word

@@ -10,8 +10,8 @@ use Rattle.codes.specs.declared.Return.the-variants.{ToInitial}
 use Rattle.codes.specs.declared.Code.{Code}
 use Rattle.codes.specs.declared.Code.the-variants.{GroupA, GroupB, GroupC, GroupD, GroupE, GroupF, G04, Unknown}
 use Rattle.words.specs.declared.Given.{Given}
-use Rattle.points.specs.declared.Point.{Point}
-use Rattle.points.specs.Points.{moved}
+use Rattle.lengths.specs.declared.Point.{Point}
+use Rattle.lengths.specs.Points.{moved}
 use Rattle.settings.specs.declared.Modes.{Modes}
 use Rattle.settings.specs.declared.State.{State}
 

@@ -7,7 +7,7 @@ use Rattle.codes.specs.declared.Distance.{Distance}
 use Rattle.codes.specs.declared.Distance.the-variants.{Absolute, Incremental}
 use Rattle.words.specs.declared.Given.{Given}
 use Rattle.words.specs.declared.Values.{Values}
-use Rattle.points.specs.declared.Point.{Point}
+use Rattle.lengths.specs.declared.Point.{Point}
 
 -- what a word counts from: its axis' origin in G90, where the axis is in G91
 unfoldable pub base : Distance → Len → Len → Len

@@ -6,7 +6,7 @@ use codes::Plane;
 use codes::Return;
 use codes::Unit;
 use lengths::Len;
-use points::Point;
+use lengths::Point;
 use words::Given;
 use words::Values;
 ghost use mathlib.Core.Path.{_≡_};

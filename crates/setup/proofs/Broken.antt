@@ -12,7 +12,7 @@ use lib.IntN.{ℤ}
 use lib.Signed.{leZ}
 use Rattle.terms.specs.Terms.{if_then_else_, all, between, within}
 use Rattle.terms.proofs.Laws.{both-left, both-right}
-use Rattle.points.specs.declared.Point.{Point}
+use Rattle.lengths.specs.declared.Point.{Point}
 use Rattle.setup.specs.declared.Axes.{Axes}
 use Rattle.setup.specs.declared.Setup.{Setup}
 use Rattle.setup.specs.Limits.{axisFits, travelLimit, travelFits, offsetLimit, axesWithin, offsetsFit, feedFits, rangeFits, speedFits, speedsFit, switchFits, validSetup}

@@ -2,7 +2,6 @@
 use Rattle.terms.proofs.Opened.{opened as terms-opened}
 use Rattle.lengths.proofs.Opened.{opened as lengths-opened}
 use Rattle.codes.proofs.Opened.{opened as codes-opened}
-use Rattle.points.proofs.Opened.{opened as points-opened}
 use Rattle.setup.specs.Frame.{offset, startOf, travelOf, bedOf, originAt, switchOn}
 use Rattle.setup.specs.Limits.{axisFits, travelFits, axesWithin, offsetsFit, feedFits, speedsFit, switchFits, validSetup}
 
@@ -11,7 +10,6 @@ unfolding
     terms-opened
     lengths-opened
     codes-opened
-    points-opened
     offset
     startOf
     travelOf

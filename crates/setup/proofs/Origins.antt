@@ -6,7 +6,7 @@ use native.Mathlib.Omega.{arith}
 use native.Mathlib.Numerals.{add-one}
 use lib.ListN.{length, take, drop, getD, set, length-set, drop-of-length-le}
 use lib.Seq.{take-all, take-suc-set, drop-cons}
-use Rattle.points.specs.declared.Point.{Point}
+use Rattle.lengths.specs.declared.Point.{Point}
 use Rattle.setup.specs.declared.Axes.{Axes}
 use Rattle.setup.specs.Frame.{pointOf}
 

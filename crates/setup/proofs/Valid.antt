@@ -14,9 +14,9 @@ use Rattle.lengths.specs.Units.{len}
 use Rattle.lengths.specs.View.{Within}
 use Rattle.lengths.proofs.Laws.{view, sum-bal, diff-bal}
 use Rattle.lengths.proofs.Tests.{within-near}
-use Rattle.points.specs.declared.Point.{Point}
-use Rattle.points.specs.Points.{moved, movedBack, inside}
-use Rattle.points.specs.Near.{Near}
+use Rattle.lengths.specs.declared.Point.{Point}
+use Rattle.lengths.specs.Points.{moved, movedBack, inside}
+use Rattle.lengths.specs.Near.{Near}
 use Rattle.setup.specs.declared.Axes.{Axes}
 use Rattle.setup.specs.declared.Setup.{Setup}
 use Rattle.setup.specs.Limits.{axisFits, travelFits, axesWithin, offsetsFit, feedFits, speedsFit, switchFits, validSetup}

@@ -3,8 +3,8 @@ use Prim.Native.Nat.{ℕ}
 use mathlib.Core.Path.{_≡_}
 use lib.ListN.{length}
 use Rattle.lengths.specs.View.{Within}
-use Rattle.points.specs.Points.{moved}
-use Rattle.points.specs.Near.{Near}
+use Rattle.lengths.specs.Points.{moved}
+use Rattle.lengths.specs.Near.{Near}
 use Rattle.setup.specs.declared.Bed.{Bed}
 use Rattle.setup.specs.Frame.{originAt}
 

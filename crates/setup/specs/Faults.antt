@@ -5,7 +5,7 @@ use mathlib.Core.List.{List, [], _∷_, _++_}
 use lib.IntN.{ℤ}
 use lib.Signed.{leZ}
 use Rattle.terms.specs.Terms.{if_then_else_, between, within}
-use Rattle.points.specs.declared.Point.{Point}
+use Rattle.lengths.specs.declared.Point.{Point}
 use Rattle.setup.specs.declared.Axes.{Axes}
 use Rattle.setup.specs.declared.Setup.{Setup}
 use Rattle.setup.specs.Limits.{travelLimit, offsetLimit, feedFits, rangeFits, speedFits, switchFits}

@@ -8,9 +8,9 @@ use lib.IntN.{pos}
 use lib.Signed.{ltZ}
 use lib.ListN.{getD}
 use Rattle.lengths.specs.Units.{len}
-use Rattle.points.specs.declared.Point.{Point}
-use Rattle.points.specs.declared.Travel.{Travel}
-use Rattle.points.specs.Points.{movedBack}
+use Rattle.lengths.specs.declared.Point.{Point}
+use Rattle.lengths.specs.declared.Travel.{Travel}
+use Rattle.lengths.specs.Points.{movedBack}
 use Rattle.setup.specs.declared.Axes.{Axes}
 use Rattle.setup.specs.declared.Setup.{Setup}
 use Rattle.setup.specs.declared.Bed.{Bed}

@@ -14,7 +14,7 @@ use crate::range_fits;
 use crate::speed_fits;
 use crate::switch_fits;
 use lengths::Len;
-use points::Point;
+use lengths::Point;
 ghost use mathlib.Core.Path.{_≡_};
 ghost use Rattle.setup.specs.Faults.{firstBroken, axisLimits, travelLimits, placeLimits, originLimits, numberLimits, faultOf};
 

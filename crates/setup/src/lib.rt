@@ -4,9 +4,9 @@ mod numbers_to_try;
 
 pub use faults::fault_of;
 use lengths::Len;
+use lengths::Point;
+use lengths::Travel;
 pub use numbers_to_try::setup_t;
-use points::Point;
-use points::Travel;
 ghost use mathlib.Core.Path.{_≡_};
 ghost use mathlib.Core.Bool.{true};
 ghost use mathlib.Core.List.{map};
@@ -178,7 +178,7 @@ pub fn start_of(s: Setup) -> Point
     requires { ⌜ validSetup s ≡ true ⌝ }
     ensures { λ r. ⌜ r ≡ startOf s ⌝ }
 {
-    points::moved_back(point_of(s.exofs), point_of(s.start))
+    lengths::moved_back(point_of(s.exofs), point_of(s.start))
 }
 
 fn travel_of(s: Setup) -> Travel
@@ -187,8 +187,8 @@ fn travel_of(s: Setup) -> Travel
 {
     let offset = point_of(s.exofs);
     Travel {
-        low: points::moved_back(offset, point_of(s.low)),
-        high: points::moved_back(offset, point_of(s.high)),
+        low: lengths::moved_back(offset, point_of(s.low)),
+        high: lengths::moved_back(offset, point_of(s.high)),
     }
 }
 

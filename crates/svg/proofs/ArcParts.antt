@@ -5,7 +5,7 @@ use mathlib.Core.Bool.{true, false}
 use mathlib.Core.List.{List}
 use native.Mathlib.Omega.{arith}
 use Rattle.terms.specs.Terms.{bytes}
-use Rattle.points.specs.declared.Flat.{Flat}
+use Rattle.lengths.specs.declared.Flat.{Flat}
 use Rattle.svg.specs.Text.{Fills, filled}
 use Rattle.svg.specs.Turns.{quarterOn, soon}
 use Rattle.svg.specs.declared.SeenArc.{SeenArc}

@@ -11,8 +11,8 @@ use Rattle.lengths.specs.View.{Within}
 use Rattle.lengths.proofs.Laws.{diff-bal}
 use Rattle.lengths.proofs.Tests.{within-near}
 use Rattle.lengths.proofs.Four.{four-short}
-use Rattle.points.specs.declared.Point.{Point}
-use Rattle.points.specs.Points.{flat}
+use Rattle.lengths.specs.declared.Point.{Point}
+use Rattle.lengths.specs.Points.{flat}
 use Rattle.records.specs.declared.Arc.{Arc}
 use Rattle.arcs.specs.Root.{Root, root}
 use Rattle.arcs.specs.Arcs.{centreOf, distance², radius²}

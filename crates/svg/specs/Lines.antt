@@ -2,8 +2,8 @@
 use Prim.Native.Nat.{ℕ}
 use mathlib.Core.List.{List}
 use Rattle.terms.specs.Terms.{bytes}
-use Rattle.points.specs.declared.Point.{Point}
-use Rattle.points.specs.declared.Flat.{Flat}
+use Rattle.lengths.specs.declared.Point.{Point}
+use Rattle.lengths.specs.declared.Flat.{Flat}
 use Rattle.svg.specs.declared.View.{View}
 use Rattle.svg.specs.declared.View.the-variants.{Above, Side}
 use Rattle.svg.specs.Text.{filled}

@@ -8,7 +8,7 @@ use lib.ListN.{length}
 use lib.Seq.{sets}
 use Rattle.terms.specs.Terms.{if_then_else_, bytes}
 use Rattle.lengths.specs.declared.Len.{Len}
-use Rattle.points.specs.declared.Flat.{Flat}
+use Rattle.lengths.specs.declared.Flat.{Flat}
 
 -- Bytes written over a buffer from a place on, as far as the buffer goes, every other byte as it was; and the place after
 -- those that it had room for.

@@ -11,9 +11,9 @@ use crate::quarters::radius_of;
 use crate::views::put_line;
 use crate::views::seen;
 use codes::Plane;
+use lengths::Flat;
 use lengths::Len;
-use points::Flat;
-use points::Point;
+use lengths::Point;
 use records::Arc;
 ghost use mathlib.Core.Path.{_≡_};
 ghost use lib.IntN.{pos};
@@ -59,8 +59,8 @@ fn seen_arc(view: View, from: Point, a: Arc, turn: bool) -> SeenArc
         from,
         arc: a,
         turn,
-        start: paths::from_centre(a, from),
-        end: paths::from_centre(a, end),
+        start: arcs::from_centre(a, from),
+        end: arcs::from_centre(a, end),
         radius: Len::of_count(radius_of(from, a)),
     }
 }
@@ -114,9 +114,9 @@ fn is_passed(s: SeenArc, e: Flat) -> bool
     ensures { λ r. ⌜ r ≡ passes s e ⌝ }
 {
     if s.turn {
-        return paths::is_on_left_way(s.start, s.end, e.first, e.second);
+        return arcs::is_on_left_way(s.start, s.end, e.first, e.second);
     }
-    paths::is_on_left_way(s.end, s.start, e.first, e.second)
+    arcs::is_on_left_way(s.end, s.start, e.first, e.second)
 }
 
 fn put_extremes(out: &mut [u8], at: usize, s: SeenArc) -> usize

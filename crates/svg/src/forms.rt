@@ -1,7 +1,7 @@
 // Writing text at a place of a buffer that may be too short for it. Each function writes what there is room for and answers
 // the place after it, so that a writer of many parts tests the room once, at the end.
+use lengths::Flat;
 use lengths::Len;
-use points::Flat;
 ghost use mathlib.Core.Path.{_≡_};
 ghost use mathlib.Core.List.{[], _∷_};
 ghost use Rattle.svg.specs.Text.{Fills, digits, number, across, filled};

@@ -1,8 +1,8 @@
 // Directions from the centre of an arc, a quarter of a turn after the other, and the points where they lead.
 use codes::Plane;
+use lengths::Flat;
 use lengths::Len;
-use points::Flat;
-use points::Point;
+use lengths::Point;
 use records::Arc;
 ghost use Prim.Native.Nat.{_≤_};
 ghost use mathlib.Core.Path.{_≡_};
@@ -21,8 +21,8 @@ pub fn is_drawable(from: Point, a: Arc) -> bool
 {
     let plane = a.plane;
     let end = a.end;
-    let start = points::in_plane(plane, from);
-    let last = points::in_plane(plane, end);
+    let start = lengths::in_plane(plane, from);
+    let last = lengths::in_plane(plane, end);
     is_near(start.first, a.first)
         & is_near(start.second, a.second)
         & (is_near(last.first, a.first) & is_near(last.second, a.second))
@@ -35,7 +35,7 @@ pub fn radius_of(from: Point, a: Arc) -> u64
     ensures { λ r. ⌜ (r ≡ radiusOf from a) × (r ≤ 2_147_483_647) ⌝ }
 {
     let plane = a.plane;
-    arcs::root_of(arcs::squared_distance(arcs::centre_of(a), points::in_plane(plane, from)))
+    arcs::root_of(arcs::squared_distance(arcs::centre_of(a), lengths::in_plane(plane, from)))
 }
 
 pub fn quarter_on(turn: bool, d: Flat) -> Flat
@@ -61,9 +61,9 @@ fn is_onward(turn: bool, d: Flat, w: Flat) -> bool
     ensures { λ r. ⌜ r ≡ onward turn d w ⌝ }
 {
     if turn {
-        return paths::is_left(d, w);
+        return arcs::is_left(d, w);
     }
-    paths::is_left(w, d)
+    arcs::is_left(w, d)
 }
 
 pub fn is_soon(turn: bool, d: Flat, w: Flat) -> bool

@@ -1,8 +1,8 @@
 // Points as they are seen, and lines as SVG text, in units.
 use crate::View;
 use crate::forms::put_form;
-use points::Flat;
-use points::Point;
+use lengths::Flat;
+use lengths::Point;
 ghost use mathlib.Core.Path.{_≡_};
 ghost use Rattle.svg.specs.Text.{Fills};
 ghost use Rattle.svg.specs.Lines.{seenFrom, line};

@@ -7,8 +7,8 @@ use native.Mathlib.Omega.{arith}
 use denote.Enum.Declared.{tagOf}
 use types.Run.{OneOf, miss}
 use lib.ListN.{length}
-use Rattle.points.specs.declared.Point.{Point}
-use Rattle.points.specs.declared.Travel.{Travel}
+use Rattle.lengths.specs.declared.Point.{Point}
+use Rattle.lengths.specs.declared.Travel.{Travel}
 use Rattle.records.specs.declared.Record.{Record}
 use Rattle.records.specs.declared.Kind.the-variants.{SO as so}
 use Rattle.records.specs.Layout.{kindLength, listBytes, roomOf}

@@ -6,11 +6,11 @@ use native.Mathlib.Omega.{arith}
 use lib.IntN.{ℤ}
 use borrow.Author.Tests.{not-false}
 use Rattle.words.specs.declared.Values.{Values}
-use Rattle.points.specs.declared.Point.{Point}
-use Rattle.points.specs.declared.Flat.{Flat}
-use Rattle.points.specs.Points.{moved, flat}
-use Rattle.points.specs.Near.{Near}
-use Rattle.points.proofs.Near.{flat-near}
+use Rattle.lengths.specs.declared.Point.{Point}
+use Rattle.lengths.specs.declared.Flat.{Flat}
+use Rattle.lengths.specs.Points.{moved, flat}
+use Rattle.lengths.specs.Near.{Near}
+use Rattle.lengths.proofs.Near.{flat-near}
 use Rattle.settings.specs.declared.State.{State}
 use Rattle.records.specs.declared.Arc.{Arc}
 use Rattle.arcs.specs.Arcs.{centreOf}

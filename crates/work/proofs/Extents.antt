@@ -7,9 +7,9 @@ use native.Mathlib.Omega.{arith}
 use lib.ListN.{length, drop, length-append, length-drop}
 use Rattle.terms.specs.Terms.{if_then_else_}
 use Rattle.lengths.specs.declared.Len.{Len}
-use Rattle.points.specs.declared.Point.{Point}
-use Rattle.points.specs.declared.Travel.{Travel}
-use Rattle.points.specs.Points.{inside}
+use Rattle.lengths.specs.declared.Point.{Point}
+use Rattle.lengths.specs.declared.Travel.{Travel}
+use Rattle.lengths.specs.Points.{inside}
 use Rattle.records.specs.declared.Record.{Record}
 use Rattle.records.specs.Layout.{kindOf, kindLength, roomOf}
 use Rattle.records.specs.Path.{pathOf, pathEnd, endOf, pathStaysIn}

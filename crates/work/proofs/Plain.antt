@@ -11,8 +11,8 @@ use Rattle.codes.specs.declared.Cycle.the-variants.{G81, G82, G85, G89}
 use Rattle.codes.specs.declared.Return.{Return}
 use Rattle.codes.specs.declared.Return.the-variants.{ToInitial, ToR}
 use Rattle.words.specs.declared.Given.{Given}
-use Rattle.points.specs.declared.Point.{Point}
-use Rattle.points.specs.declared.Travel.{Travel}
+use Rattle.lengths.specs.declared.Point.{Point}
+use Rattle.lengths.specs.declared.Travel.{Travel}
 use Rattle.records.specs.declared.Record.{Record}
 use Rattle.records.specs.declared.Record.the-variants.{RP, LN, DW}
 use Rattle.records.specs.Path.{pathOf}

@@ -16,8 +16,8 @@ use Rattle.codes.specs.declared.Cycle.{Cycle}
 use Rattle.codes.specs.declared.Distance.{Distance}
 use Rattle.codes.specs.declared.Motion.the-variants.{Off, G00, G01, G02, G03, Drilling}
 use Rattle.words.specs.declared.Values.{Values}
-use Rattle.points.specs.declared.Point.{Point}
-use Rattle.points.specs.Points.{atHeight}
+use Rattle.lengths.specs.declared.Point.{Point}
+use Rattle.lengths.specs.Points.{atHeight}
 use Rattle.records.specs.declared.Arc.{Arc}
 use Rattle.records.specs.declared.Record.{Record}
 use Rattle.records.specs.declared.Record.the-variants.{RP, LN, AR, AL, DW, PA}

@@ -6,10 +6,10 @@ use Rattle.lengths.specs.View.{Within}
 use Rattle.codes.specs.declared.Cycle.{Cycle}
 use Rattle.codes.specs.declared.Motion.the-variants.{Drilling}
 use Rattle.words.specs.declared.Values.{Values}
-use Rattle.points.specs.declared.Point.{Point}
-use Rattle.points.specs.declared.Travel.{Travel}
-use Rattle.points.specs.Points.{inside}
-use Rattle.points.specs.Near.{Near}
+use Rattle.lengths.specs.declared.Point.{Point}
+use Rattle.lengths.specs.declared.Travel.{Travel}
+use Rattle.lengths.specs.Points.{inside}
+use Rattle.lengths.specs.Near.{Near}
 use Rattle.records.specs.declared.Arc.{Arc}
 use Rattle.records.specs.declared.Record.{Record}
 use Rattle.records.specs.declared.Record.the-variants.{RP, LN, AR, AL, DW, SP, SO, PA, EN}

@@ -5,8 +5,8 @@ use mathlib.Core.List.{List, [], _∷_, _++_}
 use lib.ListN.{length}
 use Rattle.terms.specs.Terms.{if_then_else_}
 use Rattle.lengths.specs.declared.Len.{Len}
-use Rattle.points.specs.declared.Point.{Point}
-use Rattle.points.specs.declared.Travel.{Travel}
+use Rattle.lengths.specs.declared.Point.{Point}
+use Rattle.lengths.specs.declared.Travel.{Travel}
 use Rattle.words.specs.declared.Values.{Values}
 use Rattle.records.specs.declared.Arc.{Arc}
 use Rattle.records.specs.declared.Record.{Record}

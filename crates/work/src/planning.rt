@@ -3,10 +3,10 @@ use crate::Pass;
 use crate::Work;
 use codes::Cycle;
 use codes::Motion;
+use lengths::Flat;
 use lengths::Len;
+use lengths::Point;
 use letters::BlockCode;
-use points::Flat;
-use points::Point;
 use records::Arc;
 use records::Record;
 use settings::State;
@@ -77,8 +77,8 @@ fn radius_fits(s: State, v: Values, end: Point) -> bool
     }
     centres::radius_holds(
         r.v,
-        points::in_plane(plane, at),
-        points::in_plane(plane, end),
+        lengths::in_plane(plane, at),
+        lengths::in_plane(plane, end),
     )
 }
 
@@ -95,11 +95,11 @@ fn centre_for(left: bool, s: State, v: Values, end: Point) -> Flat
         return centres::centre_by(
             left,
             r.v,
-            points::in_plane(plane, at),
-            points::in_plane(plane, end),
+            lengths::in_plane(plane, at),
+            lengths::in_plane(plane, end),
         );
     }
-    points::in_plane(plane, points::moved(centre_words(v), at))
+    lengths::in_plane(plane, lengths::moved(centre_words(v), at))
 }
 
 fn arc_to(left: bool, s: State, v: Values, end: Point) -> Arc

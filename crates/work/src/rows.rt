@@ -1,7 +1,7 @@
 // The records of one pass: how many they are, which is the i-th, and where they end.
 use crate::Pass;
 use lengths::Len;
-use points::Point;
+use lengths::Point;
 use records::Record;
 ghost use Prim.Native.Nat.{_<_, _≤_};
 ghost use mathlib.Core.Path.{_≡_};

@@ -6,12 +6,12 @@ use crate::Pass;
 use crate::Way;
 use crate::Work;
 use crate::rows;
-use points::Point;
-use points::Travel;
+use lengths::Point;
+use lengths::Travel;
 use records::Kind;
 ghost use Prim.Native.Nat.{_+_, _^_, _≤_};
 ghost use mathlib.Core.Path.{_≡_};
-ghost use Rattle.points.specs.Near.{Near};
+ghost use Rattle.lengths.specs.Near.{Near};
 ghost use Rattle.work.specs.Work.{rowsOf, workRecords, briefRecords, passFits, grown, wayOf};
 ghost use Rattle.work.specs.Needs.{PassLoose, PassReady, Little, Testable};
 
@@ -64,7 +64,7 @@ fn check_pass(t: Travel, pass: Pass, to: Point, e: Extent) -> Way
     let mut i = 0;
     while i < n {
         let r = rows::row_at(pass, i, level, to);
-        if !paths::path_stays(t, end, r) {
+        if !arcs::path_stays(t, end, r) {
             return Way::Leaves;
         }
         end = records::path_end(end, r);

@@ -5,7 +5,7 @@ use crate::Pass;
 use crate::Work;
 use crate::rows;
 use lengths::Len;
-use points::Point;
+use lengths::Point;
 use records::Kind;
 ghost use Prim.Native.Nat.{_+_, _≤_};
 ghost use lib.ListN.{length};
@@ -23,12 +23,12 @@ pub fn put_brief(list: &mut [u8], at: usize, b: Brief) -> usize
 {
     match b {
         Brief::Speed(speed) => {
-            let next = storing::put_mark(list, at, Kind::SP);
-            storing::put_number(list, next, speed)
+            let next = records::put_mark(list, at, Kind::SP);
+            records::put_number(list, next, speed)
         }
-        Brief::SpindleOff => storing::put_mark(list, at, Kind::SO),
-        Brief::Pause => storing::put_mark(list, at, Kind::PA),
-        Brief::End => storing::put_mark(list, at, Kind::EN),
+        Brief::SpindleOff => records::put_mark(list, at, Kind::SO),
+        Brief::Pause => records::put_mark(list, at, Kind::PA),
+        Brief::End => records::put_mark(list, at, Kind::EN),
         Brief::Nothing => at,
     }
 }
@@ -42,7 +42,7 @@ fn put_pass(list: &mut [u8], at: usize, offset: Point, pass: Pass, level: Len, t
     let mut next = at;
     let mut i = 0;
     while i < n {
-        next = storing::put(list, next, offset, rows::row_at(pass, i, level, to));
+        next = records::put(list, next, offset, rows::row_at(pass, i, level, to));
         i += 1;
     }
     next

@@ -1,7 +1,7 @@
 -- `cycles::pass_end` meets its contract, with Z and without. Assumes nothing.
 use mathlib.Core.Path.{sym, _∙_, ap}
 use borrow.Author.Needs.{needs}
-use Rattle.points.specs.Points.{atHeight}
+use Rattle.lengths.specs.Points.{atHeight}
 use Rattle.cycles.proofs.Passes.{ends-with-z, ends-without-z}
 use Rattle.cycles.proofs.pass_end.Statement.{statement}
 use Rattle.cycles.proofs.pass_end.Tie as tie

@@ -2,8 +2,8 @@
 use native.Mathlib.Omega.{arith}
 use borrow.Author.Needs.{needs}
 use Prim.Native.Nat.{_^_}
-use Rattle.points.specs.Near.{FlatNear}
-use Rattle.points.proofs.Near.{flat-near}
+use Rattle.lengths.specs.Near.{FlatNear}
+use Rattle.lengths.proofs.Near.{flat-near}
 use Rattle.records.specs.Path.{arcMoved}
 use Rattle.records.proofs.displacing.displaced_arc.Statement.{statement}
 use Rattle.records.proofs.displacing.displaced_arc.Tie as tie

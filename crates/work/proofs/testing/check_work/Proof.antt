@@ -5,7 +5,7 @@ use Prim.Native.Nat.{_≤_}
 use mathlib.Core.Path.{_≡_, sym, _∙_}
 use lib.ListN.{length}
 use Rattle.lengths.specs.declared.Len.{Len}
-use Rattle.points.specs.declared.Point.{Point}
+use Rattle.lengths.specs.declared.Point.{Point}
 use Rattle.work.specs.declared.Pass.{Pass}
 use Rattle.work.specs.Work.{rowsOf}
 use Rattle.work.proofs.Extents.{rows-few}

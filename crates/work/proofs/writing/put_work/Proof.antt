@@ -4,7 +4,7 @@ use native.Mathlib.Omega.{arith}
 use Prim.Native.Nat.{ℕ, _-_}
 use mathlib.Core.Path.{refl}
 use mathlib.Core.List.{List}
-use Rattle.points.specs.declared.Point.{Point}
+use Rattle.lengths.specs.declared.Point.{Point}
 use Rattle.codes.specs.declared.Distance.{Distance}
 use Rattle.words.specs.declared.Values.{Values}
 use Rattle.records.specs.declared.Record.{Record}

@@ -1,2 +1,0 @@
-pub mod Near
-pub mod Opened

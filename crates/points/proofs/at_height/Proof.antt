@@ -1,9 +1,0 @@
--- `points::at_height` meets its contract. Assumes nothing.
-use mathlib.Core.Path.{refl}
-use Rattle.points.specs.Points.{atHeight}
-use Rattle.points.proofs.at_height.Statement.{statement}
-use Rattle.points.proofs.at_height.Tie as tie
-
-pub at-height-spec : {M : Type 1} → statement M
-unfolding atHeight
-at-height-spec = tie.close (tie.spec (λ c. refl))

@@ -1,0 +1,104 @@
+// Writing one record at a place of a list. Each function answers the place after what it wrote.
+use crate::Arc;
+use crate::Kind;
+use crate::Record;
+use codes::Plane;
+use lengths::Len;
+use lengths::Point;
+ghost use Prim.Native.Nat.{_+_, _≤_};
+ghost use mathlib.Core.Path.{_≡_};
+ghost use mathlib.Core.List.{[], _∷_, _++_};
+ghost use lib.ListN.{length};
+ghost use Rattle.lengths.specs.View.{Short};
+ghost use Rattle.records.specs.Layout.{kindOf, markOf, planeByte, planeBytes, pointNumbers, arcNumbers, numbersOf, numberBytes, kindLength};
+ghost use Rattle.records.specs.Path.{recordMoved};
+ghost use Rattle.records.specs.Writing.{AllShort, Displaceable, movedBytes, RoomFor};
+ghost use Rattle.records.specs.Serving.{Wrote};
+
+pub fn put_number(list: &mut [u8], at: usize, n: Len) -> usize
+    requires { ⌜ at + 4 ≤ length (now list) ⌝ }
+    requires { ⌜ Short (n .v) ⌝ }
+    ensures { λ next. ⌜ Wrote (now (list .entry)) at (numberBytes (n ∷ [])) (now (list .exit)) next ⌝ }
+{
+    let four = n.bytes();
+    list[at] = four[0];
+    list[at + 1] = four[1];
+    list[at + 2] = four[2];
+    list[at + 3] = four[3];
+    at + 4
+}
+
+fn put_point(list: &mut [u8], at: usize, p: Point) -> usize
+    requires { ⌜ at + 12 ≤ length (now list) ⌝ }
+    requires { ⌜ AllShort (pointNumbers p []) ⌝ }
+    ensures { λ next. ⌜ Wrote (now (list .entry)) at (numberBytes (pointNumbers p [])) (now (list .exit)) next ⌝ }
+{
+    let x = put_number(list, at, p.x);
+    let y = put_number(list, x, p.y);
+    put_number(list, y, p.z)
+}
+
+fn plane_byte(plane: Plane) -> u8
+    ensures { λ b. ⌜ b ≡ planeByte plane ⌝ }
+{
+    match plane {
+        Plane::G17 => 17,
+        Plane::G18 => 18,
+        Plane::G19 => 19,
+    }
+}
+
+fn put_arc(list: &mut [u8], at: usize, a: Arc) -> usize
+    requires { ⌜ at + 25 ≤ length (now list) ⌝ }
+    requires { ⌜ AllShort (arcNumbers a) ⌝ }
+    ensures { λ next. ⌜ Wrote (now (list .entry)) at (planeByte (a .plane) ∷ numberBytes (arcNumbers a)) (now (list .exit)) next ⌝ }
+{
+    let plane = a.plane;
+    let end = a.end;
+    list[at] = plane_byte(plane);
+    let first = put_point(list, at + 1, end);
+    let second = put_number(list, first, a.first);
+    let feed = put_number(list, second, a.second);
+    put_number(list, feed, a.feed)
+}
+
+pub fn put_mark(list: &mut [u8], at: usize, kind: Kind) -> usize
+    requires { ⌜ at + 2 ≤ length (now list) ⌝ }
+    ensures { λ next. ⌜ Wrote (now (list .entry)) at (markOf kind) (now (list .exit)) next ⌝ }
+{
+    let mark = crate::mark_of(kind);
+    list[at] = mark[0];
+    list[at + 1] = mark[1];
+    at + 2
+}
+
+// What comes after the mark, in machine units: the offset is added as the record is written, so that no displaced copy of it is made.
+fn put_body(list: &mut [u8], at: usize, by: Point, r: Record) -> usize
+    requires { ⌜ at + kindLength (kindOf r) ≤ length (now list) + 2 ⌝ }
+    requires { ⌜ Displaceable by r ⌝ }
+    ensures { λ next. ⌜ Wrote (now (list .entry)) at (planeBytes (recordMoved by r) ++ numberBytes (numbersOf (recordMoved by r))) (now (list .exit)) next ⌝ }
+{
+    match r {
+        Record::RP(p) => put_point(list, at, lengths::moved(by, p)),
+        Record::LN(p, feed) => {
+            let next = put_point(list, at, lengths::moved(by, p));
+            put_number(list, next, feed)
+        }
+        Record::AR(a) => put_arc(list, at, crate::displaced_arc(by, a)),
+        Record::AL(a) => put_arc(list, at, crate::displaced_arc(by, a)),
+        Record::DW(ms) => put_number(list, at, ms),
+        Record::SP(speed) => put_number(list, at, speed),
+        Record::SO => at,
+        Record::PA => at,
+        Record::EN => at,
+    }
+}
+
+// Writes a record at a place, in machine units; every other byte of the list stays as it is.
+pub fn put(list: &mut [u8], at: usize, by: Point, r: Record) -> usize
+    requires { ⌜ RoomFor (now list) at by (r ∷ []) ⌝ }
+    ensures { λ next. ⌜ Wrote (now (list .entry)) at (movedBytes by (r ∷ [])) (now (list .exit)) next ⌝ }
+{
+    let body = put_mark(list, at, crate::kind_of(r));
+    put_body(list, body, by, r)
+}
