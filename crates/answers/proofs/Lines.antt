@@ -1,15 +1,6 @@
 -- The block around a place of the data. Assumes nothing.
-use Prim.Native.Nat.{ℕ, suc, _+_, _≤_, _<_}
-use mathlib.Core.Path.{_≡_, ap}
-use mathlib.Core.Bool.{true, false, true≢false}
-use mathlib.Core.List.{List}
-use native.Mathlib.Omega.{arith}
-use native.Mathlib.Decide.{decLt, ℕ-discrete}
-use lib.ListN.{length, drop, getD, drop-of-length-le}
-use borrow.Author.Tests.{eq-eqb, ne-eqb}
-use Rattle.lines.specs.Blocks.{isLf, textFrom, noText}
-use Rattle.lines.proofs.Lines.{at-place}
-use Rattle.lines.proofs.Laws.{text-none, text-at}
+use Rattle.terms.proofs.Common.{ℕ, suc, _+_, _≤_, _<_, _≡_, ap, true, false, List, arith, ℕ-discrete, length, drop, getD, eq-eqb, ne-eqb}
+use Rattle.lines.{specs.Blocks.isLf, specs.Blocks.textFrom, specs.Blocks.noText, proofs.Laws.text-none, proofs.Laws.text-at}
 use Rattle.answers.specs.Places.{Begins}
 
 module _ (l : List ℕ) (i : ℕ) where

@@ -1,9 +1,5 @@
 -- Where a byte of the data stands: the text of its block around it.
-use Prim.Native.Nat.{ℕ, _+_, _≤_, _<_}
-use mathlib.Core.Path.{_≡_}
-use mathlib.Core.Bool.{true, false}
-use mathlib.Core.List.{List}
-use lib.ListN.{getD}
+use Rattle.terms.specs.Common.{ℕ, _+_, _≤_, _<_, _≡_, true, false, List, getD}
 use Rattle.lines.specs.Blocks.{isLf}
 
 -- The block that a place lies in begins here: no LF stands between, and just before it the data begins or an LF stands.

@@ -1,13 +1,8 @@
 -- Which extremes are inside, by computation. Assumes nothing.
-use Prim.Native.Nat.{ℕ}
-use mathlib.Core.Path.{_≡_, refl}
-use mathlib.Core.Bool.{Bool, true, false}
-use lib.IntN.{pos}
-use Rattle.lengths.specs.Units.{len}
+use Rattle.terms.proofs.Common.{ℕ, _≡_, refl, Bool, true, false, pos}
+use Rattle.lengths.specs.{Units.len, declared.Point.Point}
 use Rattle.codes.specs.declared.Plane.the-variants.{G17}
-use Rattle.lengths.specs.declared.Point.{Point}
-use Rattle.records.specs.declared.Arc.{Arc}
-use Rattle.records.specs.Path.{Path, clockwise, counter}
+use Rattle.records.specs.{declared.Arc.Arc, Path.Path, Path.clockwise, Path.counter}
 use Rattle.arcs.specs.Arcs.{pathStays}
 use Rattle.arcs.proofs.Opened.{opened}
 

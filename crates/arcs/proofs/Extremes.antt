@@ -1,21 +1,9 @@
 -- The tests of an extreme by squares are exact: they are the comparisons with the real root. Assumes nothing.
-use Prim.Native.Nat.{ℕ, _+_, _-_, _*_, _≤_, _<_}
-use mathlib.Core.Path.{_≡_, refl, ap}
-use mathlib.Core.Bool.{Bool, true, false, or-true}
-use native.Mathlib.Nat.{mul-le-mul-right}
-use native.Mathlib.Decide.{decLe}
-use native.Mathlib.Omega.{arith}
-use lib.Dec.{leb}
-use lib.IntN.{pos, _+ℤ_, _-ℤ_, _*ℤ_, natAbs}
-use lib.Signed.{leZ}
-use borrow.Author.Tests.{leb-true, le-leb}
+use Rattle.terms.proofs.Common.{ℕ, _+_, _-_, _*_, _≤_, _<_, _≡_, refl, ap, Bool, true, false, or-true, mul-le-mul-right, decLe, arith, leb, pos, _+ℤ_, _-ℤ_, _*ℤ_, natAbs, leZ, leb-true, le-leb}
 use Rattle.terms.proofs.Laws.{both-left, both-right}
-use Rattle.lengths.specs.declared.Len.{Len}
-use Rattle.lengths.specs.View.{over, under}
-use Rattle.lengths.proofs.Laws.{view, diff-bal, abs-sum}
-use Rattle.lengths.proofs.Ring.{var, _⊞_, _⊠_, most}
-use Rattle.arcs.specs.Arcs.{notAbove, notBelow}
-use Rattle.arcs.specs.Exact.{RootBetween, RootReaches}
+use Rattle.lengths.specs.{declared.Len.Len, View.over, View.under}
+use Rattle.lengths.proofs.{Laws.view, Laws.diff-bal, Laws.abs-sum, Ring.var, Ring._⊞_, Ring._⊠_, Ring.most}
+use Rattle.arcs.specs.{Arcs.notAbove, Arcs.notBelow, Exact.RootBetween, Exact.RootReaches}
 use Rattle.arcs.proofs.Root.{square-lt}
 
 -- a number whose square is at most another's is at most it

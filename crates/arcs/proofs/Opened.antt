@@ -3,9 +3,8 @@ use Rattle.terms.proofs.Opened.{opened as terms-opened}
 use Rattle.lengths.proofs.Opened.{opened as lengths-opened}
 use Rattle.codes.proofs.Opened.{opened as codes-opened}
 use Rattle.records.proofs.Opened.{opened as records-opened}
+use Rattle.arcs.specs.{Root.nextRoot, Root.rootBelow, Turning.direction, Turning.cross, Turning.dot, Turning.left, Turning.onLeftWay}
 use Rattle.arcs.specs.Arcs.{distance², radius², roundEnough, arcHolds, notAbove, notBelow, coordinateInside, extremeInside, extremesInside, leftWay, rightWay, arcStays, pathStays, centreFits}
-use Rattle.arcs.specs.Root.{nextRoot, rootBelow}
-use Rattle.arcs.specs.Turning.{direction, cross, dot, left, onLeftWay}
 
 unfoldable pub opened : Unit {0}
 unfolding

@@ -1,25 +1,10 @@
 -- Laws of the paths of records, one list after another, and of where they end. Assumes nothing.
-use mathlib.Core.Path.{_≡_, refl, sym, _∙_, ap}
-use mathlib.Core.Bool.{Bool, true, _&&_, and-assoc}
-use mathlib.Core.List.{List, [], _∷_, _++_}
-use native.Mathlib.Omega.{arith}
-use Prim.Native.Nat.{ℕ}
-use lib.Signed.{leZ}
-use Rattle.terms.specs.Terms.{between}
-use Rattle.terms.proofs.Laws.{both-left, both-right}
-use Rattle.lengths.specs.declared.Len.{Len}
-use Rattle.lengths.specs.View.{Within}
+use Rattle.terms.proofs.Common.{_≡_, refl, sym, _∙_, ap, Bool, true, _&&_, and-assoc, List, [], _∷_, _++_, arith, ℕ, leZ}
+use Rattle.terms.{specs.Terms.between, proofs.Laws.both-left, proofs.Laws.both-right}
+use Rattle.lengths.specs.{declared.Len.Len, View.Within, declared.Flat.Flat, declared.Point.Point, declared.Travel.Travel, Points.flat, Points.inside, Near.Near}
 use Rattle.lengths.proofs.Laws.{view}
-use Rattle.lengths.specs.declared.Flat.{Flat}
-use Rattle.lengths.specs.declared.Point.{Point}
-use Rattle.lengths.specs.declared.Travel.{Travel}
-use Rattle.lengths.specs.Points.{flat, inside}
-use Rattle.lengths.specs.Near.{Near}
-use Rattle.records.specs.declared.Arc.{Arc}
-use Rattle.records.specs.declared.Record.{Record}
-use Rattle.records.specs.Path.{Path, straight, clockwise, counter, still, pathOf, pathEnd, endOf, pathStaysIn}
-use Rattle.arcs.specs.Arcs.{centreOf, radius², extremesInside, leftWay, rightWay, arcStays, pathStays}
-use Rattle.arcs.specs.Staying.{staysIn}
+use Rattle.records.specs.{declared.Arc.Arc, declared.Record.Record, Path.Path, Path.straight, Path.clockwise, Path.counter, Path.still, Path.pathOf, Path.pathEnd, Path.endOf, Path.pathStaysIn}
+use Rattle.arcs.specs.{Arcs.centreOf, Arcs.radius², Arcs.extremesInside, Arcs.leftWay, Arcs.rightWay, Arcs.arcStays, Arcs.pathStays, Staying.staysIn}
 
 pub end-append : (from : Point) (a b : List Record) → endOf from (a ++ b) ≡ endOf (endOf from a) b
 unfolding endOf

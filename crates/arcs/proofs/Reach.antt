@@ -1,25 +1,12 @@
 -- What the bounds of a run give: the squared radius and the root are small, an end that is accepted is near the centre, and
 -- the extremes can be tested. Assumes nothing.
-use Prim.Native.Nat.{ℕ, _+_, _-_, _*_, _≤_, _<_}
-use mathlib.Core.Path.{_≡_}
-use mathlib.Core.Bool.{true, false, _&&_, and-false}
-use native.Mathlib.Nat.{mul-le-mul}
-use native.Mathlib.Omega.{arith}
-use lib.Dec.{leb}
-use lib.IntN.{_-ℤ_, natAbs}
-use borrow.Author.Tests.{leb-true, lt-leb}
+use Rattle.terms.proofs.Common.{ℕ, _+_, _-_, _*_, _≤_, _<_, _≡_, true, false, _&&_, and-false, mul-le-mul, arith, leb, _-ℤ_, natAbs, leb-true, lt-leb}
 use Rattle.terms.proofs.Laws.{both-right}
-use Rattle.lengths.specs.View.{Within}
+use Rattle.lengths.specs.{View.Within, declared.Point.Point, declared.Flat.Flat, declared.Travel.Travel, Points.flat}
 use Rattle.lengths.proofs.Laws.{diff-bal, sq-near, near-sq}
-use Rattle.codes.specs.declared.Plane.{Plane}
-use Rattle.codes.specs.declared.Plane.the-variants.{G17, G18, G19}
-use Rattle.lengths.specs.declared.Point.{Point}
-use Rattle.lengths.specs.declared.Flat.{Flat}
-use Rattle.lengths.specs.declared.Travel.{Travel}
-use Rattle.lengths.specs.Points.{flat}
+use Rattle.codes.specs.declared.Plane.{Plane, the-variants.G17, the-variants.G18, the-variants.G19}
 use Rattle.records.specs.declared.Arc.{Arc}
-use Rattle.arcs.specs.Root.{Root, root}
-use Rattle.arcs.specs.Arcs.{distance², centreOf, radius², roundEnough, arcHolds}
+use Rattle.arcs.specs.{Root.Root, Root.root, Arcs.distance², Arcs.centreOf, Arcs.radius², Arcs.roundEnough, Arcs.arcHolds}
 use Rattle.arcs.specs.Bounds.{Reach, Beside, Small, Bounds, Framed}
 use Rattle.arcs.proofs.Root.{root-is, square-lt}
 

@@ -1,10 +1,5 @@
 -- The root that the rules compute is the largest whole number whose square is not above, and there is only one such number.
-use Prim.Native.Nat.{ℕ, zero, suc, _+_, _-_, _*_, _/_, _%_, _^_, _<_, _≤_}
-use mathlib.Core.Path.{_≡_, sym, ap, _∙_}
-use native.Mathlib.Omega.{arith}
-use native.Mathlib.Nat.{pow-succ', mul-le-mul, not-le-of-lt, div-div-eq-div-mul}
-use native.Mathlib.Decide.{decLe, decLt}
-use borrow.Author.Tests.{le-leb, lt-leb}
+use Rattle.terms.proofs.Common.{ℕ, zero, suc, _+_, _-_, _*_, _/_, _%_, _^_, _<_, _≤_, _≡_, sym, ap, _∙_, arith, pow-succ', mul-le-mul, not-le-of-lt, div-div-eq-div-mul, decLe, decLt, le-leb, lt-leb}
 use Rattle.arcs.specs.Root.{Root, nextRoot, rootBelow, root}
 
 -- one step: from the root s of a quarter of q to the root of q

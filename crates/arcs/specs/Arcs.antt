@@ -1,20 +1,9 @@
 -- Document 01, "G02, G03": the radius, the end's tolerance, and the path of an arc in the travel.
-use Prim.Native.Nat.{ℕ, _+_, _-_, _*_}
-use mathlib.Core.Bool.{Bool, true, not, _&&_, _||_}
-use lib.Dec.{leb}
-use lib.IntN.{ℤ, pos, negsuc, _-ℤ_}
-use lib.Signed.{leZ, ltZ}
+use Rattle.terms.specs.Common.{ℕ, _+_, _-_, _*_, Bool, true, not, _&&_, _||_, leb, ℤ, pos, negsuc, _-ℤ_, leZ, ltZ}
 use Rattle.terms.specs.Terms.{if_then_else_, between}
-use Rattle.lengths.specs.Units.{len, sq, fitsFour}
-use Rattle.lengths.specs.declared.Len.{Len}
-use Rattle.lengths.specs.declared.Point.{Point}
-use Rattle.lengths.specs.declared.Flat.{Flat}
-use Rattle.lengths.specs.declared.Travel.{Travel}
-use Rattle.lengths.specs.Points.{flat, inside}
-use Rattle.records.specs.declared.Arc.{Arc}
-use Rattle.records.specs.Path.{Path, straight, clockwise, counter, still}
-use Rattle.arcs.specs.Root.{root}
-use Rattle.arcs.specs.Turning.{direction, onLeftWay}
+use Rattle.lengths.specs.{Units.len, Units.sq, Units.fitsFour, declared.Len.Len, declared.Point.Point, declared.Flat.Flat, declared.Travel.Travel, Points.flat, Points.inside}
+use Rattle.records.specs.{declared.Arc.Arc, Path.Path, Path.straight, Path.clockwise, Path.counter, Path.still}
+use Rattle.arcs.specs.{Root.root, Turning.direction, Turning.onLeftWay}
 
 -- the squared distance of two points of a plane
 unfoldable pub distance² : Flat → Flat → ℕ

@@ -1,17 +1,8 @@
 -- The bounds under which every product of the arc rule fits 64 bits, as linear facts of naturals (specs/View.antt of `lengths`).
-use Prim.Native.Nat.{ℕ, _+_, _≤_}
-use mathlib.Core.Path.{_≡_}
-use mathlib.Core.Bool.{true}
-use Rattle.lengths.specs.declared.Len.{Len}
-use Rattle.lengths.specs.View.{over, under, Within}
-use Rattle.lengths.specs.declared.Point.{Point}
-use Rattle.lengths.specs.declared.Flat.{Flat}
-use Rattle.lengths.specs.declared.Travel.{Travel}
-use Rattle.lengths.specs.Points.{flat}
-use Rattle.records.specs.declared.Arc.{Arc}
-use Rattle.records.specs.Path.{Path, straight, clockwise, counter, still}
-use Rattle.arcs.specs.Turning.{direction}
-use Rattle.arcs.specs.Arcs.{centreOf, arcHolds}
+use Rattle.terms.specs.Common.{ℕ, _+_, _≤_, _≡_, true}
+use Rattle.lengths.specs.{declared.Len.Len, View.over, View.under, View.Within, declared.Point.Point, declared.Flat.Flat, declared.Travel.Travel, Points.flat}
+use Rattle.records.specs.{declared.Arc.Arc, Path.Path, Path.straight, Path.clockwise, Path.counter, Path.still}
+use Rattle.arcs.specs.{Turning.direction, Arcs.centreOf, Arcs.arcHolds}
 
 -- a and b are at most n apart
 pub record Close (n : ℕ) (a b : Len) : Type 0 where

@@ -1,9 +1,5 @@
 -- What it is that a length plus a real root is not above another length, and that it is not below one.
-use Prim.Native.Nat.{ℕ, _*_, _≤_}
-use mathlib.Core.Path.{_≡_}
-use mathlib.Core.Bool.{true}
-use lib.IntN.{pos, _+ℤ_, _*ℤ_}
-use lib.Signed.{leZ}
+use Rattle.terms.specs.Common.{ℕ, _*_, _≤_, _≡_, true, pos, _+ℤ_, _*ℤ_, leZ}
 use Rattle.lengths.specs.declared.Len.{Len}
 
 -- The real root of q is the least number that is not below any fraction p / n whose square is at most q. So a plus the root is not

@@ -1,6 +1,5 @@
 -- "Let r be the largest whole number whose square is not above the squared start radius."
-use Prim.Native.Nat.{ℕ, zero, suc, _+_, _*_, _/_, _<_, _≤_}
-use lib.Dec.{leb}
+use Rattle.terms.specs.Common.{ℕ, zero, suc, _+_, _*_, _/_, _<_, _≤_, leb}
 use Rattle.terms.specs.Terms.{if_then_else_}
 
 -- r is the largest whole number whose square is not above q

@@ -1,10 +1,7 @@
 -- Whether the paths of records stay in the travel, one after the other.
-use mathlib.Core.Bool.{Bool}
-use mathlib.Core.List.{List}
-use Rattle.lengths.specs.declared.Point.{Point}
-use Rattle.lengths.specs.declared.Travel.{Travel}
-use Rattle.records.specs.declared.Record.{Record}
-use Rattle.records.specs.Path.{pathOf, pathStaysIn}
+use Rattle.terms.specs.Common.{Bool, List}
+use Rattle.lengths.specs.declared.{Point.Point, Travel.Travel}
+use Rattle.records.specs.{declared.Record.Record, Path.pathOf, Path.pathStaysIn}
 use Rattle.arcs.specs.Arcs.{pathStays}
 
 -- every path of records that begin at a point stays in the travel

@@ -1,10 +1,7 @@
 -- Directions in a plane, and which of them lie on the way of an arc.
-use mathlib.Core.Bool.{Bool, true, not, _&&_}
-use lib.IntN.{ℤ, pos, _+ℤ_, _-ℤ_, _*ℤ_}
-use lib.Signed.{ltZ}
+use Rattle.terms.specs.Common.{Bool, true, not, _&&_, ℤ, pos, _+ℤ_, _-ℤ_, _*ℤ_, ltZ}
 use Rattle.terms.specs.Terms.{if_then_else_}
-use Rattle.lengths.specs.Units.{_⊖_}
-use Rattle.lengths.specs.declared.Flat.{Flat}
+use Rattle.lengths.specs.{Units._⊖_, declared.Flat.Flat}
 
 -- the direction from one point to another
 unfoldable pub direction : Flat → Flat → Flat

@@ -1,47 +1,15 @@
 -- A block that is accepted has passed every test of the rules, so that it keeps what a run counts on. Assumes nothing.
-use Prim.Native.Nat.{ℕ}
-use mathlib.Core.Path.{_≡_, refl, ap, _∙_}
-use mathlib.Core.Bool.{Bool, true, false, not}
-use mathlib.Core.Option.{Option, none, some}
-use mathlib.Core.List.{List, [], _∷_, _++_, append-nil}
-use native.Mathlib.Omega.{arith}
-use lib.Dec.{ltb}
-use borrow.Author.Tests.{ltb-false, not-false}
+use Rattle.terms.proofs.Common.{ℕ, _≡_, refl, ap, _∙_, Bool, true, false, not, Option, none, some, List, [], _∷_, _++_, append-nil, arith, ltb, ltb-false, not-false}
 use Rattle.terms.specs.Terms.{firstOf}
-use Rattle.refusals.specs.declared.Refusal.{Refusal}
-use Rattle.refusals.specs.declared.Refusal.the-variants.{BadParameter, LeavesTravel, NoRoom}
-use Rattle.words.specs.declared.Word.{Word}
-use Rattle.words.specs.Words.{Words, these, badAt, wordsOf}
-use Rattle.records.specs.declared.Record.{Record}
-use Rattle.records.specs.Layout.{roomOf}
-use Rattle.records.specs.Path.{pathStaysIn}
-use Rattle.setup.specs.declared.Bed.{Bed}
-use Rattle.setup.specs.Fair.{Fair}
+use Rattle.refusals.specs.declared.Refusal.{Refusal, the-variants.BadParameter, the-variants.LeavesTravel, the-variants.NoRoom}
+use Rattle.words.specs.{declared.Word.Word, Words.Words, Words.these, Words.badAt, Words.wordsOf}
+use Rattle.records.specs.{declared.Record.Record, Layout.roomOf, Path.pathStaysIn}
+use Rattle.setup.specs.{declared.Bed.Bed, Fair.Fair}
 use Rattle.settings.specs.declared.State.{State}
 use Rattle.letters.specs.Letters.{firstBadValue}
-use Rattle.blocks.specs.declared.Said.{Said}
-use Rattle.blocks.specs.declared.Control.{Control}
-use Rattle.blocks.specs.Machine.{machineOf}
-use Rattle.blocks.specs.Exec.{
-  Blame,
-  Calls,
-  accepted,
-  saidBy,
-  madeBy,
-  settled,
-  controlOf,
-  atWord,
-  atStart,
-  blames,
-  unless,
-  judged,
-  execWords,
-  exec,
-}
-use Rattle.blocks.specs.Reach.{Reachable, Steady}
-use Rattle.blocks.specs.Keeping.{Keeps}
-use Rattle.blocks.proofs.Meaning.{meant}
-use Rattle.blocks.proofs.Making.{made-short, kept}
+use Rattle.blocks.specs.{declared.Said.Said, declared.Control.Control, Machine.machineOf, Reach.Reachable, Reach.Steady, Keeping.Keeps}
+use Rattle.blocks.specs.Exec.{Blame, Calls, accepted, saidBy, madeBy, settled, controlOf, atWord, atStart, blames, unless, judged, execWords, exec}
+use Rattle.blocks.proofs.{Meaning.meant, Making.made-short, Making.kept}
 
 -- ---- where no test blames, each passed
 

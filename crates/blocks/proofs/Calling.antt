@@ -1,96 +1,19 @@
 -- A block that calls makes no record, so that after 5 and 6 nothing can refuse it: its call may be tested last, where it is followed.
 -- Assumes nothing.
-use Prim.Native.Nat.{ℕ}
-use mathlib.Core.Path.{_≡_, refl, sym, _∙_, ap}
-use mathlib.Core.Bool.{Bool, true, false, not, _&&_, and-false}
-use mathlib.Core.Option.{Option, none, some}
-use mathlib.Core.List.{List, [], _∷_, _++_, append-nil}
-use native.Mathlib.Omega.{arith}
-use borrow.Author.Tests.{eqb-true, le-ltb}
-use lib.Dec.{eqb, ltb}
-use Rattle.terms.specs.Terms.{if_then_else_, first, firstOf, all, lookup}
-use Rattle.terms.proofs.Laws.{either-left}
+use Rattle.terms.proofs.Common.{ℕ, _≡_, refl, sym, _∙_, ap, Bool, true, false, not, _&&_, and-false, Option, none, some, List, [], _∷_, _++_, append-nil, arith, eqb-true, le-ltb, eqb, ltb}
+use Rattle.terms.{specs.Terms.if_then_else_, specs.Terms.first, specs.Terms.firstOf, specs.Terms.all, specs.Terms.lookup, proofs.Laws.either-left}
 use Rattle.refusals.specs.declared.Refusal.{Refusal}
-use Rattle.refusals.specs.declared.Refusal.the-variants.{
-  BadParameter,
-  AddressUndefined,
-  ParameterUndefined,
-  CannotExecute,
-  NumberNotFound,
-  NestOver,
-  LeavesTravel,
-  NoRoom,
-  CentreTooFar,
-}
-use Rattle.codes.specs.declared.Misc.{Misc}
+use Rattle.refusals.specs.declared.Refusal.the-variants.{BadParameter, AddressUndefined, ParameterUndefined, CannotExecute, NumberNotFound, NestOver, LeavesTravel, NoRoom, CentreTooFar}
+use Rattle.codes.specs.{declared.Misc.Misc, declared.Plane.Plane, Codes.miscNumber, Codes.isM, Codes.endsProgram}
 use Rattle.codes.specs.declared.Misc.the-variants.{M00, M02, M03, M05, M30, M98, M99, Other}
-use Rattle.codes.specs.declared.Plane.{Plane}
-use Rattle.codes.specs.Codes.{miscNumber, isM, endsProgram}
-use Rattle.words.specs.declared.Word.{Word}
-use Rattle.words.specs.declared.Given.{Given}
-use Rattle.words.specs.declared.Values.{Values}
-use Rattle.words.specs.Values.{noValues}
-use Rattle.words.specs.Words.{Words, these, badAt, wordsOf}
-use Rattle.records.specs.declared.Record.{Record}
-use Rattle.records.specs.Layout.{roomOf}
-use Rattle.records.specs.Path.{pathStaysIn}
-use Rattle.settings.specs.declared.Modes.{Modes}
-use Rattle.settings.specs.declared.State.{State}
-use Rattle.letters.specs.declared.BlockCode.{BlockCode}
-use Rattle.letters.specs.declared.BlockCode.the-variants.{Calling}
-use Rattle.letters.specs.declared.Speeds.{Speeds}
-use Rattle.letters.specs.Letters.{
-  firstThatMayNot,
-  hasCentre,
-  useOf,
-  lettersOf,
-  isNothing,
-  isUnused,
-  firstUnused,
-  firstBadValue,
-  miscOfBlock,
-  modesIn,
-  codeUnder,
-  blockCode,
-  givenBy,
-  wordValue,
-  withValue,
-  valuesAfter,
-  valuesOf,
-}
-use Rattle.blocks.specs.Machine.{Machine}
-use Rattle.blocks.specs.Motions.{movesOf}
-use Rattle.blocks.specs.Exec.{
-  Blame,
-  Calls,
-  inMain,
-  Verdict,
-  accepted,
-  saidBy,
-  spindleRecords,
-  movesIn,
-  lastRecords,
-  madeBy,
-  settled,
-  controlOf,
-  callTo,
-  unknownCall,
-  tooDeep,
-  lacksParameter,
-  drills,
-  cannotDrill,
-  atWord,
-  atStart,
-  blames,
-  unless,
-  judged,
-  execWords,
-  exec,
-}
-use Rattle.blocks.specs.declared.Said.{Said}
-use Rattle.blocks.specs.declared.Control.{Control}
+use Rattle.words.specs.{declared.Word.Word, declared.Given.Given, declared.Values.Values, Values.noValues, Words.Words, Words.these, Words.badAt, Words.wordsOf}
+use Rattle.records.specs.{declared.Record.Record, Layout.roomOf, Path.pathStaysIn}
+use Rattle.settings.specs.declared.{Modes.Modes, State.State}
+use Rattle.letters.specs.declared.{BlockCode.BlockCode, BlockCode.the-variants.Calling, Speeds.Speeds}
+use Rattle.letters.specs.Letters.{firstThatMayNot, hasCentre, useOf, lettersOf, isNothing, isUnused, firstUnused, firstBadValue, miscOfBlock, modesIn, codeUnder, blockCode, givenBy, wordValue, withValue, valuesAfter, valuesOf}
+use Rattle.blocks.specs.{Machine.Machine, Motions.movesOf, declared.Said.Said, declared.Control.Control, Calling.freely, Calling.called}
+use Rattle.blocks.specs.Exec.{Blame, Calls, inMain, Verdict, accepted, saidBy, spindleRecords, movesIn, lastRecords, madeBy, settled, controlOf, callTo, unknownCall, tooDeep, lacksParameter, drills, cannotDrill, atWord, atStart, blames, unless, judged, execWords, exec}
 use Rattle.blocks.specs.declared.Control.the-variants.{On, Call, Back, Stop}
-use Rattle.blocks.specs.Calling.{freely, called}
 use Rattle.blocks.proofs.Accepting.{AllNone, all-none, past-all, word-none}
 
 -- ---- a block that calls has no S, and makes no record

@@ -1,42 +1,21 @@
 -- The records that a whole block makes, and the state that it leaves. Assumes nothing.
-use Prim.Native.Nat.{ℕ, zero, suc}
-use mathlib.Core.Path.{_≡_, refl}
-use mathlib.Core.Bool.{Bool, true, false, not, _&&_, _||_}
-use mathlib.Core.List.{List, [], _∷_, _++_, map}
-use native.Mathlib.Omega.{arith}
+use Rattle.terms.proofs.Common.{ℕ, zero, suc, _≡_, refl, Bool, true, false, not, _&&_, _||_, List, [], _∷_, _++_, map, arith}
 use Rattle.terms.specs.Terms.{if_then_else_, all}
-use Rattle.lengths.specs.declared.Len.{Len}
-use Rattle.lengths.specs.View.{Short}
-use Rattle.codes.specs.declared.Cycle.{Cycle}
-use Rattle.codes.specs.declared.Cycle.the-variants.{G81, G82, G85, G89}
-use Rattle.codes.specs.declared.Misc.{Misc}
-use Rattle.codes.specs.declared.Motion.{Motion}
+use Rattle.lengths.specs.{declared.Len.Len, View.Short, declared.Point.Point, Points.atHeight}
+use Rattle.codes.specs.declared.{Cycle.Cycle, Cycle.the-variants.G81, Cycle.the-variants.G82, Cycle.the-variants.G85, Cycle.the-variants.G89, Misc.Misc, Motion.Motion, Return.Return}
+use Rattle.codes.specs.{declared.Return.the-variants.ToInitial, declared.Return.the-variants.ToR, Codes.isM, Codes.endsProgram}
 use Rattle.codes.specs.declared.Motion.the-variants.{Off, G00, G01, G02, G03, Drilling}
-use Rattle.codes.specs.declared.Return.{Return}
-use Rattle.codes.specs.declared.Return.the-variants.{ToInitial, ToR}
-use Rattle.codes.specs.Codes.{isM, endsProgram}
 use Rattle.words.specs.declared.Values.{Values}
-use Rattle.lengths.specs.declared.Point.{Point}
-use Rattle.lengths.specs.Points.{atHeight}
-use Rattle.records.specs.declared.Arc.{Arc}
-use Rattle.records.specs.declared.Record.{Record}
+use Rattle.records.specs.{declared.Arc.Arc, declared.Record.Record, Path.pathStaysIn, Path.recordMoved, Writing.ListShort}
 use Rattle.records.specs.declared.Record.the-variants.{RP, LN, AR, AL, DW, SP, SO, PA, EN}
-use Rattle.records.specs.Path.{pathStaysIn, recordMoved}
-use Rattle.records.specs.Writing.{ListShort}
-use Rattle.setup.specs.declared.Bed.{Bed}
-use Rattle.setup.specs.Frame.{originAt}
-use Rattle.settings.specs.declared.State.{State}
-use Rattle.settings.specs.Target.{target}
+use Rattle.setup.specs.{declared.Bed.Bed, Frame.originAt}
+use Rattle.settings.specs.{declared.State.State, Target.target}
 use Rattle.arcs.specs.Arcs.{arcHolds}
-use Rattle.cycles.specs.declared.Hole.{Hole}
-use Rattle.cycles.specs.Cycles.{holeOf, returnLevel, dwelling, upUnder, leaving, passTo, passesAt, passCount, passes}
-use Rattle.letters.specs.declared.BlockCode.{BlockCode}
-use Rattle.letters.specs.declared.BlockCode.the-variants.{Calling, Returning, Dwelling, Moving}
-use Rattle.blocks.specs.declared.Said.{Said}
-use Rattle.blocks.specs.Machine.{machineOf}
+use Rattle.cycles.specs.{declared.Hole.Hole, Cycles.holeOf, Cycles.returnLevel, Cycles.dwelling, Cycles.upUnder, Cycles.leaving, Cycles.passTo, Cycles.passesAt, Cycles.passCount, Cycles.passes}
+use Rattle.letters.specs.declared.BlockCode.{BlockCode, the-variants.Calling, the-variants.Returning, the-variants.Dwelling, the-variants.Moving}
+use Rattle.blocks.specs.{declared.Said.Said, Machine.machineOf, Reach.Reachable, Reach.Steady}
 use Rattle.blocks.specs.Motions.{Moves, noMoves, one, impossible, endStands, arcStands, arcTo, radiusFits, arcMoves, isLarger, cycleDone, cycleMoves, motionOf, movesOf}
 use Rattle.blocks.specs.Exec.{working, spindleRecords, movesIn, lastRecords, madeBy, settled}
-use Rattle.blocks.specs.Reach.{Reachable, Steady}
 use Rattle.blocks.proofs.Nearness.{feed-near, speed-near, hole-feed, hole-dwell}
 use Rattle.blocks.proofs.Shortness.{ArcShort, OthersShort, AllOthers, others-both, all-fit, stays-inside, records-short, arc-others}
 

@@ -1,29 +1,14 @@
 -- What the words of a block say in a state that a run can reach: an origin of the table, and values within their limits. Assumes
 -- nothing.
-use Prim.Native.Nat.{ℕ, _<_}
-use mathlib.Core.Path.{_≡_, refl}
-use mathlib.Core.Bool.{Bool, true, false}
-use mathlib.Core.Option.{none}
-use mathlib.Core.List.{List, [], _∷_}
-use lib.Dec.{eqb, ltb}
-use borrow.Author.Tests.{ltb-true}
-use Rattle.terms.specs.Terms.{if_then_else_, all, lookup}
-use Rattle.terms.proofs.Laws.{both-left, both-right}
-use Rattle.codes.specs.declared.Code.{Code}
+use Rattle.terms.proofs.Common.{ℕ, _<_, _≡_, refl, Bool, true, false, none, List, [], _∷_, eqb, ltb, ltb-true}
+use Rattle.terms.{specs.Terms.if_then_else_, specs.Terms.all, specs.Terms.lookup, proofs.Laws.both-left, proofs.Laws.both-right}
+use Rattle.codes.specs.{declared.Code.Code, Codes.gTable, Codes.codeOf}
 use Rattle.codes.specs.declared.Code.the-variants.{GroupA, GroupB, GroupC, GroupD, GroupE, GroupF, G04, Unknown}
-use Rattle.codes.specs.Codes.{gTable, codeOf}
-use Rattle.words.specs.declared.Word.{Word}
-use Rattle.words.specs.Values.{isPlain}
-use Rattle.setup.specs.declared.Bed.{Bed}
-use Rattle.setup.specs.Fair.{Fair}
-use Rattle.settings.specs.declared.Modes.{Modes}
-use Rattle.settings.specs.declared.State.{State}
-use Rattle.settings.specs.Settings.{switched}
-use Rattle.letters.specs.Letters.{isG, codeIn, modesIn, blockCode, firstBadValue}
-use Rattle.letters.proofs.Sizes.{sizes}
-use Rattle.blocks.specs.Machine.{machineOf}
-use Rattle.blocks.specs.Exec.{saidBy}
-use Rattle.blocks.specs.Reach.{Reachable, Meant}
+use Rattle.words.specs.{declared.Word.Word, Values.isPlain}
+use Rattle.setup.specs.{declared.Bed.Bed, Fair.Fair}
+use Rattle.settings.specs.{declared.Modes.Modes, declared.State.State, Settings.switched}
+use Rattle.letters.{specs.Letters.isG, specs.Letters.codeIn, specs.Letters.modesIn, specs.Letters.blockCode, specs.Letters.firstBadValue, proofs.Sizes.sizes}
+use Rattle.blocks.specs.{Machine.machineOf, Exec.saidBy, Reach.Reachable, Reach.Meant}
 
 -- "E: G54 to G59.": a code names an origin of the table, if it names one
 abbrev namesOrigin : Code → Bool

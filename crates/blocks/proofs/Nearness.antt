@@ -1,50 +1,18 @@
 -- Points of a run and how near they are, in the frame of the common offset and in machine units. Assumes nothing.
-use Prim.Native.Nat.{ℕ, _^_}
-use mathlib.Core.Path.{_≡_, ap₂}
-use mathlib.Core.Bool.{Bool, true, false, not, _&&_, _||_}
-use native.Mathlib.Omega.{arith}
-use lib.IntN.{ℤ, _+ℤ_}
-use lib.Signed.{leZ}
-use Rattle.terms.specs.Terms.{if_then_else_, between}
-use Rattle.terms.proofs.Laws.{both-left, both-right}
-use Rattle.lengths.specs.declared.Len.{Len}
-use Rattle.lengths.specs.Units.{fitsFour}
-use Rattle.lengths.specs.View.{Within, Short}
-use Rattle.lengths.proofs.Laws.{view, sum-bal}
-use Rattle.lengths.proofs.Four.{short-four}
-use Rattle.codes.specs.declared.Cycle.{Cycle}
-use Rattle.codes.specs.declared.Motion.the-variants.{Drilling}
-use Rattle.codes.specs.declared.Plane.{Plane}
-use Rattle.codes.specs.declared.Plane.the-variants.{G17, G18, G19}
-use Rattle.words.specs.declared.Given.{Given}
-use Rattle.words.specs.declared.Values.{Values}
-use Rattle.lengths.specs.declared.Point.{Point}
-use Rattle.lengths.specs.declared.Flat.{Flat}
-use Rattle.lengths.specs.Points.{moved, flat, inside}
-use Rattle.lengths.specs.Near.{Near}
-use Rattle.lengths.proofs.Near.{flat-near}
+use Rattle.terms.proofs.Common.{ℕ, _^_, _≡_, ap₂, Bool, true, false, not, _&&_, _||_, arith, ℤ, _+ℤ_, leZ}
+use Rattle.terms.{specs.Terms.if_then_else_, specs.Terms.between, proofs.Laws.both-left, proofs.Laws.both-right}
+use Rattle.lengths.specs.{declared.Len.Len, Units.fitsFour, View.Within, View.Short, declared.Point.Point, declared.Flat.Flat, Points.moved, Points.flat, Points.inside, Near.Near}
+use Rattle.lengths.proofs.{Laws.view, Laws.sum-bal, Four.short-four, Near.flat-near}
+use Rattle.codes.specs.declared.{Cycle.Cycle, Motion.the-variants.Drilling, Plane.Plane, Plane.the-variants.G17, Plane.the-variants.G18, Plane.the-variants.G19}
+use Rattle.words.specs.declared.{Given.Given, Values.Values}
 use Rattle.records.specs.Path.{arcMoved}
-use Rattle.setup.specs.declared.Bed.{Bed}
-use Rattle.setup.specs.Frame.{originAt}
-use Rattle.setup.specs.Fair.{Fair}
-use Rattle.settings.specs.declared.State.{State}
-use Rattle.settings.specs.Settings.{orElse}
-use Rattle.settings.specs.Target.{target}
-use Rattle.settings.specs.Bounds.{Aims}
-use Rattle.settings.proofs.Near.{target-near}
-use Rattle.arcs.specs.Bounds.{Reach, Beside, Bounds}
-use Rattle.centres.specs.Centres.{radiusHolds, centreBy}
-use Rattle.centres.specs.Bounds.{Chord}
-use Rattle.centres.proofs.Reaching.{centre-reach}
-use Rattle.cycles.specs.declared.Hole.{Hole}
-use Rattle.cycles.specs.Cycles.{holeOf, passes}
-use Rattle.cycles.specs.Bounds.{Passing}
-use Rattle.arcs.proofs.Paths.{inside-near}
+use Rattle.setup.specs.{declared.Bed.Bed, Frame.originAt, Fair.Fair}
+use Rattle.settings.{specs.declared.State.State, specs.Settings.orElse, specs.Target.target, specs.Bounds.Aims, proofs.Near.target-near}
+use Rattle.arcs.{specs.Bounds.Reach, specs.Bounds.Beside, specs.Bounds.Bounds, proofs.Paths.inside-near}
+use Rattle.centres.{specs.Centres.radiusHolds, specs.Centres.centreBy, specs.Bounds.Chord, proofs.Reaching.centre-reach}
+use Rattle.cycles.specs.{declared.Hole.Hole, Cycles.holeOf, Bounds.Passing}
 use Rattle.letters.specs.declared.BlockCode.the-variants.{Moving}
-use Rattle.blocks.specs.declared.Said.{Said}
-use Rattle.blocks.specs.Motions.{centreWords, centreFor, arcTo, radiusFits}
-use Rattle.blocks.specs.Exec.{working}
-use Rattle.blocks.specs.Reach.{Steady}
+use Rattle.blocks.specs.{declared.Said.Said, Motions.centreWords, Motions.centreFor, Motions.arcTo, Motions.radiusFits, Exec.working, Reach.Steady}
 
 -- ---- points inside the travel
 

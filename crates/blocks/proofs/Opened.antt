@@ -12,10 +12,8 @@ use Rattle.letters.proofs.Opened.{opened as letters-opened}
 use Rattle.arcs.proofs.Opened.{opened as arcs-opened}
 use Rattle.centres.proofs.Opened.{opened as centres-opened}
 use Rattle.cycles.proofs.Opened.{opened as cycles-opened}
+use Rattle.blocks.specs.{Machine.machineOf, Doing.madeOf, Doing.executed, Calling.freely, Calling.called}
 use Rattle.blocks.specs.Exec.{saidBy, working, spindleRecords, movesIn, lastRecords, madeBy, settled, controlOf, atWord, lacksCentre, lacksParameter, isG17, drills, cannotDrill, callsIn, callTo, unknownCall, tooDeep, atStart, blames, unless, judged, execWords, exec}
-use Rattle.blocks.specs.Machine.{machineOf}
-use Rattle.blocks.specs.Doing.{madeOf, executed}
-use Rattle.blocks.specs.Calling.{freely, called}
 use Rattle.blocks.specs.Motions.{centreWords, centreFor, arcTo, radiusFits, arcMoves, cycleDone, cycleMoves, motionOf, movesOf}
 
 unfoldable pub opened : Unit {0}

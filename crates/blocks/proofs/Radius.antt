@@ -1,36 +1,18 @@
 -- Document 02, #101: arcs by their radius. R stands for the centre words. Where the radius is accepted, nothing else of the arc's
 -- geometry refuses it, whatever the plane. And G02 and G03, with R positive and with R negative, have the centre on the side that
 -- makes it the arc of at most half a turn or the larger one. Assumes nothing.
-use Prim.Native.Nat.{_<_}
-use mathlib.Core.Path.{_≡_, refl, sym, subst, ap, _∙_}
-use mathlib.Core.Bool.{Bool, true, false, not, _&&_, _||_, or-true, and-false}
-use mathlib.Core.List.{[], _∷_}
-use native.Mathlib.Omega.{arith}
-use lib.IntN.{ℤ, pos}
-use lib.Signed.{ltZ}
+use Rattle.terms.proofs.Common.{_<_, _≡_, refl, sym, subst, ap, _∙_, Bool, true, false, not, _&&_, _||_, or-true, and-false, [], _∷_, arith, ℤ, pos, ltZ}
 use Rattle.terms.specs.Terms.{if_then_else_}
-use Rattle.lengths.specs.View.{Within}
-use Rattle.lengths.proofs.Laws.{view}
-use Rattle.codes.specs.declared.Motion.{Motion}
-use Rattle.codes.specs.declared.Motion.the-variants.{Off, G00, G01, G02, G03, Drilling}
+use Rattle.lengths.{specs.View.Within, specs.declared.Point.Point, specs.Points.moved, specs.Points.flat, proofs.Laws.view}
+use Rattle.codes.specs.declared.Motion.{Motion, the-variants.Off, the-variants.G00, the-variants.G01, the-variants.G02, the-variants.G03, the-variants.Drilling}
 use Rattle.words.specs.declared.Values.{Values}
-use Rattle.lengths.specs.declared.Point.{Point}
-use Rattle.lengths.specs.Points.{moved, flat}
-use Rattle.records.specs.declared.Arc.{Arc}
-use Rattle.records.specs.declared.Record.{Record}
-use Rattle.records.specs.declared.Record.the-variants.{AR, AL}
-use Rattle.settings.specs.declared.State.{State}
-use Rattle.settings.specs.Target.{target}
+use Rattle.records.specs.declared.{Arc.Arc, Record.Record, Record.the-variants.AR, Record.the-variants.AL}
+use Rattle.settings.specs.{declared.State.State, Target.target}
 use Rattle.arcs.specs.Arcs.{distance², centreOf, radius², arcHolds}
-use Rattle.centres.specs.Centres.{radiusHolds, Centre, centreBy}
-use Rattle.centres.specs.Nearness.{Nearby}
-use Rattle.centres.proofs.Accepted.{chord-some}
-use Rattle.centres.proofs.Sides.{across-left, across-right}
-use Rattle.centres.proofs.Rounding.{centre-is}
-use Rattle.centres.proofs.Nearness.{centre-near, radius-arc-holds}
+use Rattle.centres.specs.{Centres.radiusHolds, Centres.Centre, Centres.centreBy, Nearness.Nearby}
+use Rattle.centres.proofs.{Accepted.chord-some, Sides.across-left, Sides.across-right, Rounding.centre-is, Nearness.centre-near, Nearness.radius-arc-holds}
+use Rattle.blocks.specs.{Exec.lacksCentre, Sides.startIn, Sides.endIn, Sides.OneArc, Sides.LeftCentre, Sides.RightCentre}
 use Rattle.blocks.specs.Motions.{Moves, endStands, centreGiven, arcStands, centreWords, centreFor, arcTo, radiusFits, impossible, arcMoves, isLarger, motionOf}
-use Rattle.blocks.specs.Exec.{lacksCentre}
-use Rattle.blocks.specs.Sides.{startIn, endIn, OneArc, LeftCentre, RightCentre}
 
 -- ---- R gives the centre
 

@@ -1,36 +1,17 @@
 -- The numbers of a block's records fit four bytes in machine units: a point's since it is inside the travel, all others by their
 -- own limits. Assumes nothing.
-use mathlib.Core.Path.{_≡_, refl, ap₂}
-use mathlib.Core.Bool.{Bool, true, _&&_}
-use mathlib.Core.List.{List, [], _∷_, _++_, map}
-use native.Mathlib.Omega.{arith}
-use Rattle.terms.specs.Terms.{all}
-use Rattle.terms.proofs.Laws.{both-left, both-right}
-use Rattle.lengths.specs.declared.Len.{Len}
-use Rattle.lengths.specs.View.{Short}
-use Rattle.lengths.specs.declared.Point.{Point}
-use Rattle.lengths.specs.Points.{moved, flat, inside}
-use Rattle.lengths.specs.Near.{Near}
-use Rattle.records.specs.declared.Arc.{Arc}
-use Rattle.records.specs.declared.Record.{Record}
+use Rattle.terms.proofs.Common.{_≡_, refl, ap₂, Bool, true, _&&_, List, [], _∷_, _++_, map, arith}
+use Rattle.terms.{specs.Terms.all, proofs.Laws.both-left, proofs.Laws.both-right}
+use Rattle.lengths.specs.{declared.Len.Len, View.Short, declared.Point.Point, Points.moved, Points.inside, Near.Near}
+use Rattle.records.specs.{declared.Arc.Arc, declared.Record.Record, Layout.pointNumbers, Layout.arcNumbers, Layout.numbersOf}
+use Rattle.records.specs.{Path.pathOf, Path.pathEnd, Path.endOf, Path.pathStaysIn, Path.arcMoved, Path.recordMoved, Writing.AllShort, Writing.ListShort}
 use Rattle.records.specs.declared.Record.the-variants.{RP, LN, AR, AL, DW, SP, SO, PA, EN}
-use Rattle.records.specs.Layout.{pointNumbers, arcNumbers, numbersOf}
-use Rattle.records.specs.Path.{pathOf, pathEnd, endOf, pathStaysIn, arcMoved, recordMoved}
-use Rattle.records.specs.Writing.{AllShort, ListShort}
-use Rattle.setup.specs.declared.Bed.{Bed}
-use Rattle.setup.specs.Frame.{originAt}
-use Rattle.setup.specs.Fair.{Fair}
-use Rattle.settings.specs.declared.State.{State}
-use Rattle.settings.specs.Target.{target}
-use Rattle.arcs.specs.Arcs.{leftWay, rightWay, pathStays, centreFits}
-use Rattle.arcs.proofs.Paths as Paths
-use Rattle.arcs.proofs.Paths.{arc-ends}
-use Rattle.blocks.specs.Machine.{machineOf}
-use Rattle.blocks.specs.declared.Said.{Said}
-use Rattle.blocks.specs.Motions.{arcTo, radiusFits}
-use Rattle.blocks.specs.Exec.{working}
-use Rattle.blocks.specs.Reach.{Steady}
+use Rattle.setup.specs.{declared.Bed.Bed, Frame.originAt, Fair.Fair}
+use Rattle.settings.specs.{declared.State.State, Target.target}
+use Rattle.arcs.{specs.Arcs.leftWay, specs.Arcs.rightWay, specs.Arcs.pathStays, specs.Arcs.centreFits, proofs.Paths.arc-ends}
+use Rattle.blocks.specs.{Machine.machineOf, declared.Said.Said, Motions.arcTo, Motions.radiusFits, Exec.working, Reach.Steady}
 use Rattle.blocks.proofs.Nearness.{near-machine, both-fit, feed-near, first-near, second-near}
+use Rattle.arcs.proofs.Paths as Paths
 
 -- the three numbers of a point near the machine's zero, with more after them
 point-short : (p : Point) (ns : List Len) → Near 100_000_000 p → AllShort ns → AllShort (pointNumbers p ns)

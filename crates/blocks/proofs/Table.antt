@@ -1,6 +1,5 @@
 -- The table of "Numbers to try" holds of the rules, row by row, by computation.
-use mathlib.Core.Path.{_≡_, refl}
-use mathlib.Core.List.{map}
+use Rattle.terms.proofs.Common.{_≡_, refl, map}
 use Rattle.blocks.specs.Examples.{rows, stateAfter, valuesIn, resultBy, resultOf}
 use Rattle.blocks.proofs.Opened.{opened}
 

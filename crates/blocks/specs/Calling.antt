@@ -1,9 +1,6 @@
 -- What only serves the code of the walk: the verdict on a block that is not asked for its call, and the two tests of a call, which
 -- come where the call is followed.
-use Prim.Native.Nat.{ℕ}
-use mathlib.Core.Bool.{true}
-use mathlib.Core.List.{[], _∷_}
-use lib.Dec.{eqb}
+use Rattle.terms.specs.Common.{ℕ, true, [], _∷_, eqb}
 use Rattle.terms.specs.Terms.{if_then_else_, firstOf}
 use Rattle.refusals.specs.declared.Refusal.the-variants.{NumberNotFound, NestOver}
 use Rattle.blocks.specs.Exec.{Calls, callTo, unknownCall, tooDeep, atStart, Verdict, refused, accepted, unless}

@@ -1,16 +1,8 @@
 -- What the code of a block answers and leaves in the list, by the verdict of the rules.
-use Prim.Native.Nat.{ℕ, _+_}
-use mathlib.Core.Path.{_≡_}
-use mathlib.Core.List.{List, []}
-use lib.ListN.{length}
-use lib.Seq.{sets}
+use Rattle.terms.specs.Common.{ℕ, _+_, _≡_, List, [], length, sets}
 use Rattle.lengths.specs.declared.Point.{Point}
-use Rattle.records.specs.declared.Record.{Record}
-use Rattle.records.specs.Layout.{roomOf}
-use Rattle.records.specs.Writing.{movedBytes}
-use Rattle.blocks.specs.Exec.{Verdict, refused, accepted}
-use Rattle.blocks.specs.declared.Executed.{Executed}
-use Rattle.blocks.specs.declared.Executed.the-variants.{Refused, Accepted}
+use Rattle.records.specs.{declared.Record.Record, Layout.roomOf, Writing.movedBytes}
+use Rattle.blocks.specs.{Exec.Verdict, Exec.refused, Exec.accepted, declared.Executed.Executed, declared.Executed.the-variants.Refused, declared.Executed.the-variants.Accepted}
 
 unfoldable pub madeOf : Verdict → List Record
 madeOf (refused blame) = []

@@ -1,22 +1,13 @@
 -- Document 01, "Numbers to try": the table of numbers. A row is a block as it is written there, read as any block is, and
 -- what it gives.
-use Prim.Native.Nat.{ℕ}
-use Prim.Native.String.{String}
-use mathlib.Core.Bool.{true}
-use mathlib.Core.List.{List, [], _∷_}
-use lib.IntN.{pos}
+use Rattle.terms.specs.Common.{ℕ, String, true, List, [], _∷_, pos}
 use Rattle.terms.specs.Terms.{byte, bytes}
 use Rattle.refusals.specs.Numbers.{numberOf}
-use Rattle.lengths.specs.Units.{len}
-use Rattle.lengths.specs.declared.Point.{Point}
-use Rattle.words.specs.declared.Values.{Values}
-use Rattle.words.specs.Values.{noValues}
-use Rattle.words.specs.Words.{Words, these, badAt, wordsOf}
-use Rattle.settings.specs.declared.State.{State}
-use Rattle.settings.specs.Settings.{firstState}
+use Rattle.lengths.specs.{Units.len, declared.Point.Point}
+use Rattle.words.specs.{declared.Values.Values, Values.noValues, Words.Words, Words.these, Words.badAt, Words.wordsOf}
+use Rattle.settings.specs.{declared.State.State, Settings.firstState}
 use Rattle.letters.specs.Letters.{withValue}
-use Rattle.blocks.specs.Machine.{Machine}
-use Rattle.blocks.specs.Exec.{Verdict, refused, accepted, saidBy, callsIn, exec}
+use Rattle.blocks.specs.{Machine.Machine, Exec.Verdict, Exec.refused, Exec.accepted, Exec.saidBy, Exec.callsIn, Exec.exec}
 
 -- what a block gives: the values of its words, or the number of its refusal and the byte that this names
 pub data Result : Type 0 where

@@ -1,59 +1,21 @@
 -- What one block does: the order of its refusals, and its effects in their order.
-use Prim.Native.Nat.{ℕ}
-use mathlib.Core.Bool.{Bool, true, false, not, _&&_, _||_}
-use mathlib.Core.Option.{Option, none, some}
-use mathlib.Core.List.{List, [], _∷_, _++_}
-use lib.Dec.{eqb, ltb}
-use lib.IntN.{natAbs}
+use Rattle.terms.specs.Common.{ℕ, Bool, true, false, not, _&&_, _||_, Option, none, some, List, [], _∷_, _++_, eqb, ltb, natAbs}
 use Rattle.terms.specs.Terms.{if_then_else_, all, firstOf, stands, when}
 use Rattle.refusals.specs.declared.Refusal.{Refusal}
-use Rattle.refusals.specs.declared.Refusal.the-variants.{
-  BadParameter,
-  AddressUndefined,
-  ParameterUndefined,
-  CannotExecute,
-  NumberNotFound,
-  NestOver,
-  LeavesTravel,
-  NoRoom,
-  Unreadable,
-  CentreTooFar,
-}
-use Rattle.codes.specs.declared.Misc.{Misc}
-use Rattle.codes.specs.declared.Motion.{Motion}
-use Rattle.codes.specs.declared.Motion.the-variants.{Off, G00, G01, G02, G03, Drilling}
-use Rattle.codes.specs.declared.Plane.{Plane}
-use Rattle.codes.specs.declared.Plane.the-variants.{G17, G18, G19}
+use Rattle.refusals.specs.declared.Refusal.the-variants.{BadParameter, AddressUndefined, ParameterUndefined, CannotExecute, NumberNotFound, NestOver, LeavesTravel, NoRoom, Unreadable, CentreTooFar}
+use Rattle.codes.specs.declared.{Misc.Misc, Motion.Motion, Plane.Plane, Plane.the-variants.G17, Plane.the-variants.G18, Plane.the-variants.G19}
 use Rattle.codes.specs.Codes.{isM, endsProgram}
-use Rattle.programs.specs.declared.Program.{Program}
-use Rattle.programs.specs.Openings.{known}
-use Rattle.words.specs.declared.Word.{Word}
-use Rattle.words.specs.declared.Values.{Values}
-use Rattle.words.specs.Words.{Words, these, badAt, wordsOf}
-use Rattle.records.specs.declared.Record.{Record}
+use Rattle.codes.specs.declared.Motion.the-variants.{Off, G00, G01, G02, G03, Drilling}
+use Rattle.programs.specs.{declared.Program.Program, Openings.known}
+use Rattle.words.specs.{declared.Word.Word, declared.Values.Values, Words.Words, Words.these, Words.badAt, Words.wordsOf}
+use Rattle.records.specs.{declared.Record.Record, Layout.roomOf, Path.endOf, Path.pathStaysIn}
 use Rattle.records.specs.declared.Record.the-variants.{SP, SO, PA, EN}
-use Rattle.records.specs.Layout.{roomOf}
-use Rattle.records.specs.Path.{endOf, pathStaysIn}
-use Rattle.settings.specs.declared.Modes.{Modes}
-use Rattle.settings.specs.declared.State.{State}
-use Rattle.settings.specs.Settings.{orElse}
-use Rattle.blocks.specs.Machine.{Machine}
-use Rattle.letters.specs.Letters.{
-  firstThatMayNot,
-  hasCentre,
-  firstUnused,
-  firstBadValue,
-  miscOfBlock,
-  modesIn,
-  namesGroupA,
-  blockCode,
-  valuesOf,
-}
-use Rattle.blocks.specs.Motions.{Moves, endStands, centreGiven, cycleDone, movesOf}
+use Rattle.settings.specs.{declared.Modes.Modes, declared.State.State, Settings.orElse}
 use Rattle.letters.specs.declared.BlockCode.{BlockCode}
+use Rattle.letters.specs.Letters.{firstThatMayNot, hasCentre, firstUnused, firstBadValue, miscOfBlock, modesIn, namesGroupA, blockCode, valuesOf}
 use Rattle.letters.specs.declared.BlockCode.the-variants.{Calling, Returning, Dwelling, Moving}
-use Rattle.blocks.specs.declared.Said.{Said}
-use Rattle.blocks.specs.declared.Control.{Control}
+use Rattle.blocks.specs.{Machine.Machine, declared.Said.Said, declared.Control.Control}
+use Rattle.blocks.specs.Motions.{Moves, endStands, centreGiven, cycleDone, movesOf}
 use Rattle.blocks.specs.declared.Control.the-variants.{On, Call, Back, Stop}
 
 -- what the words of a block say

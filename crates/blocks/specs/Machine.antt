@@ -1,13 +1,10 @@
 -- What a block asks of the machine. Two setups that differ only in the travel, or in EXOFS and start displaced alike,
 -- differ here in the two tests alone.
-use Prim.Native.Nat.{ℕ}
-use mathlib.Core.Bool.{Bool}
+use Rattle.terms.specs.Common.{ℕ, Bool}
 use Rattle.lengths.specs.declared.Point.{Point}
-use Rattle.setup.specs.declared.Bed.{Bed}
-use Rattle.setup.specs.Frame.{originAt}
+use Rattle.setup.specs.{declared.Bed.Bed, Frame.originAt}
 use Rattle.letters.specs.declared.Speeds.{Speeds}
-use Rattle.records.specs.declared.Record.{Record}
-use Rattle.records.specs.Path.{pathOf, recordMoved}
+use Rattle.records.specs.{declared.Record.Record, Path.pathOf, Path.recordMoved}
 use Rattle.arcs.specs.Arcs.{pathStays, centreFits}
 
 pub record Machine : Type 0 where

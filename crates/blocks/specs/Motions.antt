@@ -1,26 +1,16 @@
 -- Document 01, "G00, G01", "G02, G03", "Cycles", "P as dwell": the motion or the dwell of a block.
-use mathlib.Core.Bool.{Bool, true, false, not, _||_}
-use mathlib.Core.List.{List, [], _∷_}
-use lib.IntN.{pos}
-use lib.Signed.{ltZ}
+use Rattle.terms.specs.Common.{Bool, true, false, not, _||_, List, [], _∷_, pos, ltZ}
 use Rattle.terms.specs.Terms.{if_then_else_}
-use Rattle.codes.specs.declared.Cycle.{Cycle}
-use Rattle.codes.specs.declared.Motion.{Motion}
+use Rattle.codes.specs.declared.{Cycle.Cycle, Motion.Motion}
 use Rattle.codes.specs.declared.Motion.the-variants.{Off, G00, G01, G02, G03, Drilling}
 use Rattle.words.specs.declared.Values.{Values}
-use Rattle.lengths.specs.declared.Point.{Point}
-use Rattle.lengths.specs.declared.Flat.{Flat}
-use Rattle.lengths.specs.Points.{moved, flat}
-use Rattle.records.specs.declared.Arc.{Arc}
-use Rattle.records.specs.declared.Record.{Record}
-use Rattle.records.specs.declared.Record.the-variants.{RP, LN, AR, AL, DW}
-use Rattle.settings.specs.declared.State.{State}
-use Rattle.settings.specs.Target.{target}
+use Rattle.lengths.specs.{declared.Point.Point, declared.Flat.Flat, Points.moved, Points.flat}
+use Rattle.records.specs.declared.{Arc.Arc, Record.Record, Record.the-variants.RP, Record.the-variants.LN, Record.the-variants.AR, Record.the-variants.AL, Record.the-variants.DW}
+use Rattle.settings.specs.{declared.State.State, Target.target}
 use Rattle.arcs.specs.Arcs.{arcHolds}
 use Rattle.centres.specs.Centres.{radiusHolds, centreBy}
 use Rattle.cycles.specs.Cycles.{holeOf, levelsHold, passes}
-use Rattle.letters.specs.declared.BlockCode.{BlockCode}
-use Rattle.letters.specs.declared.BlockCode.the-variants.{Calling, Returning, Dwelling, Moving}
+use Rattle.letters.specs.declared.BlockCode.{BlockCode, the-variants.Calling, the-variants.Returning, the-variants.Dwelling, the-variants.Moving}
 
 abbrev pub endStands : Values → Bool
 endStands v = v .x .stands || v .y .stands || v .z .stands

@@ -1,12 +1,8 @@
 -- The states that a run can reach, and what the words of a block can say in them. Every block keeps this, as it is proved in
 -- proofs/.
-use Prim.Native.Nat.{_<_}
-use mathlib.Core.Path.{_≡_}
-use mathlib.Core.Bool.{true}
-use Rattle.lengths.specs.View.{Within}
-use Rattle.lengths.specs.Points.{inside}
-use Rattle.setup.specs.declared.Bed.{Bed}
-use Rattle.setup.specs.Fair.{Fair}
+use Rattle.terms.specs.Common.{_<_, _≡_, true}
+use Rattle.lengths.specs.{View.Within, Points.inside}
+use Rattle.setup.specs.{declared.Bed.Bed, Fair.Fair}
 use Rattle.letters.specs.Sizes.{Sizes}
 use Rattle.settings.specs.declared.State.{State}
 use Rattle.blocks.specs.declared.Said.{Said}

@@ -1,17 +1,11 @@
 -- On which side of the way from its start to its end the centre of a block's arc by radius lies. Only proofs/Radius.antt speaks of
 -- it, where it is shown of G02 and G03 with R positive and with R negative.
-use mathlib.Core.Path.{_≡_}
-use mathlib.Core.Bool.{Bool, true, false}
-use mathlib.Core.List.{[], _∷_}
+use Rattle.terms.specs.Common.{_≡_, Bool, true, false, [], _∷_}
 use Rattle.words.specs.declared.Values.{Values}
-use Rattle.lengths.specs.declared.Point.{Point}
-use Rattle.lengths.specs.declared.Flat.{Flat}
-use Rattle.lengths.specs.Points.{flat}
-use Rattle.records.specs.declared.Arc.{Arc}
-use Rattle.records.specs.declared.Record.{Record}
+use Rattle.lengths.specs.{declared.Point.Point, declared.Flat.Flat, Points.flat}
+use Rattle.records.specs.declared.{Arc.Arc, Record.Record}
 use Rattle.settings.specs.declared.State.{State}
-use Rattle.arcs.specs.Turning.{direction, left}
-use Rattle.arcs.specs.Arcs.{centreOf}
+use Rattle.arcs.specs.{Turning.direction, Turning.left, Arcs.centreOf}
 use Rattle.centres.specs.Centres.{across, Centre}
 use Rattle.blocks.specs.Motions.{Moves, arcTo}
 

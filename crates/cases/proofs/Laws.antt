@@ -1,29 +1,12 @@
 -- Words as counts, and where a case lies. Assumes nothing.
-use Prim.Native.Nat.{ℕ, _+_, _-_, _≤_, _<_, min}
-use mathlib.Core.Path.{_≡_, sym, ap, _∙_}
-use mathlib.Core.Bool.{Bool, true, _&&_}
-use mathlib.Core.List.{List}
-use native.Mathlib.Omega.{arith}
-use native.Mathlib.Nat.{add-sub-cancel-left}
-use native.Mathlib.Decide.{decLt}
-use lib.Dec.{leb}
-use lib.ListN.{length, take, drop, length-drop}
-use lib.Seq.{slice}
-use borrow.Author.Tests.{leb-true}
+use Rattle.terms.proofs.Common.{ℕ, _+_, _-_, _≤_, _<_, min, _≡_, sym, ap, _∙_, Bool, true, _&&_, List, arith, add-sub-cancel-left, decLt, leb, length, take, drop, length-drop, slice, leb-true}
 use Rattle.terms.proofs.Laws.{both-left, both-right}
-use Rattle.lines.specs.Blocks.{lengthFrom, beginsWith}
-use Rattle.lines.proofs.Lines.{length-bound, begins-end}
-use Rattle.texts.specs.Texts.{noneWrong, next, wordAt}
-use Rattle.texts.specs.Figures.{digitsIn}
-use Rattle.texts.specs.declared.Digits.{Digits}
-use Rattle.texts.specs.declared.Digits.the-variants.{Others}
+use Rattle.lines.{specs.Blocks.lengthFrom, specs.Blocks.beginsWith, proofs.Lines.length-bound, proofs.Lines.begins-end}
+use Rattle.texts.specs.{Texts.noneWrong, Texts.next, Texts.wordAt, Figures.digitsIn, declared.Digits.Digits, declared.Digits.the-variants.Others}
 use Rattle.texts.proofs.Places.{standing, nothing-there}
 use Rattle.setup.specs.declared.Setup.{Setup}
-use Rattle.setups.specs.declared.Reading.{Reading}
-use Rattle.setups.specs.Setups.{setupIn}
-use Rattle.cases.specs.Cases.{countAt, sizeOf, lineFrom, caseAt}
-use Rattle.cases.specs.declared.Counted.{Counted}
-use Rattle.cases.specs.declared.Case.{Case}
+use Rattle.setups.specs.{declared.Reading.Reading, Setups.setupIn}
+use Rattle.cases.specs.{Cases.countAt, Cases.sizeOf, Cases.lineFrom, Cases.caseAt, declared.Counted.Counted, declared.Case.Case}
 
 -- ---- a word as a count
 

@@ -1,20 +1,12 @@
 -- A case as it is written. Its first line begins with three words: the count of blocks to run, or no count, as `-1`, for the
 -- whole run; the room for records; and the data's length in bytes. Its second line is the setup. Then come the data and a
 -- line's end.
-use Prim.Native.Nat.{ℕ, _+_, _-_, _^_, min}
-use mathlib.Core.Bool.{Bool, true, false, _&&_}
-use mathlib.Core.List.{List}
-use lib.Dec.{leb}
-use lib.ListN.{length, take, drop}
+use Rattle.terms.specs.Common.{ℕ, _+_, _-_, _^_, min, _&&_, List, leb, length, take, drop}
 use Rattle.terms.specs.Terms.{byte}
 use Rattle.lines.specs.Blocks.{lengthFrom, beginsWith}
-use Rattle.texts.specs.Texts.{noneWrong, next, wordAt}
-use Rattle.texts.specs.Figures.{digitsIn}
-use Rattle.texts.specs.declared.Digits.{Digits}
-use Rattle.texts.specs.declared.Digits.the-variants.{Are, Others}
+use Rattle.texts.specs.{Texts.noneWrong, Texts.next, Texts.wordAt, Figures.digitsIn, declared.Digits.Digits, declared.Digits.the-variants.Are, declared.Digits.the-variants.Others}
 use Rattle.setups.specs.Setups.{setupIn}
-use Rattle.cases.specs.declared.Counted.{Counted}
-use Rattle.cases.specs.declared.Case.{Case}
+use Rattle.cases.specs.declared.{Counted.Counted, Case.Case}
 
 -- the next word of a text as a count, and the place after it
 unfoldable pub countAt : List ℕ → ℕ → Counted

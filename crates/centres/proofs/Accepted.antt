@@ -1,14 +1,7 @@
 -- What is known of an arc whose radius has been accepted: the parts of `radiusHolds`, as facts of naturals. Assumes nothing.
-use Prim.Native.Nat.{_+_, _*_, _≤_, _<_}
-use mathlib.Core.Path.{_≡_}
-use mathlib.Core.Bool.{true, _&&_}
-use native.Mathlib.Omega.{arith}
-use lib.Dec.{leb, ltb}
-use lib.IntN.{ℤ, natAbs}
-use borrow.Author.Tests.{leb-true, ltb-true}
+use Rattle.terms.proofs.Common.{_+_, _*_, _≤_, _<_, _≡_, true, _&&_, arith, leb, ltb, ℤ, natAbs, leb-true, ltb-true}
 use Rattle.terms.proofs.Laws.{both-left, both-right}
-use Rattle.lengths.specs.Units.{sq}
-use Rattle.lengths.specs.declared.Flat.{Flat}
+use Rattle.lengths.specs.{Units.sq, declared.Flat.Flat}
 use Rattle.arcs.specs.Arcs.{distance²}
 use Rattle.centres.specs.Centres.{radiusHolds, spare}
 

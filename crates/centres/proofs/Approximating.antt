@@ -1,16 +1,9 @@
 -- The root of N / m as a fraction f / n that is at most 1 / n below it, and how far q · f / n then is from what was rounded down
 -- from q times that root. So the laws of the centre need no real numbers. Assumes nothing.
-use Prim.Native.Nat.{ℕ, zero, suc, _+_, _*_, _^_, _≤_, _<_}
-use mathlib.Core.Path.{_≡_, ap}
-use native.Mathlib.Nat.{pow-succ', mul-le-mul-left, mul-le-mul-right, le-of-mul-le-mul-right}
-use native.Mathlib.Omega.{arith}
-use lib.IntN.{ℤ, pos, negsuc, _+ℤ_, _-ℤ_, _*ℤ_, natAbs}
+use Rattle.terms.proofs.Common.{ℕ, zero, suc, _+_, _*_, _^_, _≤_, _<_, _≡_, ap, pow-succ', mul-le-mul-left, mul-le-mul-right, le-of-mul-le-mul-right, arith, ℤ, pos, negsuc, _+ℤ_, _-ℤ_, _*ℤ_, natAbs}
 use Rattle.lengths.specs.View.{over, under}
-use Rattle.lengths.proofs.Laws.{view, sum-bal, diff-bal, abs-mul, abs-sum}
-use Rattle.lengths.proofs.Ring.{var, _⊞_, _⊠_}
-use Rattle.arcs.specs.Root.{Root, rootBelow}
-use Rattle.arcs.proofs.Extremes.{square-le}
-use Rattle.arcs.proofs.Root.{root-below}
+use Rattle.lengths.proofs.{Laws.view, Laws.sum-bal, Laws.diff-bal, Laws.abs-mul, Laws.abs-sum, Ring.var, Ring._⊞_, Ring._⊠_}
+use Rattle.arcs.{specs.Root.Root, specs.Root.rootBelow, proofs.Extremes.square-le, proofs.Root.root-below}
 use Rattle.centres.specs.Centres.{RoundedDown}
 use Rattle.centres.proofs.SignedSquares.{square-bal}
 

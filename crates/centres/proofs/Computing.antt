@@ -1,30 +1,11 @@
 -- What the code of the centre asks of its numbers and what it makes of them. Assumes nothing.
-use Prim.Native.Nat.{ℕ, _+_, _-_, _*_, _/_, _^_, _≤_, _<_}
-use mathlib.Core.Path.{_≡_, refl, sym, ap, _∙_}
-use mathlib.Core.Logic.{_≢_}
-use mathlib.Core.Bool.{Bool, true, false, _&&_, and-false}
-use native.Mathlib.Nat.{mul-le-mul, mul-le-mul-left, mul-le-mul-right, lt-of-mul-lt-mul-right, eq-of-mul-eq-mul-right, div-add-mod', div-le-of-le-mul, mod-lt}
-use native.Mathlib.Numerals.{add-one}
-use native.Mathlib.Omega.{arith}
-use lib.Arith.{digits-div, digits-mod}
-use lib.Dec.{eqb}
-use lib.IntN.{ℤ, pos, negℤ, _-ℤ_, natAbs}
-use lib.Signed.{leZ}
-use borrow.Author.Tests.{lt-leb, eq-eqb, ne-eqb, eqb-true, eqb-false}
-use Rattle.lengths.specs.Units.{sq}
-use Rattle.lengths.proofs.Laws.{sq-near, near-sq}
-use Rattle.lengths.specs.declared.Flat.{Flat}
-use Rattle.arcs.specs.Root.{Root, root}
-use Rattle.arcs.specs.Turning.{direction}
-use Rattle.arcs.specs.Arcs.{distance²}
-use Rattle.arcs.specs.Bounds.{Reach}
-use Rattle.arcs.proofs.Root.{root-is, square-lt}
-use Rattle.arcs.proofs.Reach.{near-distance}
+use Rattle.terms.proofs.Common.{ℕ, _+_, _-_, _*_, _/_, _^_, _≤_, _<_, _≡_, refl, sym, ap, _∙_, _≢_, Bool, true, false, _&&_, and-false, mul-le-mul, mul-le-mul-left, mul-le-mul-right, lt-of-mul-lt-mul-right, eq-of-mul-eq-mul-right, div-add-mod', div-le-of-le-mul, mod-lt, arith, digits-div, digits-mod, eqb, ℤ, pos, negℤ, _-ℤ_, natAbs, leZ, lt-leb, eq-eqb, ne-eqb, eqb-true, eqb-false}
+use Rattle.lengths.{specs.Units.sq, specs.declared.Flat.Flat, proofs.Laws.sq-near, proofs.Laws.near-sq}
+use Rattle.arcs.{specs.Root.Root, specs.Root.root, specs.Turning.direction, specs.Arcs.distance², specs.Bounds.Reach, proofs.Root.root-is, proofs.Root.square-lt, proofs.Reach.near-distance}
 use Rattle.wide.specs.declared.Division.{Division}
-use Rattle.centres.specs.Centres.{radiusHolds, across, spare, scaledRoot}
-use Rattle.centres.specs.Bounds.{Spanned, Divisible, Shares, Part, Parted}
-use Rattle.centres.proofs.Accepted.{chord-some, chord-most}
-use Rattle.centres.proofs.Sides.{across-first, across-second, as-long}
+use Rattle.centres.specs.{Centres.radiusHolds, Centres.across, Centres.spare, Centres.scaledRoot, Bounds.Spanned, Bounds.Divisible, Bounds.Shares, Bounds.Part, Bounds.Parted}
+use Rattle.centres.proofs.{Accepted.chord-some, Accepted.chord-most, Sides.across-first, Sides.across-second, Sides.as-long}
+use native.Mathlib.Numerals.{add-one}
 
 -- ---- whether a circle of the radius goes through start and end
 

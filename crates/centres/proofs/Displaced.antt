@@ -1,20 +1,10 @@
 -- Start and end displaced by whole numbers displace the centre by the same, since whole numbers pass through the rounding, and the
 -- same radii are accepted: of two points of a plane, and of two points of space in each of the three planes. Assumes nothing.
-use Prim.Native.Nat.{ℕ}
-use mathlib.Core.Path.{_≡_, refl}
-use mathlib.Core.Bool.{Bool}
-use native.Mathlib.Omega.{arith}
-use lib.IntN.{ℤ, _+ℤ_}
-use Rattle.lengths.specs.Units.{halved, _⊕_}
-use Rattle.lengths.proofs.Laws.{view, sum-bal, halved-over, halved-under}
-use Rattle.lengths.proofs.Ring.{var, _⊞_, same, shift}
-use Rattle.codes.specs.declared.Plane.{Plane}
-use Rattle.codes.specs.declared.Plane.the-variants.{G17, G18, G19}
-use Rattle.lengths.specs.declared.Flat.{Flat}
-use Rattle.lengths.specs.declared.Point.{Point}
-use Rattle.lengths.specs.Points.{moved, flat}
-use Rattle.arcs.specs.Turning.{direction}
-use Rattle.arcs.specs.Arcs.{distance²}
+use Rattle.terms.proofs.Common.{ℕ, _≡_, refl, Bool, arith, ℤ, _+ℤ_}
+use Rattle.lengths.specs.{Units.halved, Units._⊕_, declared.Flat.Flat, declared.Point.Point, Points.moved, Points.flat}
+use Rattle.lengths.proofs.{Laws.view, Laws.sum-bal, Laws.halved-over, Laws.halved-under, Ring.var, Ring._⊞_, Ring.same, Ring.shift}
+use Rattle.codes.specs.declared.Plane.{Plane, the-variants.G17, the-variants.G18, the-variants.G19}
+use Rattle.arcs.specs.{Turning.direction, Arcs.distance²}
 use Rattle.centres.specs.Centres.{radiusHolds, across, spare, scaledRoot, coordinate, centreBy}
 
 -- a point of a plane displaced by the numbers of another

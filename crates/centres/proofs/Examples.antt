@@ -1,6 +1,5 @@
 -- The rules give the examples' centres, and none where the radius is refused, by computation.
-use mathlib.Core.Path.{_≡_, refl}
-use mathlib.Core.List.{map}
+use Rattle.terms.proofs.Common.{_≡_, refl, map}
 use Rattle.centres.specs.Examples.{rows, centreOfRow}
 use Rattle.centres.proofs.Opened.{opened}
 

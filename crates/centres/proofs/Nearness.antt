@@ -1,30 +1,14 @@
 -- The rounded centre's distances to the start and to the end are each less than two units from the radius. Rounding moves twice the
 -- centre by less than 2 units on each axis, so by less than 3 units in all, and twice the exact centre is 2 |R| from twice either
 -- end: proved without real numbers, at a fraction that is near enough to the root (proofs/Approximating.antt). Assumes nothing.
-use Prim.Native.Nat.{ℕ, zero, suc, _+_, _-_, _*_, _≤_, _<_}
-use mathlib.Core.Path.{_≡_, refl, ap}
-use mathlib.Core.Bool.{Bool, true}
-use native.Mathlib.Nat.{mul-le-mul, mul-le-mul-left, le-of-mul-le-mul-left}
-use native.Mathlib.Decide.{decLt}
-use native.Mathlib.Omega.{arith}
-use lib.IntN.{ℤ, pos, _+ℤ_, _-ℤ_, _*ℤ_, natAbs}
-use borrow.Author.Tests.{le-leb}
-use Rattle.lengths.specs.Units.{sq}
-use Rattle.lengths.specs.View.{over, under, Within}
-use Rattle.lengths.proofs.Laws.{sum-bal, diff-bal, abs-sum, near-abs}
-use Rattle.lengths.proofs.Ring.{var, _⊞_, _⊟_}
-use Rattle.lengths.specs.declared.Flat.{Flat}
-use Rattle.arcs.specs.Root.{root}
-use Rattle.arcs.specs.Turning.{direction, dot}
-use Rattle.arcs.specs.Arcs.{distance², roundEnough}
-use Rattle.arcs.proofs.Extremes.{square-le}
-use Rattle.arcs.proofs.Root.{root-is, square-lt}
-use Rattle.centres.specs.Centres.{radiusHolds, across, spare, Centre}
-use Rattle.centres.specs.Nearness.{WithinTwo, Nearby}
+use Rattle.terms.proofs.Common.{ℕ, zero, suc, _+_, _-_, _*_, _≤_, _<_, _≡_, refl, ap, Bool, true, mul-le-mul, mul-le-mul-left, le-of-mul-le-mul-left, decLt, arith, ℤ, pos, _+ℤ_, _-ℤ_, _*ℤ_, natAbs, le-leb}
+use Rattle.lengths.specs.{Units.sq, View.over, View.under, View.Within, declared.Flat.Flat}
+use Rattle.lengths.proofs.{Laws.sum-bal, Laws.diff-bal, Laws.abs-sum, Laws.near-abs, Ring.var, Ring._⊞_, Ring._⊟_}
+use Rattle.arcs.{specs.Root.root, specs.Turning.direction, specs.Turning.dot, specs.Arcs.distance², specs.Arcs.roundEnough, proofs.Extremes.square-le, proofs.Root.root-is, proofs.Root.square-lt}
+use Rattle.centres.specs.{Centres.radiusHolds, Centres.across, Centres.spare, Centres.Centre, Nearness.WithinTwo, Nearness.Nearby}
 use Rattle.centres.proofs.Accepted.{radius-some, chord-some, chord-spare}
-use Rattle.centres.proofs.Triangle.{triangle, Quarter, right-angled}
+use Rattle.centres.proofs.{Triangle.triangle, Triangle.Quarter, Triangle.right-angled, Sides.perpendicular, Sides.perpendicular-back, Sides.as-long}
 use Rattle.centres.proofs.Approximating.{Fraction, fraction, Apart, apart, spans}
-use Rattle.centres.proofs.Sides.{perpendicular, perpendicular-back, as-long}
 
 -- ---- the distances, as naturals
 

@@ -1,26 +1,12 @@
 -- The centre lies on each axis at most the radius from the start: the exact centre does, and rounding down does not pass a whole
 -- number. Assumes nothing.
-use Prim.Native.Nat.{ℕ, zero, suc, _+_, _*_, _≤_, _<_}
-use mathlib.Core.Path.{_≡_, sym}
-use mathlib.Core.Bool.{Bool, true}
-use native.Mathlib.Nat.{mul-le-mul, mul-le-mul-left}
-use native.Mathlib.Omega.{arith}
-use lib.IntN.{ℤ, pos, negsuc, negℤ, _+ℤ_, _-ℤ_, _*ℤ_, natAbs}
-use lib.Signed.{leZ}
-use Rattle.lengths.specs.Units.{len, sq}
-use Rattle.lengths.specs.View.{over, under, Within}
+use Rattle.terms.proofs.Common.{ℕ, zero, suc, _+_, _*_, _≤_, _<_, _≡_, sym, Bool, true, mul-le-mul, mul-le-mul-left, arith, ℤ, pos, negsuc, negℤ, _+ℤ_, _-ℤ_, _*ℤ_, natAbs, leZ}
+use Rattle.lengths.specs.{Units.len, Units.sq, View.over, View.under, View.Within, declared.Flat.Flat}
 use Rattle.lengths.proofs.Laws.{view, sum-bal, diff-bal, neg-over, neg-under, abs-sum, near-abs, near-sq}
-use Rattle.lengths.specs.declared.Flat.{Flat}
-use Rattle.arcs.specs.Turning.{direction}
-use Rattle.arcs.specs.Arcs.{distance²}
-use Rattle.arcs.specs.Bounds.{Close, Reach}
-use Rattle.centres.specs.Centres.{across, spare, signedSquare, RoundedDown, centreBy}
-use Rattle.centres.specs.Bounds.{Spanned}
+use Rattle.arcs.specs.{Turning.direction, Arcs.distance², Bounds.Close, Bounds.Reach}
+use Rattle.centres.specs.{Centres.across, Centres.spare, Centres.signedSquare, Centres.RoundedDown, Centres.centreBy, Bounds.Spanned}
 use Rattle.centres.proofs.Accepted.{chord-some, chord-spare}
-use Rattle.centres.proofs.SignedSquares.{square-bal, less-square, most-square}
-use Rattle.centres.proofs.Triangle.{twice-product}
-use Rattle.centres.proofs.Sides.{across-first, across-second}
-use Rattle.centres.proofs.Rounding.{centre-is}
+use Rattle.centres.proofs.{SignedSquares.square-bal, SignedSquares.less-square, SignedSquares.most-square, Triangle.twice-product, Sides.across-first, Sides.across-second, Rounding.centre-is}
 
 -- Let x be the chord's size on an axis, across² + x² its square, and n what that lacks of 4 m². Where t and x together are at least 2 m,
 -- n + across² is at most t² + 2 t x, and the rest is that (across² − t x)² is not below 0.

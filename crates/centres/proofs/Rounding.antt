@@ -1,25 +1,11 @@
 -- What the rules compute is the exact centre, each coordinate rounded down, and there is only one such centre. Assumes nothing.
-use Prim.Native.Nat.{ℕ, zero, suc, _+_, _-_, _*_, _/_, _^_, _≤_, _<_}
-use mathlib.Core.Path.{_≡_, refl}
-use mathlib.Core.Bool.{Bool, true, false}
-use native.Mathlib.Nat.{mul-le-mul-right, div-mul-le-self, lt-div-mul-add, div-le-of-le-mul}
-use native.Mathlib.Omega.{arith}
-use lib.Dec.{eqb}
-use lib.IntN.{ℤ, pos, negsuc, negℤ, _+ℤ_, _-ℤ_, _*ℤ_}
-use lib.Signed.{leZ, ltZ}
-use borrow.Author.Tests.{eqb-true, eqb-false}
-use Rattle.lengths.specs.Units.{sq, halved}
-use Rattle.lengths.specs.View.{over, under, Within}
+use Rattle.terms.proofs.Common.{ℕ, zero, suc, _+_, _-_, _*_, _/_, _^_, _≤_, _<_, _≡_, refl, Bool, true, false, mul-le-mul-right, div-mul-le-self, lt-div-mul-add, div-le-of-le-mul, arith, eqb, ℤ, pos, negsuc, negℤ, _+ℤ_, _-ℤ_, _*ℤ_, leZ, ltZ, eqb-true, eqb-false}
+use Rattle.lengths.specs.{Units.sq, Units.halved, View.over, View.under, View.Within, declared.Flat.Flat}
 use Rattle.lengths.proofs.Laws.{view, sum-bal, diff-bal, neg-over, neg-under, halved-over, halved-under, sq-near}
-use Rattle.lengths.specs.declared.Flat.{Flat}
-use Rattle.arcs.specs.Root.{Root, root}
-use Rattle.arcs.specs.Turning.{direction}
-use Rattle.arcs.specs.Arcs.{distance²}
-use Rattle.arcs.proofs.Root.{root-is}
+use Rattle.arcs.{specs.Root.Root, specs.Root.root, specs.Turning.direction, specs.Arcs.distance², proofs.Root.root-is}
 use Rattle.centres.specs.Centres.{radiusHolds, across, spare, signedSquare, RoundedDown, Centre, scaledRoot, coordinate, centreBy}
-use Rattle.centres.proofs.Accepted.{chord-some}
+use Rattle.centres.proofs.{Accepted.chord-some, Sides.across-first, Sides.across-second}
 use Rattle.centres.proofs.SignedSquares.{square-bal, square-most, square-less, less-square}
-use Rattle.centres.proofs.Sides.{across-first, across-second}
 
 -- ---- the root that is computed
 

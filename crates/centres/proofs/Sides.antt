@@ -1,23 +1,11 @@
 -- The way across from the chord (`across`): at right angles to it and as long. Then on which side of the chord the exact centre lies
 -- and what that has to do with half a turn, and the chord of twice the radius, whose middle is the centre. Assumes nothing.
-use Prim.Native.Nat.{ℕ, _+_, _*_, _<_}
-use mathlib.Core.Path.{_≡_, ap, _∙_}
-use mathlib.Core.Bool.{Bool, true, false}
-use native.Mathlib.Nat.{mul-le-mul}
-use native.Mathlib.Omega.{arith}
-use lib.IntN.{ℤ, pos, negℤ, _+ℤ_, _-ℤ_, _*ℤ_}
-use lib.Signed.{ltZ}
-use borrow.Author.Tests.{lt-ltb}
-use Rattle.lengths.specs.Units.{sq, halved}
-use Rattle.lengths.proofs.Laws.{view, sq-neg, sq-mul, halved-over, halved-under}
-use Rattle.lengths.proofs.Ring.{var, _⊞_, _⊟_, _⊠_, neg, same}
-use Rattle.lengths.specs.declared.Flat.{Flat}
-use Rattle.arcs.specs.Arcs.{distance²}
-use Rattle.arcs.specs.Turning.{direction, cross, dot, left}
-use Rattle.centres.specs.Centres.{radiusHolds, across, spare, RoundedDown, Centre}
-use Rattle.centres.specs.Sides.{times, acrossAt}
-use Rattle.centres.proofs.Accepted.{chord-some, chord-spare}
-use Rattle.centres.proofs.SignedSquares.{square-bal, less-square, most-square}
+use Rattle.terms.proofs.Common.{ℕ, _+_, _*_, _<_, _≡_, ap, _∙_, Bool, true, false, mul-le-mul, arith, ℤ, pos, negℤ, _+ℤ_, _-ℤ_, _*ℤ_, ltZ, lt-ltb}
+use Rattle.lengths.specs.{Units.sq, Units.halved, declared.Flat.Flat}
+use Rattle.lengths.proofs.{Laws.view, Laws.sq-neg, Laws.sq-mul, Laws.halved-over, Laws.halved-under, Ring.var, Ring._⊞_, Ring._⊟_, Ring._⊠_, Ring.neg, Ring.same}
+use Rattle.arcs.specs.{Arcs.distance², Turning.direction, Turning.cross, Turning.dot, Turning.left}
+use Rattle.centres.specs.{Centres.radiusHolds, Centres.across, Centres.spare, Centres.RoundedDown, Centres.Centre, Sides.times, Sides.acrossAt}
+use Rattle.centres.proofs.{Accepted.chord-some, Accepted.chord-spare, SignedSquares.square-bal, SignedSquares.less-square, SignedSquares.most-square}
 
 -- ---- at right angles and as long
 

@@ -1,14 +1,7 @@
 -- Numbers are ordered as their signed squares are: so a number is compared with a multiple of a root (`RoundedDown` in
 -- specs/Centres.antt). Every signed square stands with a natural factor, as it does there. Assumes nothing.
-use Prim.Native.Nat.{ℕ, suc, _+_, _*_, _≤_, _<_}
-use mathlib.Core.Path.{_≡_, refl, ap}
-use mathlib.Core.Bool.{Bool, true, false}
-use native.Mathlib.Nat.{mul-le-mul, mul-le-mul-right}
-use native.Mathlib.Omega.{arith}
-use lib.IntN.{ℤ, pos, negsuc, _*ℤ_}
-use lib.Signed.{leZ, ltZ}
-use Rattle.lengths.specs.View.{over, under}
-use Rattle.lengths.proofs.Laws.{view, mul-bal}
+use Rattle.terms.proofs.Common.{ℕ, suc, _+_, _*_, _≤_, _<_, _≡_, refl, ap, Bool, true, false, mul-le-mul, mul-le-mul-right, arith, ℤ, pos, negsuc, _*ℤ_, leZ, ltZ}
+use Rattle.lengths.{specs.View.over, specs.View.under, proofs.Laws.view, proofs.Laws.mul-bal}
 use Rattle.centres.specs.Centres.{signedSquare}
 
 -- the signed square is over² − under², one of the two being 0

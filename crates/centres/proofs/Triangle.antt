@@ -1,15 +1,7 @@
 -- Two laws of triangles in whole numbers: one side is at most as long as the other two together, and the square over the sides of a
 -- right angle. Assumes nothing.
-use Prim.Native.Nat.{ℕ, _+_, _-_, _*_, _≤_}
-use mathlib.Core.Path.{_≡_, ap}
-use native.Mathlib.Nat.{mul-le-mul}
-use native.Mathlib.Decide.{decLe}
-use native.Mathlib.Omega.{arith}
-use lib.IntN.{ℤ, pos, negsuc, _+ℤ_, _*ℤ_}
-use Rattle.lengths.specs.Units.{sq}
-use Rattle.lengths.specs.View.{over, under}
-use Rattle.lengths.proofs.Laws.{view}
-use Rattle.lengths.proofs.Ring.{var, _⊞_, _⊠_}
+use Rattle.terms.proofs.Common.{ℕ, _+_, _-_, _*_, _≤_, _≡_, ap, mul-le-mul, decLe, arith, ℤ, pos, negsuc, _+ℤ_, _*ℤ_}
+use Rattle.lengths.{specs.Units.sq, specs.View.over, specs.View.under, proofs.Laws.view, proofs.Ring.var, proofs.Ring._⊞_, proofs.Ring._⊠_}
 use Rattle.arcs.proofs.Extremes.{square-le}
 
 -- ---- one side is not longer than the others together

@@ -1,13 +1,6 @@
 -- The bounds under which every number of the centre's computation fits, as linear facts of naturals (specs/View.antt of `lengths`).
-use Prim.Native.Nat.{ℕ, _+_, _*_, _/_, _%_, _≤_, _<_}
-use mathlib.Core.Path.{_≡_}
-use mathlib.Core.Bool.{true}
-use lib.IntN.{ℤ}
-use Rattle.lengths.specs.declared.Len.{Len}
-use Rattle.lengths.specs.Units.{len, sq}
-use Rattle.lengths.specs.View.{Within}
-use Rattle.lengths.specs.declared.Flat.{Flat}
-use Rattle.lengths.specs.Near.{FlatNear}
+use Rattle.terms.specs.Common.{ℕ, _+_, _*_, _/_, _%_, _≤_, _<_, _≡_, true, ℤ}
+use Rattle.lengths.specs.{declared.Len.Len, Units.len, Units.sq, View.Within, declared.Flat.Flat, Near.FlatNear}
 use Rattle.wide.specs.declared.Division.{Division}
 use Rattle.centres.specs.Centres.{radiusHolds, scaledRoot}
 

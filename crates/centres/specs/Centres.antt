@@ -1,17 +1,9 @@
 -- Document 02, #101: "R positive is the arc of at most half a turn, R negative the larger one. The centre is the exact one, each
 -- coordinate rounded down to a whole unit".
-use Prim.Native.Nat.{ℕ, _-_, _*_, _/_}
-use mathlib.Core.Path.{_≡_}
-use mathlib.Core.Bool.{Bool, true, false, _&&_}
-use lib.Dec.{leb, ltb, eqb}
-use lib.IntN.{ℤ, pos, negsuc, negℤ, _+ℤ_, _-ℤ_, _*ℤ_, natAbs}
-use lib.Signed.{leZ, ltZ}
+use Rattle.terms.specs.Common.{ℕ, _-_, _*_, _/_, _≡_, Bool, true, false, _&&_, leb, ltb, eqb, ℤ, pos, negsuc, negℤ, _+ℤ_, _-ℤ_, _*ℤ_, natAbs, leZ, ltZ}
 use Rattle.terms.specs.Terms.{if_then_else_}
-use Rattle.lengths.specs.Units.{len, sq, halved}
-use Rattle.lengths.specs.declared.Flat.{Flat}
-use Rattle.arcs.specs.Root.{root}
-use Rattle.arcs.specs.Turning.{direction}
-use Rattle.arcs.specs.Arcs.{distance²}
+use Rattle.lengths.specs.{Units.len, Units.sq, Units.halved, declared.Flat.Flat}
+use Rattle.arcs.specs.{Root.root, Turning.direction, Arcs.distance²}
 
 -- "1 by geometry for a radius under 3,000 units in magnitude, start equal to end, or a chord longer than twice the radius, and for
 -- no other R": the chord's square is at least 1 and at most 4 R².

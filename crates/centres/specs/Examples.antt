@@ -1,12 +1,7 @@
 -- Arcs by their radius, in units of 0.00001 mm: the centre, or none where the radius is refused.
-use Prim.Native.Nat.{ℕ}
-use mathlib.Core.Bool.{Bool, true, false}
-use mathlib.Core.List.{List, [], _∷_}
-use mathlib.Core.Option.{Option, none, some}
-use lib.IntN.{ℤ, pos, negℤ}
+use Rattle.terms.specs.Common.{ℕ, Bool, true, false, List, [], _∷_, Option, none, some, ℤ, pos, negℤ}
 use Rattle.terms.specs.Terms.{when}
-use Rattle.lengths.specs.Units.{len}
-use Rattle.lengths.specs.declared.Flat.{Flat}
+use Rattle.lengths.specs.{Units.len, declared.Flat.Flat}
 use Rattle.centres.specs.Centres.{radiusHolds, centreBy}
 
 pub record Row : Type 0 where

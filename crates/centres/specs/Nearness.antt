@@ -1,7 +1,6 @@
 -- How round an arc is about its rounded centre: both ends are |R| from the exact centre, and from the rounded one less than two
 -- units more or less. proofs/Nearness.antt shows it of every arc by its radius that is accepted.
-use Prim.Native.Nat.{_+_, _-_, _*_, _<_}
-use lib.IntN.{ℤ, natAbs}
+use Rattle.terms.specs.Common.{_+_, _-_, _*_, _<_, ℤ, natAbs}
 use Rattle.lengths.specs.declared.Flat.{Flat}
 use Rattle.arcs.specs.Arcs.{distance²}
 

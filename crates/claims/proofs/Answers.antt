@@ -1,32 +1,19 @@
 -- What a caller gets: the answer of every input; stepping, "each one more adds that block's records and no others; before the end the
 -- answer is 'not finished', and past the end or a refusal answer and list stay as they were", and so does where the run stands; and
 -- "a refused block adds no record and changes no setting, earlier records stand".
-use Prim.Native.Nat.{ℕ, zero, suc, _+_, _-_, _≤_}
-use mathlib.Core.Path.{_≡_, refl, sym, _∙_, ap, subst}
-use mathlib.Core.List.{List, map}
-use mathlib.Core.Logic.{⊎-elim}
-use mathlib.Core.Bool.{true}
-use native.Mathlib.Omega.{arith}
-use native.Mathlib.Nat.{zero-add, suc-add}
-use lib.ListN.{length, length-map}
-use Rattle.refusals.proofs.Table.{one-to-sixteen}
-use Rattle.setup.specs.declared.Setup.{Setup}
-use Rattle.setup.specs.Frame.{offset}
-use Rattle.records.specs.declared.Record.{Record}
-use Rattle.records.specs.Path.{recordMoved}
-use Rattle.runs.specs.declared.Budget.{Budget}
-use Rattle.runs.specs.declared.Budget.the-variants.{Whole, First}
+use Rattle.terms.proofs.Common.{ℕ, zero, suc, _+_, _-_, _≤_, _≡_, refl, sym, _∙_, ap, subst, List, map, ⊎-elim, true, arith, zero-add, suc-add, length, length-map}
+use Rattle.refusals.{specs.declared.Place.Place, specs.declared.Refusal.Refusal, proofs.Table.one-to-sixteen}
+use Rattle.setup.specs.{declared.Setup.Setup, Frame.offset}
+use Rattle.records.specs.{declared.Record.Record, Path.recordMoved}
+use Rattle.runs.specs.declared.Budget.{Budget, the-variants.Whole, the-variants.First}
+use Rattle.runs.specs.{Run.outcome, Run.recordsOf, Run.answerBy, Run.answerOf, Run.standingOf, Run.firstOf, declared.Standing.Standing}
 use Rattle.runs.specs.Walk.{Going, How, ended, returned, unfinished, Outcome, refusedAt, nowhere, just}
-use Rattle.runs.specs.Run.{outcome, recordsOf, answerBy, answerOf, standingOf, firstOf}
-use Rattle.refusals.specs.declared.Place.{Place}
 use Rattle.settings.specs.Settings.{stateMoved, firstState}
-use Rattle.runs.specs.declared.Standing.{Standing}
-use Rattle.refusals.specs.declared.Refusal.{Refusal}
 use Rattle.claims.specs.Blockwise.{Close, notYet, atEnd, atRefusal, Sofar, howSofar, outcomeSofar, firstBlocks, Stand, Turn, refuses, goes, ends, turnAt, afterTurn, oneMore, placeAhead, nextSofar, jobFor, begun, more, refusedAtOnce}
 use Rattle.claims.specs.Answers.{Answered, finished, notFinished, refusal, TurnsAt, OneMore, stays, refusing, going, ending, SameTold, earlyNumbers, numberedIn, startSettings, RefusedWhere, atOnce, atBlock}
+use Rattle.claims.proofs.Travel.{same-start}
 use Rattle.claims.proofs.Runs.{open-how, gives, suited, first-n, how-first, begun-cases}
 use Rattle.claims.proofs.Turns.{Over, open-or-over, turns-ahead, open-turn, one-over, more-last, records-last}
-use Rattle.claims.proofs.Travel.{same-start}
 
 -- a budget with which so many blocks may be executed
 abbrev pub Allows : ℕ → Budget → Type 0

@@ -1,54 +1,29 @@
 -- Demand 3, both halves, of the whole and of the first n blocks where the program ends within them. In the frame of the common
 -- offset the two setups have the same start and the same computation, and differ in the travel alone.
-use Prim.Native.Nat.{ℕ, zero, suc, _≤_}
-use mathlib.Core.Path.{_≡_, refl, sym, _∙_, ap, subst}
-use mathlib.Core.Bool.{Bool, true, false, false≢true, _&&_}
-use mathlib.Core.Logic.{_⊎_, inl, inr, ⊎-elim}
-use mathlib.Core.List.{List, [], _∷_, _++_, map, append-nil}
-use native.Mathlib.Omega.{arith}
-use lib.ListN.{length, length-map}
-use Rattle.terms.specs.Terms.{if_then_else_}
-use Rattle.terms.proofs.Laws.{both-left, both-right}
-use Rattle.lengths.specs.Units.{len}
-use Rattle.lengths.proofs.Ring.{shift}
-use Rattle.refusals.specs.declared.Refusal.{Refusal}
-use Rattle.refusals.specs.declared.Refusal.the-variants.{LeavesTravel}
-use Rattle.refusals.specs.declared.Place.{Place}
-use Rattle.refusals.specs.Numbers.{numberOf}
-use Rattle.refusals.specs.Answers.{refusedWith, reportOf}
-use Rattle.lengths.specs.declared.Point.{Point}
-use Rattle.lengths.specs.Points.{moved, movedBack}
-use Rattle.setup.specs.declared.Axes.{Axes}
-use Rattle.setup.specs.declared.Setup.{Setup}
-use Rattle.setup.specs.Limits.{validSetup}
-use Rattle.setup.specs.Frame.{pointOf, offset, startOf, bedOf, originAt, switchOn}
-use Rattle.setup.specs.declared.Bed.{Bed}
-use Rattle.setup.specs.Fair.{Fair}
-use Rattle.setup.proofs.Valid as Valid
-use Rattle.records.specs.declared.Record.{Record}
-use Rattle.records.specs.Path.{endOf, pathStaysIn, recordMoved}
-use Rattle.settings.specs.declared.State.{State}
-use Rattle.settings.specs.Settings.{firstState, stateMoved}
-use Rattle.blocks.specs.Machine.{machineOf}
-use Rattle.blocks.specs.declared.Control.{Control}
+use Rattle.terms.proofs.Common.{ℕ, zero, suc, _≤_, _≡_, refl, sym, _∙_, ap, subst, Bool, true, false, false≢true, _&&_, _⊎_, inl, inr, ⊎-elim, List, [], _∷_, _++_, map, append-nil, arith, length, length-map}
+use Rattle.terms.{specs.Terms.if_then_else_, proofs.Laws.both-left, proofs.Laws.both-right}
+use Rattle.lengths.{specs.Units.len, specs.declared.Point.Point, specs.Points.moved, specs.Points.movedBack, proofs.Ring.shift}
+use Rattle.refusals.specs.declared.{Refusal.Refusal, Refusal.the-variants.LeavesTravel, Place.Place}
+use Rattle.refusals.specs.{Numbers.numberOf, Answers.refusedWith, Answers.reportOf, declared.Answer.the-variants.Done}
+use Rattle.setup.specs.declared.{Axes.Axes, Setup.Setup}
+use Rattle.setup.specs.{Limits.validSetup, Frame.pointOf, Frame.offset, Frame.startOf, Frame.bedOf, Frame.originAt, Frame.switchOn, declared.Bed.Bed, Fair.Fair}
+use Rattle.records.specs.{declared.Record.Record, Path.endOf, Path.pathStaysIn, Path.recordMoved}
+use Rattle.settings.specs.{declared.State.State, Settings.firstState, Settings.stateMoved}
+use Rattle.blocks.specs.{Machine.machineOf, declared.Control.Control, Exec.Verdict, Exec.refused, Exec.accepted, Reach.Reachable}
 use Rattle.blocks.specs.declared.Control.the-variants.{On, Call, Back, Stop}
-use Rattle.blocks.specs.Exec.{Verdict, refused, accepted}
-use Rattle.blocks.specs.Reach.{Reachable}
 use Rattle.lines.specs.Blocks.{Block}
 use Rattle.programs.specs.Openings.{placeOf}
-use Rattle.runs.specs.declared.Budget.{Budget}
-use Rattle.runs.specs.declared.Budget.the-variants.{Whole, First}
-use Rattle.refusals.specs.declared.Answer.the-variants.{Done}
-use Rattle.runs.specs.Walk.{Job, How, unfinished, refusedAt, Outcome, nowhere, verdictOn}
+use Rattle.runs.specs.declared.Budget.{Budget, the-variants.Whole, the-variants.First}
 use Rattle.runs.specs.Run.{firstOf, outcome, recordsOf, answerBy, answerOf, standingOf}
-use Rattle.claims.specs.Blockwise.{BlockDone, Stand, Turn, refuses, past, led, turnBy, verdictIn, turnAt, notYet, atRefusal, Sofar, afterTurn, oneMore, more, recordsBy, howSofar, nextSofar, outcomeSofar, jobFor, begun, firstBlocks}
+use Rattle.runs.specs.Walk.{Job, How, unfinished, refusedAt, Outcome, nowhere, verdictOn}
 use Rattle.claims.specs.Travel.{inTravel}
+use Rattle.claims.specs.Blockwise.{BlockDone, Stand, Turn, refuses, past, led, turnBy, verdictIn, turnAt, notYet, atRefusal, Sofar, afterTurn, oneMore, more, recordsBy, howSofar, nextSofar, outcomeSofar, jobFor, begun, firstBlocks}
 use Rattle.claims.specs.Displaced.{displaced, allMoved, standingMoved, stayIn, LeavesFirst}
-use Rattle.claims.proofs.Verdicts.{otherTests, accepts, twin}
+use Rattle.claims.proofs.{Verdicts.otherTests, Verdicts.accepts, Verdicts.twin, Answers.one-later, Answers.still-open, Answers.Allows, Answers.allowed}
 use Rattle.claims.proofs.Turns.{doneWith, withMachine, turn-cases, led-cases, Over, open-or-over, open-turn, one-over, records-last}
 use Rattle.claims.proofs.Runs.{Suits, gives, first-n, suited, how-first, first-reached, reach-kept, begun-with}
 use Rattle.claims.proofs.Travel.{state-twice, records-twice, stays-both, run-stayed, same-start, same-stays}
-use Rattle.claims.proofs.Answers.{one-later, still-open, Allows, allowed}
+use Rattle.setup.proofs.Valid as Valid
 
 -- ---- one block on two machines that differ in their tests alone
 

@@ -1,21 +1,11 @@
 -- The worked pairs of demand 3, by computation.
-use mathlib.Core.Path.{_≡_, refl}
-use mathlib.Core.Bool.{Bool, true, false}
-use mathlib.Core.List.{[], _∷_}
-use lib.IntN.{pos}
-use Rattle.refusals.specs.Answers.{refusedWith, reportOf}
-use Rattle.setup.specs.declared.Axes.{Axes}
-use Rattle.setup.specs.Examples.{setupT}
-use Rattle.setup.specs.Limits.{validSetup}
-use Rattle.runs.specs.Examples.{roomT}
-use Rattle.refusals.specs.declared.Answer.the-variants.{Done}
-use Rattle.runs.specs.declared.Budget.{Budget}
-use Rattle.runs.specs.declared.Budget.the-variants.{Whole, First}
-use Rattle.runs.specs.Run.{recordsOf, answerOf, standingOf}
+use Rattle.terms.proofs.Common.{_≡_, refl, Bool, true, false, [], _∷_, pos}
+use Rattle.refusals.specs.{Answers.refusedWith, Answers.reportOf, declared.Answer.the-variants.Done}
+use Rattle.setup.specs.{declared.Axes.Axes, Examples.setupT, Limits.validSetup}
+use Rattle.runs.specs.{Examples.roomT, declared.Budget.Budget, declared.Budget.the-variants.Whole, declared.Budget.the-variants.First, Run.recordsOf, Run.answerOf, Run.standingOf}
 use Rattle.claims.specs.Displaced.{displaced, allMoved, standingMoved, stayIn, LeavesFirst}
 use Rattle.claims.specs.Examples.{turn, touching, leaving, rapid, turnRecords}
-use Rattle.claims.proofs.Opened.{opened}
-use Rattle.claims.proofs.Displaced.{moves-the-cut, refuses-for-travel}
+use Rattle.claims.proofs.{Opened.opened, Displaced.moves-the-cut, Displaced.refuses-for-travel}
 
 -- under setup T, whole and with the first three blocks, in which the program ends
 pub turn-done :

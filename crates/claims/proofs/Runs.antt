@@ -1,52 +1,27 @@
 -- The run block by block (specs/Blockwise.antt) gives what the rules of the run give, for every budget: a data set's outcome is where
 -- the run block by block stands. Every run comes to its end or to a refusal after some number of blocks.
-use Prim.Native.Nat.{ℕ, zero, suc, _+_, _-_}
-use mathlib.Core.Path.{_≡_, refl, sym, _∙_, ap, ap₂, subst}
-use mathlib.Core.Bool.{Bool, true, false, false≢true, not, _||_, or-true}
-use mathlib.Core.List.{List, [], _∷_, _++_, append-assoc, append-nil}
-use native.Mathlib.Omega.{arith}
-use lib.Dec.{eqb, ltb}
-use lib.ListN.{length, drop}
-use borrow.Author.Tests.{ne-eqb}
+use Rattle.terms.proofs.Common.{ℕ, zero, suc, _+_, _-_, _≡_, refl, sym, _∙_, ap, ap₂, subst, Bool, true, false, false≢true, not, _||_, or-true, List, [], _∷_, _++_, append-assoc, append-nil, arith, eqb, ltb, length, drop, ne-eqb}
 use Rattle.terms.specs.Terms.{if_then_else_, any}
-use Rattle.refusals.specs.declared.Refusal.{Refusal}
+use Rattle.refusals.specs.{declared.Refusal.Refusal, declared.Place.Place, Numbers.numberOf}
 use Rattle.refusals.specs.declared.Refusal.the-variants.{NoEnd, FirstBlock, BadSetup, DataTooLong, BadParameter}
-use Rattle.refusals.specs.declared.Place.{Place}
-use Rattle.setup.specs.declared.Setup.{Setup}
-use Rattle.setup.specs.Limits.{validSetup}
-use Rattle.setup.specs.Frame.{bedOf}
-use Rattle.setup.specs.declared.Bed.{Bed}
-use Rattle.setup.specs.Fair.{Fair}
-use Rattle.setup.proofs.Valid as Valid
-use Rattle.records.specs.declared.Record.{Record}
-use Rattle.records.specs.Layout.{roomOf}
-use Rattle.settings.specs.declared.State.{State}
-use Rattle.settings.specs.Settings.{firstModes, firstState}
-use Rattle.blocks.specs.Machine.{machineOf}
-use Rattle.blocks.specs.Reach.{Reachable}
-use Rattle.blocks.specs.Keeping.{Keeps}
+use Rattle.setup.specs.{declared.Setup.Setup, Limits.validSetup, Frame.bedOf, declared.Bed.Bed, Fair.Fair}
+use Rattle.records.specs.{declared.Record.Record, Layout.roomOf}
+use Rattle.settings.specs.{declared.State.State, Settings.firstModes, Settings.firstState}
+use Rattle.blocks.specs.{Machine.machineOf, Reach.Reachable, Keeping.Keeps, Exec.Verdict, Exec.refused, Exec.accepted, Exec.callsIn, declared.Control.Control}
 use Rattle.blocks.proofs.Accepting.{accepted-kept}
-use Rattle.blocks.specs.Exec.{Verdict, refused, accepted, callsIn}
-use Rattle.blocks.specs.declared.Control.{Control}
 use Rattle.blocks.specs.declared.Control.the-variants.{On, Call, Back, Stop}
 use Rattle.lines.specs.Blocks.{Block, blocksOf, closes, opens}
-use Rattle.programs.specs.declared.Program.{Program}
-use Rattle.programs.specs.Openings.{Table, table, placeOf, known, programsFrom, blocksAt, openingOf, programAfter, entryOf, entered, scanBlock, scan, mainAs}
-use Rattle.programs.specs.Openings as Openings
-use Rattle.refusals.specs.Numbers.{numberOf}
-use Rattle.programs.specs.declared.Opening.{Opening}
-use Rattle.programs.specs.declared.Opening.the-variants.{Number, Bad}
-use Rattle.programs.specs.declared.Entry.{Entry}
-use Rattle.programs.specs.declared.Entry.the-variants.{Refuses, Enters}
+use Rattle.programs.specs.declared.{Program.Program, Opening.Opening, Opening.the-variants.Number, Opening.the-variants.Bad, Entry.Entry, Entry.the-variants.Refuses, Entry.the-variants.Enters}
 use Rattle.programs.proofs.Entries.{entry-refusal}
-use Rattle.runs.specs.declared.Budget.{Budget}
-use Rattle.runs.specs.declared.Budget.the-variants.{Whole, First}
+use Rattle.programs.specs.Openings.{Table, table, placeOf, known, programsFrom, blocksAt, openingOf, programAfter, entryOf, entered, scanBlock, scan, mainAs}
+use Rattle.runs.specs.{declared.Budget.Budget, declared.Budget.the-variants.Whole, declared.Budget.the-variants.First, Run.firstOf, Run.runTable, Run.runBlocks, Run.outcome}
 use Rattle.runs.specs.Walk.{Job, Going, How, ended, returned, unfinished, refusedAt, Outcome, nowhere, just, spentAt, isSpent, oneLess, after, goingOn, thenRest, follow, obey, isSkipped, slashLength, verdictOn, runBlock, reached, walk, blocksFor, callees}
-use Rattle.runs.specs.Run.{firstOf, runTable, runBlocks, outcome}
-use Rattle.claims.specs.Blockwise.{BlockDone, Stand, levels, Turn, refuses, goes, ends, past, inCallee, returning, led, turnBy, verdictIn, turnUnder, turnUnless, turnIn, turnAt, Close, notYet, atEnd, atRefusal, Sofar, afterTurn, turnedUnless, oneMore, more, recordsBy, howSofar, placeAhead, nextSofar, outcomeSofar, tableIn, subsOf, jobFor, standAt, refusedAtOnce, begunBy, begun, firstBlocks}
 use Rattle.claims.specs.Answers.{earlyNumbers, numberedIn}
+use Rattle.claims.specs.Blockwise.{BlockDone, Stand, levels, Turn, refuses, goes, ends, past, inCallee, returning, led, turnBy, verdictIn, turnUnder, turnUnless, turnIn, turnAt, Close, notYet, atEnd, atRefusal, Sofar, afterTurn, turnedUnless, oneMore, more, recordsBy, howSofar, placeAhead, nextSofar, outcomeSofar, tableIn, subsOf, jobFor, standAt, refusedAtOnce, begunBy, begun, firstBlocks}
 use Rattle.claims.proofs.Verdicts.{accepts, call-has-level, main-does-not-return}
 use Rattle.claims.proofs.Turns.{doneWith, withMachine, turn-cases, Over, more-over, records-last, run-holds}
+use Rattle.setup.proofs.Valid as Valid
+use Rattle.programs.specs.Openings as Openings
 
 -- ---- a program that returns goes on in the one that called it
 

@@ -1,40 +1,20 @@
 -- Which refusals come at a block, and that 16 never comes: under a valid setup a centre is within 1,100,000,000 of the machine's
 -- zero, and under another no block is reached.
-use Prim.Native.Nat.{ℕ, _+_}
-use mathlib.Core.Path.{_≡_, refl, sym, _∙_, ap}
-use mathlib.Core.Bool.{Bool, true, false, false≢true}
-use mathlib.Core.Logic.{_⊎_, inl, inr}
-use mathlib.Core.List.{List, []}
-use native.Mathlib.Omega.{arith}
-use lib.Dec.{eqb, ltb}
-use lib.ListN.{length, drop}
+use Rattle.terms.proofs.Common.{ℕ, _+_, _≡_, refl, sym, _∙_, ap, Bool, true, false, false≢true, _⊎_, inl, inr, List, [], arith, eqb, ltb, length, drop}
 use Rattle.terms.specs.Terms.{if_then_else_, any}
-use Rattle.refusals.specs.declared.Refusal.{Refusal}
-use Rattle.refusals.specs.declared.Refusal.the-variants.{BadSetup, DataTooLong, NoEnd}
-use Rattle.refusals.specs.declared.Place.{Place}
-use Rattle.refusals.specs.Numbers.{numberOf}
-use Rattle.refusals.specs.Answers.{refusedWith, reportOf}
-use Rattle.setup.specs.declared.Bed.{Bed}
-use Rattle.setup.specs.declared.Setup.{Setup}
-use Rattle.setup.specs.Limits.{validSetup}
-use Rattle.setup.specs.Frame.{bedOf}
-use Rattle.setup.specs.Fair.{Fair}
-use Rattle.setup.proofs.Valid as Valid
+use Rattle.refusals.specs.declared.Refusal.{Refusal, the-variants.BadSetup, the-variants.DataTooLong, the-variants.NoEnd}
+use Rattle.refusals.specs.{declared.Place.Place, Numbers.numberOf, Answers.refusedWith, Answers.reportOf}
+use Rattle.setup.specs.{declared.Bed.Bed, declared.Setup.Setup, Limits.validSetup, Frame.bedOf, Fair.Fair}
 use Rattle.records.specs.declared.Record.{Record}
 use Rattle.settings.specs.declared.State.{State}
-use Rattle.blocks.specs.Machine.{machineOf}
-use Rattle.blocks.specs.Reach.{Reachable}
-use Rattle.blocks.specs.Exec.{callsIn}
-use Rattle.runs.specs.declared.Budget.{Budget}
-use Rattle.runs.specs.declared.Budget.the-variants.{Whole}
+use Rattle.blocks.specs.{Machine.machineOf, Reach.Reachable, Exec.callsIn}
+use Rattle.runs.specs.{declared.Budget.Budget, declared.Budget.the-variants.Whole, Run.firstOf, Run.outcome, Run.answerBy, Run.answerOf}
 use Rattle.runs.specs.Walk.{Job, How, ended, returned, unfinished, refusedAt, Outcome, nowhere, just, slashLength, verdictOn}
-use Rattle.runs.specs.Run.{firstOf, outcome, answerBy, answerOf}
 use Rattle.claims.specs.Blockwise.{Stand, levels, refuses, verdictIn, turnAt, notYet, Sofar, more, jobFor, standAt, refusedAtOnce, firstBlocks}
 use Rattle.claims.specs.Answers.{earlyNumbers, blockNumbers, numberedIn, RefusedBlock, RefusedWhere, atOnce, atBlock}
-use Rattle.claims.proofs.Verdicts.{exec-number}
-use Rattle.claims.proofs.Turns.{doneWith, withMachine, turn-cases, led-cases}
+use Rattle.claims.proofs.{Verdicts.exec-number, Turns.doneWith, Turns.withMachine, Turns.turn-cases, Turns.led-cases, Answers.still-open, Answers.turn-refused, Answers.refused-adds-nothing}
 use Rattle.claims.proofs.Runs.{during, begun-cases, once-over, first-reached, reach-kept}
-use Rattle.claims.proofs.Answers.{still-open, turn-refused, refused-adds-nothing}
+use Rattle.setup.proofs.Valid as Valid
 
 turn-number :
     (bed : Bed) (fair : Fair bed) (job : Job) (st : Stand) → Reachable bed (st .state)

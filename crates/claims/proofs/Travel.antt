@@ -1,35 +1,18 @@
 -- "No recorded path leaves the travel, as document 01 measures it": every motion record of every run, finished or not.
-use Prim.Native.Nat.{ℕ}
-use mathlib.Core.Path.{_≡_, refl, sym, _∙_, ap, ap₂}
-use mathlib.Core.Bool.{Bool, true, _&&_, false, and-assoc}
-use mathlib.Core.List.{List, map, [], _∷_, _++_}
-use native.Mathlib.Omega.{arith}
-use lib.IntN.{ℤ, _+ℤ_, _-ℤ_}
-use lib.Signed.{leZ}
-use Rattle.lengths.specs.declared.Point.{Point}
-use Rattle.lengths.specs.declared.Travel.{Travel}
-use Rattle.lengths.specs.Points.{moved, movedBack, inside}
-use Rattle.setup.specs.declared.Setup.{Setup}
-use Rattle.setup.specs.Frame.{pointOf, offset, startOf, travelOf, bedOf}
-use Rattle.records.specs.declared.Record.{Record}
-use Rattle.records.specs.Path.{pathOf, endOf, pathStaysIn, recordMoved, pathEnd, arcMoved}
-use Rattle.settings.specs.Settings.{firstState, stateMoved}
+use Rattle.terms.proofs.Common.{ℕ, _≡_, refl, sym, _∙_, ap, ap₂, Bool, true, _&&_, false, and-assoc, List, map, [], _∷_, _++_, arith, ℤ, _+ℤ_, _-ℤ_, leZ}
+use Rattle.lengths.specs.{declared.Point.Point, declared.Travel.Travel, Points.moved, Points.movedBack, Points.inside}
+use Rattle.lengths.proofs.{Laws.view, Laws.sum-bal, Laws.le-shift, Ring.shift, Ring.same, Ring.var, Ring._⊞_, Ring._⊟_}
+use Rattle.setup.specs.{declared.Setup.Setup, Frame.pointOf, Frame.offset, Frame.startOf, Frame.travelOf, Frame.bedOf}
+use Rattle.records.specs.{declared.Record.Record, Path.pathOf, Path.endOf, Path.pathStaysIn, Path.recordMoved, Path.pathEnd, Path.arcMoved, declared.Arc.Arc}
+use Rattle.records.specs.declared.Record.the-variants.{RP, LN, AR, AL, DW, SP, SO, PA, EN}
+use Rattle.settings.specs.{Settings.firstState, Settings.stateMoved, declared.State.State}
+use Rattle.arcs.specs.Turning.{direction}
 use Rattle.arcs.specs.Arcs.{pathStays, distance², radius², notAbove, notBelow, coordinateInside, extremeInside, extremesInside, leftWay, rightWay, arcStays}
 use Rattle.blocks.specs.Machine.{machineOf}
-use Rattle.runs.specs.declared.Budget.{Budget}
-use Rattle.runs.specs.Run.{firstOf, outcome, recordsOf, standingOf}
-use Rattle.lengths.proofs.Laws.{view, sum-bal, le-shift}
-use Rattle.lengths.proofs.Ring.{shift, same, var, _⊞_, _⊟_}
-use Rattle.records.specs.declared.Arc.{Arc}
-use Rattle.records.specs.declared.Record.the-variants.{RP, LN, AR, AL, DW, SP, SO, PA, EN}
-use Rattle.settings.specs.declared.State.{State}
-use Rattle.arcs.specs.Turning.{direction}
+use Rattle.runs.specs.{declared.Budget.Budget, Run.firstOf, Run.outcome, Run.recordsOf, Run.standingOf}
 use Rattle.centres.proofs.Displaced.{flat-moved}
-use Rattle.claims.specs.Blockwise.{recordsBy, outcomeSofar, jobFor, begun, firstBlocks}
-use Rattle.claims.specs.Travel.{machineTravel, inTravel}
-use Rattle.claims.proofs.Verdicts.{accepts, accepted-path}
-use Rattle.claims.proofs.Turns.{run-holds}
-use Rattle.claims.proofs.Runs.{gives, suited, begun-with}
+use Rattle.claims.specs.{Blockwise.recordsBy, Blockwise.outcomeSofar, Blockwise.jobFor, Blockwise.begun, Blockwise.firstBlocks, Travel.machineTravel, Travel.inTravel}
+use Rattle.claims.proofs.{Verdicts.accepts, Verdicts.accepted-path, Turns.run-holds, Runs.gives, Runs.suited, Runs.begun-with}
 
 -- ---- displacing a path and the travel alike changes no comparison
 

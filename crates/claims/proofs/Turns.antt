@@ -1,24 +1,15 @@
 -- What the next block can do, case by case; what every block keeps, a run keeps.
-use Prim.Native.Nat.{ℕ, zero, suc, _-_}
-use mathlib.Core.Path.{_≡_, refl, sym, _∙_, ap}
-use mathlib.Core.Bool.{Bool, true, false, _||_}
-use mathlib.Core.Logic.{_⊎_, inl, inr}
-use mathlib.Core.List.{List, [], _∷_, _++_, append-assoc, append-nil}
-use native.Mathlib.Omega.{arith}
-use Rattle.refusals.specs.declared.Refusal.the-variants.{NoEnd}
-use Rattle.refusals.specs.declared.Place.{Place}
-use Rattle.records.specs.declared.Record.{Record}
-use Rattle.records.specs.Layout.{roomOf}
+use Rattle.terms.proofs.Common.{ℕ, zero, suc, _-_, _≡_, refl, sym, _∙_, ap, Bool, true, false, _||_, _⊎_, inl, inr, List, [], _∷_, _++_, append-assoc, append-nil, arith}
+use Rattle.refusals.specs.declared.{Refusal.the-variants.NoEnd, Place.Place}
+use Rattle.records.specs.{declared.Record.Record, Layout.roomOf}
 use Rattle.settings.specs.declared.State.{State}
-use Rattle.blocks.specs.Machine.{Machine}
-use Rattle.blocks.specs.Exec.{Blame, Verdict, refused, accepted}
-use Rattle.blocks.specs.declared.Control.{Control}
+use Rattle.blocks.specs.{Machine.Machine, Exec.Blame, Exec.Verdict, Exec.refused, Exec.accepted, declared.Control.Control}
 use Rattle.blocks.specs.declared.Control.the-variants.{On, Call, Back, Stop}
 use Rattle.lines.specs.Blocks.{Block, closes, opens}
 use Rattle.programs.specs.Openings.{placeOf}
 use Rattle.runs.specs.Walk.{Job, isSkipped}
-use Rattle.claims.specs.Blockwise.{BlockDone, Stand, Turn, refuses, goes, ends, past, inCallee, returning, led, turnBy, verdictIn, turnUnder, turnUnless, turnIn, turnAt, Close, notYet, atEnd, atRefusal, Sofar, afterTurn, turnedUnless, oneMore, more, recordsBy, placeAhead}
 use Rattle.claims.specs.Answers.{TurnsAt}
+use Rattle.claims.specs.Blockwise.{BlockDone, Stand, Turn, refuses, goes, ends, past, inCallee, returning, led, turnBy, verdictIn, turnUnder, turnUnless, turnIn, turnAt, Close, notYet, atEnd, atRefusal, Sofar, afterTurn, turnedUnless, oneMore, more, recordsBy, placeAhead}
 
 abbrev pub doneWith : Block → List Record → BlockDone
 doneWith b made = record { block = b; made = made }

@@ -1,43 +1,23 @@
 -- What a verdict on a block says: what an accepted block has passed and where it leads, which refusals a block can get, and what
 -- another machine, whose two tests "16; 9" differ, says of a block that was accepted.
-use Prim.Native.Nat.{ℕ, _+_}
-use mathlib.Core.Path.{_≡_, refl, sym, _∙_, ap}
-use mathlib.Core.Bool.{Bool, true, false, true≢false, not, _&&_, _||_}
-use mathlib.Core.Option.{Option, none, some}
-use mathlib.Core.List.{List, [], _∷_, _++_}
-use native.Mathlib.Omega.{arith}
-use lib.Dec.{eqb, ltb}
-use lib.ListN.{drop}
-use lib.IntN.{natAbs}
-use borrow.Author.Tests.{not-false}
-use Rattle.terms.specs.Terms.{if_then_else_, all, any, first, firstOf}
-use Rattle.terms.proofs.Laws.{either-left, either-right}
+use Rattle.terms.proofs.Common.{ℕ, _+_, _≡_, refl, sym, _∙_, ap, Bool, true, false, true≢false, not, _&&_, _||_, Option, none, some, List, [], _∷_, _++_, arith, eqb, ltb, drop, natAbs, not-false}
+use Rattle.terms.{specs.Terms.if_then_else_, specs.Terms.all, specs.Terms.any, specs.Terms.first, specs.Terms.firstOf, proofs.Laws.either-left, proofs.Laws.either-right}
 use Rattle.refusals.specs.declared.Refusal.{Refusal}
 use Rattle.refusals.specs.declared.Refusal.the-variants.{BadParameter, AddressUndefined, ParameterUndefined, CannotExecute, NumberNotFound, NestOver, LeavesTravel, NoRoom, Unreadable, CentreTooFar}
 use Rattle.lengths.specs.declared.Point.{Point}
 use Rattle.codes.specs.Codes.{miscNumber, isM, isNoM, endsProgram}
-use Rattle.words.specs.declared.Word.{Word}
-use Rattle.words.specs.Words.{Words, these, badAt, wordsOf}
+use Rattle.words.specs.{declared.Word.Word, Words.Words, Words.these, Words.badAt, Words.wordsOf}
 use Rattle.letters.specs.Letters.{isKnown, isG, isMisc, miscIn, miscOrOther, miscOfBlock, standsAlone, wrongProgram, repeats, badG, badM, mayNotStand, firstThatMayNot, hasCentre, firstUnused, firstBadValue}
-use Rattle.setup.specs.declared.Bed.{Bed}
-use Rattle.setup.specs.Fair.{Fair}
-use Rattle.records.specs.declared.Record.{Record}
-use Rattle.records.specs.Layout.{roomOf}
-use Rattle.records.specs.Path.{endOf, pathStaysIn}
+use Rattle.setup.specs.{declared.Bed.Bed, Fair.Fair}
+use Rattle.records.specs.{declared.Record.Record, Layout.roomOf, Path.endOf, Path.pathStaysIn}
 use Rattle.settings.specs.declared.State.{State}
-use Rattle.blocks.specs.Machine.{Machine, machineOf}
-use Rattle.blocks.specs.Reach.{Reachable}
-use Rattle.blocks.specs.declared.Said.{Said}
-use Rattle.blocks.specs.declared.Control.{Control}
+use Rattle.blocks.{specs.Machine.Machine, specs.Machine.machineOf, specs.Reach.Reachable, specs.declared.Said.Said, specs.declared.Control.Control, proofs.Meaning.meant, proofs.Making.made-fits}
 use Rattle.blocks.specs.declared.Control.the-variants.{On, Call, Back, Stop}
 use Rattle.blocks.specs.Exec.{Blame, Calls, Verdict, refused, accepted, saidBy, movesIn, madeBy, settled, controlOf, inMain, callTo, unknownCall, lacksParameter, cannotDrill, atWord, tooDeep, atStart, blames, unless, judged, execWords, exec, callsIn}
 use Rattle.blocks.proofs.Accepting.{AllNone, none-before, all-none, past-all, word-none, start-none}
-use Rattle.blocks.proofs.Meaning.{meant}
-use Rattle.blocks.proofs.Making.{made-fits}
 use Rattle.lines.specs.Blocks.{Block}
 use Rattle.runs.specs.Walk.{Job, slashLength, verdictOn}
-use Rattle.claims.specs.Blockwise.{Stand, levels, verdictIn}
-use Rattle.claims.specs.Answers.{blockNumbers, numberedIn}
+use Rattle.claims.specs.{Blockwise.Stand, Blockwise.levels, Blockwise.verdictIn, Answers.blockNumbers, Answers.numberedIn}
 
 -- ---- an accepted block
 

@@ -1,27 +1,15 @@
 -- What a caller gets, in the words of demands 1 and of stepping: the answer, and what one executed block more changes.
-use Prim.Native.Nat.{ℕ, suc, _≤_}
-use mathlib.Core.Path.{_≡_}
-use mathlib.Core.Bool.{Bool, true}
-use mathlib.Core.List.{List, [], _∷_, _++_}
-use lib.Dec.{eqb}
-use lib.ListN.{length}
+use Rattle.terms.specs.Common.{ℕ, suc, _≤_, _≡_, Bool, true, List, [], _∷_, _++_, eqb, length}
 use Rattle.terms.specs.Terms.{any}
 use Rattle.lengths.specs.Units.{len}
-use Rattle.refusals.specs.declared.Refusal.{Refusal}
-use Rattle.refusals.specs.declared.Place.{Place}
-use Rattle.refusals.specs.Numbers.{numberOf}
-use Rattle.setup.specs.declared.Setup.{Setup}
-use Rattle.setup.specs.Frame.{pointOf}
-use Rattle.records.specs.declared.Record.{Record}
-use Rattle.settings.specs.declared.State.{State}
-use Rattle.settings.specs.Settings.{firstState}
-use Rattle.programs.specs.Openings.{placeOf}
-use Rattle.runs.specs.declared.Budget.{Budget}
-use Rattle.runs.specs.declared.Budget.the-variants.{First}
-use Rattle.refusals.specs.declared.Answer.{Answer}
+use Rattle.refusals.specs.{declared.Refusal.Refusal, declared.Place.Place, Numbers.numberOf, declared.Answer.Answer}
 use Rattle.refusals.specs.declared.Answer.the-variants.{Done, Unfinished, Refused}
-use Rattle.runs.specs.Walk.{ended, unfinished, refusedAt, nowhere, just}
-use Rattle.runs.specs.Run.{firstOf, outcome, recordsOf, answerOf, standingOf}
+use Rattle.setup.specs.{declared.Setup.Setup, Frame.pointOf}
+use Rattle.records.specs.declared.Record.{Record}
+use Rattle.settings.specs.{declared.State.State, Settings.firstState}
+use Rattle.programs.specs.Openings.{placeOf}
+use Rattle.runs.specs.declared.Budget.{Budget, the-variants.First}
+use Rattle.runs.specs.{Walk.ended, Walk.unfinished, Walk.refusedAt, Walk.nowhere, Walk.just, Run.firstOf, Run.outcome, Run.recordsOf, Run.answerOf, Run.standingOf}
 use Rattle.claims.specs.Blockwise.{BlockDone, Stand, Turn, refuses, goes, ends, turnAt, placeAhead, jobFor, firstBlocks}
 
 -- "Each program, setup and list buffer gets a finished list or one of sixteen numbered refusals with its place"; "not

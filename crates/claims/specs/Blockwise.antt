@@ -1,32 +1,19 @@
 -- A run seen block by block: where it stands after the first n executed blocks, which blocks those were and what each added.
 -- The rules of the run (specs/Walk.antt of `runs`) go by programs and calls; proofs/Runs.antt shows that both give
 -- the same for every n.
-use Prim.Native.Nat.{ℕ, zero, suc, _-_}
-use mathlib.Core.Bool.{Bool, true, false, not, _||_}
-use mathlib.Core.List.{List, [], _∷_, _++_}
-use lib.Dec.{ltb}
-use lib.ListN.{length}
+use Rattle.terms.specs.Common.{ℕ, zero, suc, _-_, Bool, true, false, not, _||_, List, [], _∷_, _++_, ltb, length}
 use Rattle.terms.specs.Terms.{if_then_else_}
-use Rattle.refusals.specs.declared.Refusal.{Refusal}
-use Rattle.refusals.specs.declared.Refusal.the-variants.{NoEnd, FirstBlock, BadSetup, DataTooLong}
-use Rattle.refusals.specs.declared.Place.{Place}
-use Rattle.setup.specs.declared.Setup.{Setup}
-use Rattle.setup.specs.Limits.{validSetup}
-use Rattle.setup.specs.Frame.{bedOf, switchOn}
-use Rattle.records.specs.declared.Record.{Record}
-use Rattle.records.specs.Layout.{roomOf}
+use Rattle.refusals.specs.declared.{Refusal.Refusal, Refusal.the-variants.NoEnd, Refusal.the-variants.FirstBlock, Refusal.the-variants.BadSetup, Refusal.the-variants.DataTooLong, Place.Place}
+use Rattle.setup.specs.{declared.Setup.Setup, Limits.validSetup, Frame.bedOf, Frame.switchOn}
+use Rattle.records.specs.{declared.Record.Record, Layout.roomOf}
 use Rattle.settings.specs.declared.State.{State}
-use Rattle.blocks.specs.Machine.{machineOf}
-use Rattle.blocks.specs.Exec.{Verdict, refused, accepted}
-use Rattle.blocks.specs.declared.Control.{Control}
+use Rattle.blocks.specs.{Machine.machineOf, Exec.Verdict, Exec.refused, Exec.accepted, declared.Control.Control}
 use Rattle.blocks.specs.declared.Control.the-variants.{On, Call, Back, Stop}
 use Rattle.lines.specs.Blocks.{Block, blocksOf, closes, opens}
-use Rattle.programs.specs.Openings.{Table, table, placeOf, known, programsFrom, blocksAt}
-use Rattle.programs.specs.Openings as Openings
-use Rattle.programs.specs.declared.Program.{Program}
-use Rattle.runs.specs.declared.Budget.the-variants.{Whole}
+use Rattle.programs.specs.{Openings.Table, Openings.table, Openings.placeOf, Openings.known, Openings.programsFrom, Openings.blocksAt, declared.Program.Program}
+use Rattle.runs.specs.{declared.Budget.the-variants.Whole, Run.firstOf, Run.finishOf}
 use Rattle.runs.specs.Walk.{Job, How, ended, unfinished, refusedAt, Outcome, nowhere, isSkipped, verdictOn, blocksFor}
-use Rattle.runs.specs.Run.{firstOf, finishOf}
+use Rattle.programs.specs.Openings as Openings
 
 -- a block that was executed, and its records
 pub record BlockDone : Type 0 where

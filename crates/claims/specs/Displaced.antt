@@ -1,26 +1,13 @@
 -- Demand 3, "Moving the work moves the cut and nothing else": the two setups, and what the second one answers where the displaced
 -- path leaves the travel.
-use Prim.Native.Nat.{ℕ, suc}
-use mathlib.Core.Path.{_≡_}
-use mathlib.Core.Bool.{Bool, true, false}
-use mathlib.Core.List.{List, [], _∷_, _++_, map}
-use lib.IntN.{_+ℤ_}
-use lib.ListN.{length}
+use Rattle.terms.specs.Common.{ℕ, suc, _≡_, Bool, true, false, List, [], _∷_, _++_, map, _+ℤ_, length}
 use Rattle.refusals.specs.Answers.{refusedWith, reportOf}
-use Rattle.setup.specs.declared.Axes.{Axes}
-use Rattle.setup.specs.declared.Setup.{Setup}
-use Rattle.setup.specs.Frame.{pointOf}
-use Rattle.records.specs.declared.Record.{Record}
-use Rattle.records.specs.Path.{pathStaysIn, recordMoved}
+use Rattle.setup.specs.{declared.Axes.Axes, declared.Setup.Setup, Frame.pointOf}
+use Rattle.records.specs.{declared.Record.Record, Path.pathStaysIn, Path.recordMoved}
 use Rattle.settings.specs.Settings.{stateMoved}
 use Rattle.programs.specs.Openings.{placeOf}
-use Rattle.runs.specs.declared.Budget.{Budget}
-use Rattle.runs.specs.declared.Budget.the-variants.{First}
-use Rattle.runs.specs.declared.Standing.{Standing}
-use Rattle.runs.specs.Walk.{nowhere}
-use Rattle.runs.specs.Run.{recordsOf, answerOf, standingOf}
-use Rattle.claims.specs.Blockwise.{BlockDone, firstBlocks}
-use Rattle.claims.specs.Travel.{inTravel}
+use Rattle.runs.specs.{declared.Budget.Budget, declared.Budget.the-variants.First, declared.Standing.Standing, Walk.nowhere, Run.recordsOf, Run.answerOf, Run.standingOf}
+use Rattle.claims.specs.{Blockwise.BlockDone, Blockwise.firstBlocks, Travel.inTravel}
 
 abbrev pub axesMoved : Axes → Axes → Axes
 axesMoved by a = record { x = a .x +ℤ by .x; y = a .y +ℤ by .y; z = a .z +ℤ by .z }

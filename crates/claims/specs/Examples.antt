@@ -1,16 +1,12 @@
 -- One worked pair of setups for each half of demand 3. Under setup T a full turn from workpiece X0 Y0 reaches Y 1,500,000 at its
 -- highest. Displaced by 13,500,000 it touches the travel's end, Y 15,000,000. Displaced by one unit more it leaves the travel,
 -- though its start and its end, both at Y 14,500,001, are inside.
-use Prim.Native.Nat.{ℕ}
-use mathlib.Core.List.{List, [], _∷_}
-use lib.IntN.{ℤ, pos}
+use Rattle.terms.specs.Common.{ℕ, List, [], _∷_, ℤ, pos}
 use Rattle.terms.specs.Terms.{bytes}
-use Rattle.lengths.specs.Units.{len}
+use Rattle.lengths.specs.{Units.len, declared.Point.Point}
 use Rattle.codes.specs.declared.Plane.the-variants.{G17}
-use Rattle.lengths.specs.declared.Point.{Point}
 use Rattle.setup.specs.declared.Axes.{Axes}
-use Rattle.records.specs.declared.Record.{Record}
-use Rattle.records.specs.declared.Record.the-variants.{RP, AL, EN}
+use Rattle.records.specs.declared.Record.{Record, the-variants.RP, the-variants.AL, the-variants.EN}
 
 abbrev pub turn : List ℕ
 turn = bytes "%\nG00 X0 Y0\nG03 I-5.0\nM30\n"

@@ -1,11 +1,8 @@
 -- The travel of a setup in machine units, as the setup gives it.
-use mathlib.Core.Bool.{Bool}
-use Rattle.lengths.specs.declared.Point.{Point}
-use Rattle.lengths.specs.declared.Travel.{Travel}
-use Rattle.setup.specs.declared.Setup.{Setup}
-use Rattle.setup.specs.Frame.{pointOf}
-use Rattle.records.specs.declared.Record.{Record}
-use Rattle.records.specs.Path.{pathOf}
+use Rattle.terms.specs.Common.{Bool}
+use Rattle.lengths.specs.declared.{Point.Point, Travel.Travel}
+use Rattle.setup.specs.{declared.Setup.Setup, Frame.pointOf}
+use Rattle.records.specs.{declared.Record.Record, Path.pathOf}
 use Rattle.arcs.specs.Arcs.{pathStays}
 
 abbrev pub machineTravel : Setup → Travel

@@ -1,20 +1,10 @@
 -- How a number is looked up in the tables of codes. A `match` knows of a number that reaches its last arm that it is none
 -- of the single numbers and in none of the ranges; a table that has only such numbers does not have it. Assumes nothing.
-use Prim.Native.Nat.{ℕ, zero, suc, _+_, _-_, _≤_, _<_}
-use mathlib.Core.Path.{_≡_, refl, sym, ap, _∙_}
-use mathlib.Core.Bool.{Bool, true, false, _||_, and-false}
-use mathlib.Core.List.{List, [], _∷_, _++_}
-use native.Mathlib.Omega.{arith}
-use lib.Dec.{eqb, leb}
-use lib.ListN.{getD}
-use borrow.Author.Tests.{ne-eqb, lt-leb}
-use Rattle.terms.specs.Terms.{any, all, lookup, fromTo}
-use Rattle.terms.proofs.Laws.{both-left, both-right}
+use Rattle.terms.proofs.Common.{ℕ, zero, suc, _+_, _-_, _≤_, _<_, _≡_, refl, sym, ap, _∙_, Bool, true, false, _||_, and-false, List, [], _∷_, _++_, arith, eqb, leb, getD, ne-eqb, lt-leb}
+use Rattle.terms.{specs.Terms.any, specs.Terms.all, specs.Terms.lookup, specs.Terms.fromTo, proofs.Laws.both-left, proofs.Laws.both-right}
 use Rattle.codes.specs.Codes.{gTable, mTable, codeOf, miscOf}
-use Rattle.codes.specs.declared.Plane.{Plane}
-use Rattle.codes.specs.declared.Plane.the-variants.{G17, G18, G19}
-use Rattle.codes.specs.declared.Code.the-variants.{GroupB, GroupE, Unknown}
-use Rattle.codes.specs.declared.Misc.the-variants.{Other}
+use Rattle.codes.specs.declared.Plane.{Plane, the-variants.G17, the-variants.G18, the-variants.G19}
+use Rattle.codes.specs.declared.{Code.the-variants.GroupB, Code.the-variants.GroupE, Code.the-variants.Unknown, Misc.the-variants.Other}
 
 -- ---- a number that a table does not have
 

@@ -1,19 +1,11 @@
 -- Document 01, "Codes": the groups of the G codes, their meaning, and the M codes.
-use Prim.Native.Nat.{ℕ}
-use mathlib.Core.Bool.{Bool, _&&_, _||_}
-use mathlib.Core.List.{List, [], _∷_}
-use lib.Dec.{eqb}
+use Rattle.terms.specs.Common.{ℕ, Bool, _&&_, _||_, List, [], _∷_, eqb}
 use Rattle.terms.specs.Terms.{lookup}
+use Rattle.codes.specs.declared.{Plane.the-variants.G17, Plane.the-variants.G18, Plane.the-variants.G19, Unit.the-variants.Inch, Unit.the-variants.Millimetre}
+use Rattle.codes.specs.declared.{Distance.the-variants.Absolute, Distance.the-variants.Incremental, Return.the-variants.ToInitial, Return.the-variants.ToR, Code.Code, Misc.Misc}
 use Rattle.codes.specs.declared.Cycle.the-variants.{G81, G82, G85, G89}
-use Rattle.codes.specs.declared.Motion.{Motion}
 use Rattle.codes.specs.declared.Motion.the-variants.{Off, G00, G01, G02, G03, Drilling}
-use Rattle.codes.specs.declared.Plane.the-variants.{G17, G18, G19}
-use Rattle.codes.specs.declared.Unit.the-variants.{Inch, Millimetre}
-use Rattle.codes.specs.declared.Distance.the-variants.{Absolute, Incremental}
-use Rattle.codes.specs.declared.Return.the-variants.{ToInitial, ToR}
-use Rattle.codes.specs.declared.Code.{Code}
 use Rattle.codes.specs.declared.Code.the-variants.{GroupA, GroupB, GroupC, GroupD, GroupE, GroupF, G04, Unknown}
-use Rattle.codes.specs.declared.Misc.{Misc}
 use Rattle.codes.specs.declared.Misc.the-variants.{M00, M02, M03, M05, M30, M98, M99, Other}
 
 abbrev pub gTable : List (ℕ × Code)

@@ -1,22 +1,10 @@
 -- The options by the words of a command. Assumes nothing.
-use Prim.Native.Nat.{ℕ, _+_, _≤_, _<_}
-use mathlib.Core.Path.{_≡_, refl, sym, ap, _∙_}
-use mathlib.Core.Bool.{Bool, true, false, not, _&&_}
-use mathlib.Core.List.{List}
-use native.Mathlib.Omega.{arith}
-use lib.Dec.{leb, ltb}
-use lib.ListN.{length, take, length-take}
-use lib.Seq.{slice, take-length}
-use borrow.Author.Tests.{leb-true, le-leb, lt-leb, le-ltb, lt-ltb, not-true, not-false}
+use Rattle.terms.proofs.Common.{ℕ, _+_, _≤_, _<_, _≡_, refl, sym, ap, _∙_, Bool, true, false, not, _&&_, List, arith, leb, ltb, length, take, length-take, slice, take-length, leb-true, le-leb, lt-leb, le-ltb, lt-ltb, not-true, not-false}
 use Rattle.terms.specs.Terms.{if_then_else_, bytes}
-use Rattle.texts.specs.Texts.{sameBytes}
+use Rattle.texts.specs.{Texts.sameBytes, Figures.digitsIn, declared.Digits.Digits, declared.Digits.the-variants.Are, declared.Digits.the-variants.Others}
 use Rattle.texts.proofs.Places.{same-lengths}
-use Rattle.texts.specs.Figures.{digitsIn}
-use Rattle.texts.specs.declared.Digits.{Digits}
-use Rattle.texts.specs.declared.Digits.the-variants.{Are, Others}
-use Rattle.commands.specs.Words.{wordOf}
+use Rattle.commands.specs.{Words.wordOf, declared.options.Options.Options}
 use Rattle.commands.specs.Options.{noOptions, wrongOptions, withBlocks, withRoom, withPartial, withOption, withNext, withNoMore, isListed, firstOptions, optionsOf}
-use Rattle.commands.specs.declared.options.Options.{Options}
 
 -- ---- the room is never above the largest, and each option takes two words at most
 

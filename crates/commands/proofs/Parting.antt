@@ -1,15 +1,7 @@
 -- The words of a command by their places. Assumes nothing.
-use Prim.Native.Nat.{ℕ, zero, suc, _+_, _-_, _≤_, _<_}
-use mathlib.Core.Path.{_≡_, refl, sym, ap, _∙_}
-use mathlib.Core.Bool.{not}
-use mathlib.Core.List.{List}
-use native.Mathlib.Omega.{arith}
-use lib.ListN.{length, take, drop, getD, drop-of-length-le, length-drop}
-use lib.Seq.{drop-drop}
-use borrow.Author.Tests.{eq-eqb, ne-eqb}
+use Rattle.terms.proofs.Common.{ℕ, zero, suc, _+_, _-_, _≤_, _<_, _≡_, refl, sym, ap, _∙_, not, List, arith, length, take, drop, getD, drop-of-length-le, length-drop, drop-drop, eq-eqb, ne-eqb}
 use Rattle.lines.proofs.Lines.{at-place}
-use Rattle.words.specs.Numbers.{run, count}
-use Rattle.words.proofs.Numbers.{run-short}
+use Rattle.words.{specs.Numbers.run, specs.Numbers.count, proofs.Numbers.run-short}
 use Rattle.texts.proofs.Places.{run-take}
 use Rattle.commands.specs.Words.{isEnd, countIn, wordIn, afterWord, afterWords}
 

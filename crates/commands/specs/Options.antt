@@ -1,18 +1,10 @@
 -- The words of a run after `run SETUP DATA`, as the help tells them: "[LIST] [--blocks N] [--room R] [--partial]". "N: only
 -- the first N blocks; R: at most R bytes of records, 1048576 where it is not given". Each option may be given once, in any
 -- order.
-use Prim.Native.Nat.{ℕ, _+_}
-use mathlib.Core.Bool.{Bool, true, false, not, _&&_}
-use mathlib.Core.List.{List}
-use lib.Dec.{leb, ltb}
-use lib.ListN.{take}
+use Rattle.terms.specs.Common.{ℕ, _+_, Bool, true, false, not, _&&_, List, leb, ltb, take}
 use Rattle.terms.specs.Terms.{if_then_else_, bytes}
-use Rattle.texts.specs.Texts.{sameBytes}
-use Rattle.texts.specs.Figures.{digitsIn}
-use Rattle.texts.specs.declared.Digits.{Digits}
-use Rattle.texts.specs.declared.Digits.the-variants.{Are, Others}
-use Rattle.commands.specs.Words.{wordOf}
-use Rattle.commands.specs.declared.options.Options.{Options}
+use Rattle.texts.specs.{Texts.sameBytes, Figures.digitsIn, declared.Digits.Digits, declared.Digits.the-variants.Are, declared.Digits.the-variants.Others}
+use Rattle.commands.specs.{Words.wordOf, declared.options.Options.Options}
 
 -- where none is given: all blocks, the largest room, and nothing of a refused run; words from the number k on may be options
 abbrev pub noOptions : Bool → ℕ → Options

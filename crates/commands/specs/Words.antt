@@ -1,9 +1,5 @@
 -- The words of a command, each ended by a byte 0, which no word can hold.
-use Prim.Native.Nat.{ℕ, zero, suc, _+_}
-use mathlib.Core.Bool.{Bool, not}
-use mathlib.Core.List.{List}
-use lib.Dec.{eqb}
-use lib.ListN.{length, drop}
+use Rattle.terms.specs.Common.{ℕ, zero, suc, _+_, Bool, not, List, eqb, length, drop}
 use Rattle.words.specs.Numbers.{run, count}
 
 abbrev pub isEnd : ℕ → Bool

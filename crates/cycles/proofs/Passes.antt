@@ -1,25 +1,13 @@
 -- Laws of the passes of a cycle: what one pass does, and how the next follows on it. Assumes nothing.
-use Prim.Native.Nat.{ℕ, zero, suc}
-use mathlib.Core.Path.{_≡_, refl, sym, _∙_, ap, ap₂}
-use mathlib.Core.Bool.{Bool, true, false}
-use mathlib.Core.List.{List, [], _∷_, _++_}
+use Rattle.terms.proofs.Common.{ℕ, zero, suc, _≡_, refl, sym, _∙_, ap, ap₂, Bool, true, false, List, [], _∷_, _++_}
 use Rattle.terms.specs.Terms.{if_then_else_}
-use Rattle.lengths.specs.declared.Len.{Len}
-use Rattle.codes.specs.declared.Cycle.{Cycle}
-use Rattle.codes.specs.declared.Cycle.the-variants.{G81, G82, G85, G89}
-use Rattle.codes.specs.declared.Return.{Return}
-use Rattle.codes.specs.declared.Return.the-variants.{ToInitial, ToR}
-use Rattle.codes.specs.declared.Distance.{Distance}
-use Rattle.words.specs.declared.Given.{Given}
-use Rattle.words.specs.declared.Values.{Values}
-use Rattle.lengths.specs.declared.Point.{Point}
-use Rattle.lengths.specs.Points.{atHeight}
-use Rattle.records.specs.declared.Record.{Record}
-use Rattle.records.specs.declared.Record.the-variants.{RP, LN, DW}
-use Rattle.records.specs.Path.{pathOf, pathEnd, endOf}
+use Rattle.lengths.specs.{declared.Len.Len, declared.Point.Point, Points.atHeight}
+use Rattle.codes.specs.declared.Cycle.{Cycle, the-variants.G81, the-variants.G82, the-variants.G85, the-variants.G89}
+use Rattle.codes.specs.declared.{Return.Return, Return.the-variants.ToInitial, Return.the-variants.ToR, Distance.Distance}
+use Rattle.words.specs.declared.{Given.Given, Values.Values}
+use Rattle.records.specs.{declared.Record.Record, declared.Record.the-variants.RP, declared.Record.the-variants.LN, declared.Record.the-variants.DW, Path.pathOf, Path.pathEnd, Path.endOf}
 use Rattle.settings.specs.Target.{aimed, target}
-use Rattle.cycles.specs.declared.Hole.{Hole}
-use Rattle.cycles.specs.Cycles.{levelFor, returnLevel, dwelling, upUnder, leaving, passTo, passesAt}
+use Rattle.cycles.specs.{declared.Hole.Hole, Cycles.levelFor, Cycles.returnLevel, Cycles.dwelling, Cycles.upUnder, Cycles.leaving, Cycles.passTo, Cycles.passesAt}
 
 -- ---- the records of one pass, by whether Z stands
 

@@ -1,27 +1,13 @@
 -- The records of a pass by their places. Assumes nothing.
-use Prim.Native.Nat.{ℕ, zero, suc, _+_, _-_, _≤_, _<_}
-use mathlib.Core.Path.{_≡_, refl, sym, _∙_, ap}
-use mathlib.Core.Bool.{Bool, true, false}
-use mathlib.Core.List.{List, [], _∷_, _++_}
-use native.Mathlib.Omega.{arith}
+use Rattle.terms.proofs.Common.{ℕ, zero, suc, _+_, _-_, _≤_, _<_, _≡_, refl, sym, _∙_, ap, Bool, true, false, List, [], _∷_, _++_, arith, length, length-append}
 use denote.Enum.Declared.{tagOf}
 use types.Run.{OneOf, miss}
-use lib.ListN.{length, drop, length-append}
 use Rattle.terms.specs.Terms.{if_then_else_}
-use Rattle.lengths.specs.declared.Len.{Len}
-use Rattle.codes.specs.declared.Cycle.{Cycle}
-use Rattle.codes.specs.declared.Cycle.the-variants.{G81, G82, G85, G89}
-use Rattle.codes.proofs.Cycle.{the-type as cycle-type}
-use Rattle.codes.specs.declared.Return.{Return}
-use Rattle.codes.specs.declared.Return.the-variants.{ToInitial, ToR}
-use Rattle.words.specs.declared.Given.{Given}
-use Rattle.lengths.specs.declared.Point.{Point}
-use Rattle.lengths.specs.Points.{atHeight}
-use Rattle.records.specs.declared.Record.{Record}
-use Rattle.records.specs.declared.Record.the-variants.{RP, LN, DW}
-use Rattle.cycles.specs.declared.Hole.{Hole}
-use Rattle.cycles.specs.Cycles.{returnLevel, dwelling, upUnder, leaving, passTo}
-use Rattle.cycles.specs.Bounds.{UpLength, PassLength, Stands}
+use Rattle.lengths.specs.{declared.Len.Len, declared.Point.Point, Points.atHeight}
+use Rattle.codes.specs.declared.Cycle.{Cycle, the-variants.G81, the-variants.G82, the-variants.G85, the-variants.G89}
+use Rattle.codes.{specs.declared.Return.Return, specs.declared.Return.the-variants.ToInitial, specs.declared.Return.the-variants.ToR, proofs.Cycle.the-type as cycle-type}
+use Rattle.records.specs.declared.Record.{Record, the-variants.RP, the-variants.LN, the-variants.DW}
+use Rattle.cycles.specs.{declared.Hole.Hole, Cycles.returnLevel, Cycles.dwelling, Cycles.upUnder, Cycles.leaving, Cycles.passTo, Bounds.UpLength, Bounds.PassLength, Bounds.Stands}
 use Rattle.cycles.proofs.Passes.{with-z, without-z, dwell-is, no-dwell-is}
 
 -- ---- places of a list

@@ -1,21 +1,11 @@
 -- The bounds that a run keeps where a cycle is done, and what the functions under them answer.
-use Prim.Native.Nat.{ℕ, _+_, _≤_}
-use mathlib.Core.Path.{_≡_}
-use mathlib.Core.List.{List, _∷_}
-use lib.ListN.{length, drop}
-use Rattle.lengths.specs.declared.Len.{Len}
-use Rattle.codes.specs.declared.Cycle.{Cycle}
-use Rattle.codes.specs.declared.Return.{Return}
-use Rattle.lengths.specs.View.{Within}
-use Rattle.words.specs.declared.Given.{Given}
-use Rattle.words.specs.declared.Values.{Values}
-use Rattle.lengths.specs.declared.Point.{Point}
-use Rattle.lengths.specs.declared.Travel.{Travel}
-use Rattle.lengths.specs.Near.{Near}
+use Rattle.terms.specs.Common.{ℕ, _+_, _≤_, _≡_, List, _∷_, length, drop}
+use Rattle.lengths.specs.{declared.Len.Len, View.Within, declared.Point.Point, declared.Travel.Travel, Near.Near}
+use Rattle.codes.specs.declared.{Cycle.Cycle, Return.Return}
+use Rattle.words.specs.declared.{Given.Given, Values.Values}
 use Rattle.records.specs.declared.Record.{Record}
 use Rattle.settings.specs.Bounds.{Aims}
-use Rattle.cycles.specs.declared.Hole.{Hole}
-use Rattle.cycles.specs.Cycles.{leaving, passTo, passCount}
+use Rattle.cycles.specs.{declared.Hole.Hole, Cycles.leaving, Cycles.passTo, Cycles.passCount}
 
 -- what the levels of a hole lead from
 pub record Holes (origin from : Point) (v : Values) : Type 0 where

@@ -1,24 +1,12 @@
 -- Document 01, "Cycles": the levels and the passes.
-use Prim.Native.Nat.{ℕ, zero, suc}
-use mathlib.Core.Bool.{Bool, not, _&&_, _||_}
-use mathlib.Core.List.{List, [], _∷_, _++_}
-use lib.IntN.{natAbs}
-use lib.Signed.{leZ}
+use Rattle.terms.specs.Common.{ℕ, zero, suc, Bool, not, _&&_, _||_, List, [], _∷_, _++_, natAbs, leZ}
 use Rattle.terms.specs.Terms.{if_then_else_}
-use Rattle.lengths.specs.declared.Len.{Len}
-use Rattle.codes.specs.declared.Cycle.{Cycle}
-use Rattle.codes.specs.declared.Cycle.the-variants.{G81, G82, G85, G89}
-use Rattle.codes.specs.declared.Return.{Return}
-use Rattle.codes.specs.declared.Return.the-variants.{ToInitial, ToR}
-use Rattle.codes.specs.declared.Distance.{Distance}
-use Rattle.words.specs.declared.Given.{Given}
-use Rattle.words.specs.declared.Values.{Values}
-use Rattle.lengths.specs.declared.Point.{Point}
-use Rattle.lengths.specs.Points.{atHeight}
-use Rattle.records.specs.declared.Record.{Record}
-use Rattle.records.specs.declared.Record.the-variants.{RP, LN, DW}
-use Rattle.settings.specs.declared.State.{State}
-use Rattle.settings.specs.Target.{aimed, target}
+use Rattle.lengths.specs.{declared.Len.Len, declared.Point.Point, Points.atHeight}
+use Rattle.codes.specs.declared.Cycle.{Cycle, the-variants.G81, the-variants.G82, the-variants.G85, the-variants.G89}
+use Rattle.codes.specs.declared.{Return.Return, Return.the-variants.ToInitial, Return.the-variants.ToR, Distance.Distance}
+use Rattle.words.specs.declared.{Given.Given, Values.Values}
+use Rattle.records.specs.declared.Record.{Record, the-variants.RP, the-variants.LN, the-variants.DW}
+use Rattle.settings.specs.{declared.State.State, Target.aimed, Target.target}
 use Rattle.cycles.specs.declared.Hole.{Hole}
 
 -- "The initial level is Z at the block's start". "Missing R is the initial level. In G91, R counts from the initial level,

@@ -1,28 +1,15 @@
 -- The answer of a drawing, as the functions reach it. Assumes nothing.
-use Prim.Native.Nat.{ℕ, _≤_, _<_}
-use mathlib.Core.Path.{_≡_, refl, sym, ap, _∙_}
-use mathlib.Core.Bool.{Bool, true, false}
-use mathlib.Core.List.{List, [], _∷_}
-use native.Mathlib.Omega.{arith}
-use borrow.Author.Tests.{lt-ltb, le-ltb, ltb-true}
+use Rattle.terms.proofs.Common.{ℕ, _≤_, _<_, _≡_, refl, sym, ap, _∙_, Bool, true, false, List, [], _∷_, arith, lt-ltb, le-ltb, ltb-true, ltb, length, sets}
 use denote.Enum.Declared.{tagOf}
 use types.Run.{OneOf, miss}
-use lib.Dec.{ltb}
-use lib.ListN.{length}
-use lib.Seq.{sets}
 use Rattle.terms.specs.Terms.{if_then_else_}
-use Rattle.setup.specs.declared.Setup.{Setup}
-use Rattle.setup.specs.Limits.{validSetup}
+use Rattle.setup.specs.{declared.Setup.Setup, Limits.validSetup}
+use Rattle.records.specs.declared.{Fault.Fault, Listed.Listed, Listed.the-variants.Next, Listed.the-variants.End, Listed.the-variants.Faulty as faulty}
 use Rattle.records.proofs.Listed.{the-type}
-use Rattle.records.specs.declared.Fault.{Fault}
-use Rattle.records.specs.declared.Listed.{Listed}
-use Rattle.records.specs.declared.Listed.the-variants.{Next, End, Faulty as faulty}
-use Rattle.drawing.specs.declared.Drawn.{Drawn}
+use Rattle.svg.{specs.Text.Fills, proofs.Filled.fills-length}
+use Rattle.drawing.specs.{declared.Drawn.Drawn, Walks.recordsFrom, Walks.endFrom}
 use Rattle.drawing.specs.declared.Drawn.the-variants.{Is, NoRoom, Faulty, BadSetup}
-use Rattle.svg.specs.Text.{Fills}
-use Rattle.drawing.specs.Walks.{recordsFrom, endFrom}
 use Rattle.drawing.specs.Picture.{sheetOf, pictureOf, fitting, answerFor, bytesFor, Draws}
-use Rattle.svg.proofs.Filled.{fills-length}
 
 -- a place before the buffer's end says that the whole text is there
 pub fits-is : {was is text : List ℕ} {n : ℕ} → Fills was 0 text is n → n < length is → Is n ≡ fitting text (length was)

@@ -1,26 +1,13 @@
 -- Reading a list record by record, as the loops do it. Assumes nothing.
-use Prim.Native.Nat.{ℕ, zero, suc, _+_, _-_, _≤_}
-use mathlib.Core.Path.{_≡_, refl, ap, _∙_}
-use mathlib.Core.Bool.{Bool}
-use mathlib.Core.List.{List, [], _∷_}
-use native.Mathlib.Omega.{arith}
+use Rattle.terms.proofs.Common.{ℕ, zero, suc, _+_, _-_, _≤_, _≡_, refl, ap, _∙_, Bool, List, [], _∷_, arith, length}
 use denote.Enum.Declared.{tagOf}
 use types.Run.{OneOf, miss}
-use lib.ListN.{length}
-use Rattle.records.proofs.Listed.{the-type}
-use Rattle.records.specs.declared.Record.{Record}
-use Rattle.records.specs.declared.Fault.{Fault}
-use Rattle.records.specs.declared.Listed.{Listed}
-use Rattle.records.specs.declared.Listed.the-variants.{Next, End, Faulty}
+use Rattle.records.specs.declared.{Record.Record, Listed.Listed, Listed.the-variants.Next, Listed.the-variants.End, Listed.the-variants.Faulty}
+use Rattle.records.{specs.Path.pathOf, specs.Path.pathEnd, proofs.Listed.the-type, proofs.Again.read-on}
 use Rattle.records.specs.Reading.{readAt, readAll, onward, after, trail, Trail}
-use Rattle.records.proofs.Again.{read-on}
 use Rattle.lengths.specs.declared.Point.{Point}
-use Rattle.records.specs.Path.{pathOf, pathEnd}
-use Rattle.svg.specs.declared.View.{View}
-use Rattle.svg.specs.Text.{Fills}
-use Rattle.drawing.specs.Shapes.{drawn, path}
-use Rattle.drawing.specs.Walks.{recordsFrom, endFrom}
-use Rattle.svg.proofs.Filled.{fills-then, fills-none}
+use Rattle.svg.{specs.declared.View.View, specs.Text.Fills, proofs.Filled.fills-then, proofs.Filled.fills-none}
+use Rattle.drawing.specs.{Shapes.drawn, Shapes.path, Walks.recordsFrom, Walks.endFrom}
 
 module _ (l : List ℕ) where
   -- as many steps as there are bytes left are enough, and more change nothing

@@ -1,32 +1,12 @@
 -- The whole picture of a list under a setup, as SVG text, and what the library answers.
-use Prim.Native.Nat.{ℕ, _+_, _*_, _/_, _≤_}
-use mathlib.Core.Path.{_≡_}
-use mathlib.Core.Bool.{true, false}
-use mathlib.Core.List.{List}
-use lib.Dec.{ltb}
-use lib.IntN.{pos, negℤ, natAbs, _-ℤ_}
-use lib.ListN.{length}
-use lib.Seq.{sets}
+use Rattle.terms.specs.Common.{ℕ, _+_, _*_, _/_, _≤_, _≡_, true, false, List, ltb, pos, negℤ, natAbs, _-ℤ_, length, sets}
 use Rattle.terms.specs.Terms.{if_then_else_, bytes}
-use Rattle.lengths.specs.Units.{len, _⊕_, _⊖_}
-use Rattle.lengths.specs.declared.Point.{Point}
-use Rattle.lengths.specs.declared.Flat.{Flat}
-use Rattle.lengths.specs.Near.{Near}
-use Rattle.setup.specs.declared.Setup.{Setup}
-use Rattle.setup.specs.Frame.{pointOf}
-use Rattle.setup.specs.Limits.{validSetup}
-use Rattle.records.specs.declared.Record.{Record}
-use Rattle.records.specs.declared.Listed.{Listed}
-use Rattle.records.specs.declared.Listed.the-variants.{Next, End, Faulty as faulty}
-use Rattle.svg.specs.declared.View.{View}
-use Rattle.svg.specs.declared.View.the-variants.{Above, Side}
-use Rattle.drawing.specs.declared.Sheet.{Sheet}
-use Rattle.drawing.specs.declared.Drawn.{Drawn}
+use Rattle.lengths.specs.{Units.len, Units._⊕_, Units._⊖_, declared.Point.Point, declared.Flat.Flat, Near.Near}
+use Rattle.setup.specs.{declared.Setup.Setup, Frame.pointOf, Limits.validSetup}
+use Rattle.records.specs.declared.{Record.Record, Listed.Listed, Listed.the-variants.Next, Listed.the-variants.End, Listed.the-variants.Faulty as faulty}
+use Rattle.svg.specs.{declared.View.View, declared.View.the-variants.Above, declared.View.the-variants.Side, Text._⧺_, Text.filled, Lines.seenFrom}
+use Rattle.drawing.specs.{declared.Sheet.Sheet, declared.Drawn.Drawn, Shapes.path, Walks.recordsFrom, Walks.endFrom}
 use Rattle.drawing.specs.declared.Drawn.the-variants.{Is, NoRoom, Faulty, BadSetup}
-use Rattle.svg.specs.Text.{_⧺_, filled}
-use Rattle.svg.specs.Lines.{seenFrom}
-use Rattle.drawing.specs.Shapes.{path}
-use Rattle.drawing.specs.Walks.{recordsFrom, endFrom}
 
 -- a fortieth of the travel's three sides together, at least 4 units, so that the picture looks alike whatever the machine's size
 unfoldable pub gapOf : Point → Point → ℕ

@@ -1,19 +1,10 @@
 -- What a record looks like: rapids, cuts and arcs as SVG text, in units, seen from above or from the side.
-use Prim.Native.Nat.{ℕ}
-use mathlib.Core.Bool.{Bool, true, false, _&&_}
-use mathlib.Core.List.{List, [], _∷_}
-use lib.Dec.{eqb}
-use lib.IntN.{natAbs, _-ℤ_}
+use Rattle.terms.specs.Common.{ℕ, Bool, true, false, _&&_, List, [], _∷_, eqb, natAbs, _-ℤ_}
 use Rattle.terms.specs.Terms.{if_then_else_, bytes}
-use Rattle.lengths.specs.declared.Point.{Point}
-use Rattle.lengths.specs.declared.Flat.{Flat}
-use Rattle.records.specs.declared.Record.{Record}
+use Rattle.lengths.specs.declared.{Point.Point, Flat.Flat}
+use Rattle.records.specs.{declared.Record.Record, Path.pathOf, Path.pathEnd}
 use Rattle.records.specs.declared.Record.the-variants.{RP, LN, AR, AL, DW, SP, SO, PA, EN}
-use Rattle.records.specs.Path.{pathOf, pathEnd}
-use Rattle.svg.specs.declared.View.{View}
-use Rattle.svg.specs.Text.{_⧺_, filled}
-use Rattle.svg.specs.Lines.{seenFrom, line}
-use Rattle.svg.specs.ArcText.{arc}
+use Rattle.svg.specs.{declared.View.View, Text._⧺_, Text.filled, Lines.seenFrom, Lines.line, ArcText.arc}
 
 -- a cut along the line of sight, as a hole is from above, is seen as a dot
 unfoldable pub same : Flat → Flat → Bool

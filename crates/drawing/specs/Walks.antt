@@ -1,10 +1,6 @@
 -- The records of a list.
-use Prim.Native.Nat.{ℕ, _-_}
-use mathlib.Core.List.{List}
-use lib.ListN.{length}
-use Rattle.records.specs.declared.Record.{Record}
-use Rattle.records.specs.declared.Listed.{Listed}
-use Rattle.records.specs.Reading.{readAll}
+use Rattle.terms.specs.Common.{ℕ, _-_, List, length}
+use Rattle.records.specs.{declared.Record.Record, declared.Listed.Listed, Reading.readAll}
 
 -- the records of a list from a place on, and what the reader says after them: no list has more records than bytes
 unfoldable pub recordsFrom : List ℕ → ℕ → List Record

@@ -1,30 +1,15 @@
 -- What was read of a block's words is what the rules say of them. Assumes nothing.
-use Prim.Native.Nat.{ℕ}
-use mathlib.Core.Path.{_≡_, refl, sym, _∙_, ap}
-use mathlib.Core.Bool.{Bool, false}
-use mathlib.Core.List.{List}
-use native.Mathlib.Omega.{arith}
-use lib.ListN.{getD, take}
+use Rattle.terms.proofs.Common.{ℕ, _≡_, _∙_, Bool, false, List, arith, getD, take}
 use Rattle.codes.specs.Codes.{isGroupA, isG04}
-use Rattle.words.specs.declared.Word.{Word}
-use Rattle.words.specs.declared.Values.{Values}
-use Rattle.setup.specs.declared.Bed.{Bed}
-use Rattle.setup.specs.Fair.{Fair}
+use Rattle.words.specs.declared.{Word.Word, Values.Values}
+use Rattle.setup.specs.{declared.Bed.Bed, Fair.Fair}
 use Rattle.settings.specs.declared.State.{State}
-use Rattle.settings.specs.declared.Modes.{Modes}
-use Rattle.letters.specs.declared.BlockCode.{BlockCode}
-use Rattle.letters.specs.declared.Judged.{Judged}
-use Rattle.letters.specs.declared.Judged.the-variants.{Fine}
-use Rattle.letters.specs.Letters.{modesIn, miscOfBlock, namesGroupA, namesG04, codeUnder, blockCode, hasCentre, valuesOf}
-use Rattle.letters.specs.Judging.{CentreSeen, judgedBy}
-use Rattle.letters.proofs.Valued.{judged-valued}
+use Rattle.letters.specs.declared.{BlockCode.BlockCode, Judged.Judged, Judged.the-variants.Fine}
+use Rattle.letters.{specs.Judging.CentreSeen, specs.Judging.judgedBy, proofs.Valued.judged-valued}
+use Rattle.letters.specs.Letters.{modesIn, namesGroupA, namesG04, codeUnder, blockCode, hasCentre}
 use Rattle.reading.specs.declared.Reading.{Reading}
-use Rattle.blocks.specs.declared.Said.{Said}
-use Rattle.blocks.specs.Machine.{machineOf}
-use Rattle.blocks.specs.Exec.{Calls, saidBy}
-use Rattle.blocks.specs.Reach.{Reachable, Steady}
-use Rattle.blocks.proofs.Meaning.{meant}
-use Rattle.execution.specs.Steps.{Says, judgedFrom}
+use Rattle.blocks.{specs.declared.Said.Said, specs.Machine.machineOf, specs.Exec.Calls, specs.Exec.saidBy, specs.Reach.Reachable, specs.Reach.Steady, proofs.Meaning.meant}
+use Rattle.execution.specs.Steps.{Says}
 use Rattle.execution.proofs.Verdicts.{values-past}
 
 module _ (bed : Bed) (s : State) (read : Reading) (ws held : List Word) (says : Says (s .modes) ws held read) where

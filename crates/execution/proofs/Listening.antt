@@ -1,33 +1,16 @@
 -- What is heard of a block's words leads where the rules lead. Assumes nothing.
-use Prim.Native.Nat.{ℕ}
-use mathlib.Core.Path.{_≡_, refl, sym, _∙_, ap}
-use mathlib.Core.Bool.{Bool}
-use mathlib.Core.List.{List}
-use native.Mathlib.Omega.{arith}
-use lib.Dec.{eqb}
-use lib.ListN.{drop}
+use Rattle.terms.proofs.Common.{ℕ, _≡_, refl, sym, _∙_, ap, Bool, List, arith, eqb, drop}
 use Rattle.refusals.specs.declared.Refusal.{Refusal}
 use Rattle.lines.specs.Blocks.{textFrom}
-use Rattle.words.specs.declared.Word.{Word}
-use Rattle.words.specs.Words.{Words, these, badAt}
-use Rattle.setup.specs.declared.Bed.{Bed}
-use Rattle.setup.specs.Fair.{Fair}
+use Rattle.words.specs.{declared.Word.Word, Words.Words, Words.these, Words.badAt}
+use Rattle.setup.specs.{declared.Bed.Bed, Fair.Fair}
 use Rattle.settings.specs.declared.State.{State}
-use Rattle.reading.specs.declared.Reading.{Reading}
-use Rattle.reading.specs.declared.Status.the-variants as status
-use Rattle.reading.specs.Items.{wordsAt}
-use Rattle.reading.specs.Whole.{statusOf, Kept}
-use Rattle.blocks.specs.declared.Said.{Said}
-use Rattle.blocks.specs.Machine.{machineOf}
-use Rattle.blocks.specs.Reach.{Reachable}
-use Rattle.blocks.specs.Calling.{freely}
-use Rattle.blocks.specs.Exec.{inMain, saidBy, exec}
-use Rattle.blocks.proofs.Calling.{free-main}
-use Rattle.execution.specs.Steps.{Says, judgedFrom}
+use Rattle.reading.specs.{declared.Reading.Reading, Items.wordsAt, Whole.statusOf, Whole.Kept}
+use Rattle.blocks.{specs.Machine.machineOf, specs.Reach.Reachable, specs.Calling.freely, specs.Exec.inMain, specs.Exec.saidBy, specs.Exec.exec, proofs.Calling.free-main}
+use Rattle.execution.specs.{Steps.Says, Steps.judgedFrom, declared.Heard.Heard, Hearing.JudgedAs, Hearing.HeardAs}
 use Rattle.execution.proofs.Verdicts.{reading-stops, stands}
-use Rattle.execution.specs.declared.Heard.{Heard}
+use Rattle.reading.specs.declared.Status.the-variants as status
 use Rattle.execution.specs.declared.Heard.the-variants as heard
-use Rattle.execution.specs.Hearing.{Judges, JudgedAs, Hears, HeardAs}
 
 -- words all of which may stand
 pub record Reads (words : Words) : Type 0 where

@@ -1,53 +1,24 @@
 -- What the test of a planned block counts on, and what it comes to. Assumes nothing.
-use Prim.Native.Nat.{ℕ, zero, suc, _+_, _*_, _^_, _≤_}
-use mathlib.Core.Path.{_≡_, refl, sym, _∙_, ap}
-use mathlib.Core.Bool.{Bool, true, false, not, _&&_}
-use mathlib.Core.List.{List, [], _∷_, _++_, append-assoc}
-use native.Mathlib.Omega.{arith}
-use borrow.Author.Tests.{not-true, not-false}
-use lib.ListN.{length, length-append}
+use Rattle.terms.proofs.Common.{ℕ, zero, suc, _*_, _^_, _≤_, _≡_, refl, sym, _∙_, ap, Bool, true, not, _&&_, List, _++_, append-assoc, arith, not-true, length, length-append}
 use Rattle.refusals.specs.declared.Refusal.the-variants.{BadParameter, LeavesTravel}
-use Rattle.lengths.specs.Units.{fitsFour}
-use Rattle.words.specs.declared.Values.{Values}
-use Rattle.lengths.specs.declared.Flat.{Flat}
-use Rattle.lengths.specs.declared.Point.{Point}
-use Rattle.lengths.specs.declared.Travel.{Travel}
-use Rattle.lengths.specs.Points.{inside, flat}
-use Rattle.lengths.specs.Near.{Near, FlatNear}
+use Rattle.lengths.specs.{Units.fitsFour, declared.Flat.Flat, declared.Point.Point, declared.Travel.Travel, Points.inside, Points.flat, Near.Near, Near.FlatNear}
 use Rattle.lengths.proofs.Near.{flat-near}
-use Rattle.records.specs.declared.Arc.{Arc}
-use Rattle.records.specs.declared.Record.{Record}
-use Rattle.records.specs.declared.Record.the-variants.{RP, LN, AR, AL, DW, SP, SO, PA, EN}
-use Rattle.records.specs.Layout.{roomOf}
-use Rattle.records.specs.Path.{pathOf, endOf, arcMoved, recordMoved}
-use Rattle.records.specs.Displacing.{LooseArc, Loose}
+use Rattle.words.specs.declared.Values.{Values}
+use Rattle.records.specs.{declared.Arc.Arc, declared.Record.Record, Path.pathOf, Path.endOf, Path.arcMoved, Path.recordMoved, Displacing.LooseArc, Displacing.Loose}
 use Rattle.records.proofs.Moved.{room-few}
-use Rattle.setup.specs.declared.Bed.{Bed}
-use Rattle.setup.specs.Frame.{originAt}
-use Rattle.settings.specs.declared.State.{State}
-use Rattle.settings.specs.Target.{target}
-use Rattle.arcs.specs.Arcs.{centreFits}
-use Rattle.arcs.specs.Bounds.{Reach, PathBounds}
-use Rattle.arcs.specs.Staying.{staysIn}
-use Rattle.work.specs.declared.Pass.{Pass}
-use Rattle.work.specs.declared.Pass.the-variants.{One, Drill}
-use Rattle.work.specs.declared.Extent.{Extent}
-use Rattle.work.specs.declared.Way.{Way}
-use Rattle.work.specs.declared.Way.the-variants.{Ends, Leaves}
+use Rattle.records.specs.declared.Record.the-variants.{RP, LN, AR, AL, DW, SP, SO, PA, EN}
+use Rattle.setup.specs.{declared.Bed.Bed, Frame.originAt}
+use Rattle.settings.specs.{declared.State.State, Target.target}
+use Rattle.arcs.specs.{Arcs.centreFits, Bounds.Reach, Bounds.PathBounds}
+use Rattle.work.specs.declared.{Pass.Pass, Pass.the-variants.One, Pass.the-variants.Drill, Extent.Extent, Way.Way, Way.the-variants.Ends, Way.the-variants.Leaves}
+use Rattle.work.proofs.Extents.{way-on, way-stops, way-ends, way-leaves, rows-few}
+use Rattle.work.proofs.Briefs.{AllStill, brief-still, still-ends, still-stays, brief-few}
 use Rattle.work.specs.Work.{rowsOf, passesOf, leads, workRecords, briefRecords, passFits, grown, wayOf}
 use Rattle.work.specs.Needs.{Poised, Counted, ArcFrom, RecordFrom, PassFrom, PassLoose, PassReady, Once, Leading, Testable, Little}
-use Rattle.work.proofs.Extents.{way-on, way-stops, way-ends, way-leaves, rows-few}
-use Rattle.blocks.specs.declared.Said.{Said}
-use Rattle.blocks.specs.Machine.{machineOf}
-use Rattle.blocks.specs.Motions.{centreWords, centreFor, arcTo}
-use Rattle.blocks.specs.Reach.{Steady}
-use Rattle.blocks.specs.Exec.{working, spindleRecords, lastRecords, movesIn, madeBy}
+use Rattle.blocks.specs.{declared.Said.Said, Machine.machineOf, Motions.centreWords, Motions.centreFor, Motions.arcTo, Reach.Steady, Exec.working, Exec.movesIn, Exec.madeBy}
 use Rattle.blocks.proofs.Nearness.{aims, from-inside, target-sums, low-near, high-near, centre-close, bounds, both-fit, first-near, second-near}
-use Rattle.execution.specs.declared.Planned.{Planned}
-use Rattle.execution.specs.declared.Checked.{Checked}
+use Rattle.execution.specs.{declared.Planned.Planned, declared.Checked.Checked, Steps.plannedRecords, Steps.Plans, Steps.noneYet, Steps.checkedBy}
 use Rattle.execution.specs.declared.Checked.the-variants as Checked
-use Rattle.execution.specs.Steps.{plannedRecords, Plans, noneYet, checkedBy}
-use Rattle.work.proofs.Briefs.{AllStill, brief-still, still-ends, still-stays, brief-few}
 
 -- ---- a pass whose record comes from the words of the block
 

@@ -1,34 +1,18 @@
 -- The small tables of the order: which codes and motions a test is about. Assumes nothing.
-use Prim.Native.Nat.{ℕ}
-use mathlib.Core.Path.{_≡_, refl, sym, _∙_}
-use mathlib.Core.Bool.{Bool, true, false, _&&_, _||_, not}
-use mathlib.Core.Option.{Option, none, some}
-use mathlib.Core.List.{List, [], _∷_}
-use native.Mathlib.Omega.{arith}
+use Rattle.terms.proofs.Common.{ℕ, _≡_, refl, Bool, true, false, _&&_, _||_, [], _∷_, eqb}
 use denote.Enum.Declared.{tagOf}
 use types.Run.{OneOf, miss}
-use lib.Dec.{eqb}
-use Rattle.terms.specs.Terms.{if_then_else_}
 use Rattle.lengths.specs.declared.Len.{Len}
-use Rattle.codes.specs.declared.Misc.{Misc}
-use Rattle.codes.specs.declared.Motion.{Motion}
+use Rattle.codes.specs.declared.{Misc.Misc, Motion.Motion, Plane.Plane, Plane.the-variants.G17, Plane.the-variants.G18, Plane.the-variants.G19}
+use Rattle.codes.{specs.Codes.miscNumber, specs.Codes.isM, proofs.Motion.the-type as motion-type, proofs.Plane.the-type as plane-type}
 use Rattle.codes.specs.declared.Motion.the-variants.{Off, G00, G01, G02, G03, Drilling}
-use Rattle.codes.specs.declared.Plane.{Plane}
-use Rattle.codes.specs.declared.Plane.the-variants.{G17, G18, G19}
-use Rattle.codes.specs.Codes.{miscNumber, isM, endsProgram}
-use Rattle.codes.proofs.Motion.{the-type as motion-type}
-use Rattle.codes.proofs.Plane.{the-type as plane-type}
 use Rattle.words.specs.declared.Values.{Values}
-use Rattle.records.specs.declared.Record.{Record}
-use Rattle.records.specs.declared.Record.the-variants.{SP, SO, PA, EN}
 use Rattle.settings.specs.declared.State.{State}
-use Rattle.letters.specs.declared.BlockCode.{BlockCode}
+use Rattle.letters.{specs.declared.BlockCode.BlockCode, proofs.BlockCode.the-type as code-type}
 use Rattle.letters.specs.declared.BlockCode.the-variants.{Calling, Returning, Dwelling, Moving}
-use Rattle.letters.proofs.BlockCode.{the-type as code-type}
-use Rattle.work.specs.declared.Brief.the-variants.{Speed, SpindleOff, Pause, End, Nothing}
 use Rattle.work.specs.Work.{briefRecords}
-use Rattle.blocks.specs.declared.Said.{Said}
-use Rattle.blocks.specs.Exec.{working, spindleRecords, lastRecords, lacksCentre, drills, isG17}
+use Rattle.work.specs.declared.Brief.the-variants.{Speed, SpindleOff, Pause, End, Nothing}
+use Rattle.blocks.specs.{declared.Said.Said, Exec.working, Exec.spindleRecords, Exec.lastRecords, Exec.lacksCentre, Exec.drills, Exec.isG17}
 
 -- ---- motions and codes that have no arm of their own
 

@@ -1,76 +1,21 @@
 -- The order of refusals, step by step. Assumes nothing.
-use Prim.Native.Nat.{ℕ, _+_}
-use mathlib.Core.Path.{_≡_, refl, sym, _∙_, ap}
-use mathlib.Core.Bool.{Bool, true, false, not}
-use mathlib.Core.Option.{Option, none, some}
-use mathlib.Core.List.{List, [], _∷_, map}
-use native.Mathlib.Omega.{arith}
-use lib.Dec.{ltb}
-use lib.ListN.{length}
+use Rattle.terms.proofs.Common.{ℕ, _+_, _≡_, refl, sym, _∙_, ap, Bool, true, false, not, Option, none, some, List, [], _∷_, map, arith, ltb, length}
 use Rattle.terms.specs.Terms.{all, firstOf}
 use Rattle.refusals.specs.declared.Refusal.{Refusal}
-use Rattle.refusals.specs.declared.Refusal.the-variants.{
-  BadParameter,
-  AddressUndefined,
-  ParameterUndefined,
-  CannotExecute,
-  NumberNotFound,
-  NestOver,
-  LeavesTravel,
-  NoRoom,
-  Unreadable,
-  CentreTooFar,
-}
-use Rattle.words.specs.declared.Word.{Word}
-use Rattle.words.specs.declared.Values.{Values}
-use Rattle.words.specs.Words.{Words, these, badAt}
+use Rattle.refusals.specs.declared.Refusal.the-variants.{BadParameter, AddressUndefined, ParameterUndefined, CannotExecute, NumberNotFound, NestOver, LeavesTravel, NoRoom, Unreadable, CentreTooFar}
+use Rattle.words.specs.{declared.Word.Word, declared.Values.Values, Words.Words, Words.these, Words.badAt}
 use Rattle.lengths.specs.declared.Point.{Point}
-use Rattle.records.specs.Layout.{listBytes, roomOf}
-use Rattle.records.specs.Path.{pathStaysIn, recordMoved}
-use Rattle.records.specs.Serving.{Wrote}
-use Rattle.records.proofs.Laid.{list-length}
-use Rattle.records.proofs.Written.{wrote-none}
+use Rattle.records.specs.{Layout.listBytes, Layout.roomOf, Path.pathStaysIn, Path.recordMoved, Serving.Wrote, Writing.movedBytes}
+use Rattle.records.proofs.{Laid.list-length, Written.wrote-none, Moved.moved-room}
 use Rattle.settings.specs.declared.State.{State}
-use Rattle.letters.specs.Letters.{firstThatMayNot, hasCentre, firstUnused, firstBadValue, valuesOf}
-use Rattle.letters.specs.Judging.{unusedOr, badOr, judgedBy}
-use Rattle.letters.specs.declared.Judged.{Judged}
-use Rattle.letters.specs.declared.Judged.the-variants.{Fine, Unused, Bad}
-use Rattle.reading.specs.declared.Status.the-variants as status
+use Rattle.letters.specs.{Letters.firstThatMayNot, Letters.hasCentre, Letters.firstUnused, Letters.firstBadValue, Letters.valuesOf, Judging.unusedOr, Judging.badOr, Judging.judgedBy}
+use Rattle.letters.specs.declared.Judged.{Judged, the-variants.Fine, the-variants.Unused, the-variants.Bad}
 use Rattle.reading.specs.Whole.{standing, statusOf}
-use Rattle.records.specs.Writing.{movedBytes}
-use Rattle.records.proofs.Moved.{moved-room}
-use Rattle.blocks.specs.declared.Said.{Said}
-use Rattle.blocks.specs.declared.Control.{Control}
-use Rattle.blocks.specs.declared.Executed.{Executed}
-use Rattle.blocks.specs.declared.Executed.the-variants.{Refused, Accepted}
-use Rattle.blocks.specs.Machine.{Machine}
-use Rattle.blocks.specs.Exec.{
-  Blame,
-  Calls,
-  Verdict,
-  refused,
-  accepted,
-  saidBy,
-  movesIn,
-  madeBy,
-  settled,
-  controlOf,
-  inMain,
-  callTo,
-  unknownCall,
-  tooDeep,
-  lacksParameter,
-  cannotDrill,
-  atWord,
-  atStart,
-  blames,
-  unless,
-  judged,
-  execWords,
-}
-use Rattle.blocks.proofs.Accepting.{past-all}
-use Rattle.blocks.specs.Doing.{madeOf, executed, Does}
+use Rattle.blocks.specs.declared.{Said.Said, Control.Control, Executed.Executed, Executed.the-variants.Refused, Executed.the-variants.Accepted}
+use Rattle.blocks.{specs.Machine.Machine, specs.Doing.madeOf, specs.Doing.executed, specs.Doing.Does, proofs.Accepting.past-all}
+use Rattle.blocks.specs.Exec.{Blame, Calls, Verdict, refused, accepted, saidBy, movesIn, madeBy, settled, controlOf, inMain, callTo, unknownCall, tooDeep, lacksParameter, cannotDrill, atWord, atStart, blames, unless, judged, execWords}
 use Rattle.execution.specs.Steps.{judgedFrom}
+use Rattle.reading.specs.declared.Status.the-variants as status
 
 -- ---- what a verdict leaves
 

@@ -1,47 +1,22 @@
 -- A planned block that has been tested: refused, or written as the rules say. Assumes nothing.
-use Prim.Native.Nat.{ℕ, _+_, _-_, _≤_, _<_}
-use mathlib.Core.Path.{_≡_, refl, sym, _∙_, ap}
-use mathlib.Core.Bool.{Bool, true, false, not}
-use mathlib.Core.List.{List, _++_, map}
-use native.Mathlib.Omega.{arith}
-use borrow.Author.Tests.{lt-ltb, le-ltb}
-use lib.ListN.{length}
-use Rattle.refusals.specs.declared.Refusal.{Refusal}
-use Rattle.refusals.specs.declared.Refusal.the-variants.{BadParameter, LeavesTravel, NoRoom}
+use Rattle.terms.proofs.Common.{ℕ, _+_, _-_, _≤_, _<_, _≡_, refl, sym, _∙_, Bool, true, false, List, _++_, arith, lt-ltb, le-ltb, length}
+use Rattle.refusals.specs.declared.Refusal.{Refusal, the-variants.BadParameter, the-variants.LeavesTravel, the-variants.NoRoom}
 use Rattle.codes.specs.declared.Misc.{Misc}
 use Rattle.words.specs.declared.Word.{Word}
 use Rattle.lengths.specs.declared.Point.{Point}
-use Rattle.records.specs.declared.Record.{Record}
-use Rattle.records.specs.Layout.{roomOf}
-use Rattle.records.specs.Path.{endOf, recordMoved, pathStaysIn}
-use Rattle.records.specs.Serving.{Wrote}
-use Rattle.records.specs.Writing.{ListShort, movedBytes, RoomFor}
+use Rattle.records.specs.{declared.Record.Record, Layout.roomOf, Path.endOf, Path.pathStaysIn, Serving.Wrote, Writing.movedBytes, Writing.RoomFor}
 use Rattle.records.proofs.Moved.{ready-left, ready-right, put-then}
 use Rattle.setup.specs.declared.Bed.{Bed}
 use Rattle.settings.specs.declared.State.{State}
-use Rattle.arcs.specs.Staying.{staysIn}
-use Rattle.arcs.proofs.Paths.{stays-both}
-use Rattle.work.specs.declared.Extent.{Extent}
-use Rattle.work.specs.declared.Way.{Way}
-use Rattle.work.specs.declared.Way.the-variants.{Ends, Leaves}
-use Rattle.work.specs.Work.{workRecords, briefRecords, grown, wayOf}
-use Rattle.work.specs.Needs.{Writable}
-use Rattle.work.proofs.Extents.{way-ends, way-leaves}
-use Rattle.blocks.specs.declared.Said.{Said}
-use Rattle.blocks.specs.declared.Control.{Control}
-use Rattle.blocks.specs.declared.Executed.the-variants.{Refused, Accepted}
-use Rattle.blocks.specs.Machine.{machineOf}
-use Rattle.blocks.specs.Exec.{Verdict, refused, accepted, working, settled, spindleRecords, controlOf, movesIn, madeBy}
-use Rattle.blocks.specs.Calling.{freely}
-use Rattle.blocks.specs.Doing.{Does}
-use Rattle.blocks.proofs.Making.{made-fits, made-short}
-use Rattle.execution.specs.declared.Planned.{Planned}
-use Rattle.execution.specs.declared.Checked.{Checked}
-use Rattle.execution.specs.declared.Checked.the-variants as Checked
-use Rattle.execution.specs.Steps.{judgedFrom, settledAt, plannedRecords, Plans, noneYet, checkedBy}
-use Rattle.work.proofs.Briefs.{brief-still, still-ends}
+use Rattle.arcs.{specs.Staying.staysIn, proofs.Paths.stays-both}
+use Rattle.work.specs.{declared.Extent.Extent, declared.Way.Way, declared.Way.the-variants.Ends, declared.Way.the-variants.Leaves, Work.workRecords, Work.briefRecords, Work.grown, Work.wayOf}
+use Rattle.work.{specs.Needs.Writable, proofs.Extents.way-ends, proofs.Extents.way-leaves, proofs.Briefs.brief-still, proofs.Briefs.still-ends}
+use Rattle.blocks.{specs.declared.Said.Said, specs.declared.Executed.the-variants.Refused, specs.Machine.machineOf, specs.Calling.freely, proofs.Making.made-fits, proofs.Making.made-short}
+use Rattle.blocks.specs.Exec.{Verdict, refused, accepted, working, settled, controlOf, madeBy}
+use Rattle.execution.specs.{declared.Planned.Planned, declared.Checked.Checked, Steps.judgedFrom, Steps.settledAt, Steps.plannedRecords, Steps.Plans, Steps.noneYet, Steps.checkedBy}
 use Rattle.execution.proofs.Ready.{at-is, made-is, sound-is, leading}
-use Rattle.execution.proofs.Verdicts.{does-refused, does-accepted, sound-past, sound-stops, fits-past, stays-past, stays-stops, room-stops, room-past}
+use Rattle.execution.proofs.Verdicts.{sound-past, sound-stops, fits-past, stays-past, stays-stops, room-stops, room-past}
+use Rattle.execution.specs.declared.Checked.the-variants as Checked
 
 -- ---- the three parts of a block's records, one after the other
 

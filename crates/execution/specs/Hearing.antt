@@ -1,23 +1,13 @@
 -- What the code hears of a block's words, by what is left of the order of refusals.
-use Prim.Native.Nat.{ℕ, _+_, _≤_}
-use mathlib.Core.Path.{_≡_}
-use mathlib.Core.List.{List}
-use lib.ListN.{length, drop}
+use Rattle.terms.specs.Common.{ℕ, _+_, _≤_, _≡_, List, length, drop}
 use Rattle.lines.specs.Blocks.{textFrom, lengthFrom}
 use Rattle.words.specs.declared.Word.{Word}
-use Rattle.setup.specs.declared.Bed.{Bed}
-use Rattle.setup.specs.Fair.{Fair}
+use Rattle.setup.specs.{declared.Bed.Bed, Fair.Fair}
 use Rattle.settings.specs.declared.State.{State}
 use Rattle.reading.specs.declared.Reading.{Reading}
-use Rattle.blocks.specs.declared.Said.{Said}
-use Rattle.blocks.specs.Machine.{machineOf}
-use Rattle.blocks.specs.Reach.{Reachable, Steady}
-use Rattle.blocks.specs.Calling.{freely}
-use Rattle.blocks.specs.Exec.{refused, saidBy, exec}
+use Rattle.blocks.specs.{declared.Said.Said, Machine.machineOf, Reach.Reachable, Reach.Steady, Calling.freely, Exec.refused, Exec.saidBy, Exec.exec}
+use Rattle.execution.specs.{Steps.judgedFrom, declared.Heard.Heard, declared.Heard.the-variants.Refused, declared.Heard.the-variants.Says}
 use Rattle.execution.specs.Steps as Steps
-use Rattle.execution.specs.Steps.{judgedFrom}
-use Rattle.execution.specs.declared.Heard.{Heard}
-use Rattle.execution.specs.declared.Heard.the-variants.{Refused, Says}
 
 -- what the judgement of a block's words comes to: 2 or 1 by value, or what the block says
 pub record Judges (bed : Bed) (held : List Word) (read : Reading) (said : Said) : Type 0 where

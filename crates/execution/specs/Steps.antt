@@ -1,35 +1,19 @@
 -- The steps of the code through the order of refusals, each stated over what is left of one list of them.
-use Prim.Native.Nat.{ℕ}
-use mathlib.Core.Path.{_≡_}
-use mathlib.Core.Bool.{Bool, true, false, not, _&&_}
-use mathlib.Core.List.{List, _++_}
-use lib.ListN.{drop, take}
+use Rattle.terms.specs.Common.{ℕ, _≡_, Bool, true, false, not, _&&_, List, _++_, drop, take}
 use Rattle.terms.specs.Terms.{firstOf}
 use Rattle.refusals.specs.declared.Refusal.the-variants.{BadParameter, LeavesTravel}
-use Rattle.codes.specs.declared.Misc.{Misc}
-use Rattle.codes.specs.Codes.{isM}
+use Rattle.codes.specs.{declared.Misc.Misc, Codes.isM}
 use Rattle.words.specs.declared.Word.{Word}
 use Rattle.lengths.specs.declared.Point.{Point}
-use Rattle.setup.specs.declared.Bed.{Bed}
-use Rattle.setup.specs.Frame.{originAt}
+use Rattle.setup.specs.{declared.Bed.Bed, Frame.originAt}
 use Rattle.records.specs.declared.Record.{Record}
-use Rattle.settings.specs.declared.State.{State}
-use Rattle.settings.specs.declared.Modes.{Modes}
+use Rattle.settings.specs.declared.{State.State, Modes.Modes}
 use Rattle.letters.specs.Judging.{valued}
-use Rattle.reading.specs.declared.Reading.{Reading}
-use Rattle.reading.specs.Seen.{Sums}
-use Rattle.work.specs.declared.Way.{Way}
-use Rattle.work.specs.declared.Way.the-variants.{Ends, Leaves}
-use Rattle.work.specs.declared.Extent.{Extent}
-use Rattle.work.specs.Work.{workRecords, aimOf, briefRecords}
-use Rattle.work.specs.Needs.{Makes}
-use Rattle.blocks.specs.declared.Said.{Said}
-use Rattle.blocks.specs.Machine.{Machine}
-use Rattle.blocks.specs.Motions.{movesOf}
-use Rattle.blocks.specs.Reach.{Steady}
+use Rattle.reading.specs.{declared.Reading.Reading, Seen.Sums}
+use Rattle.work.specs.{declared.Way.Way, declared.Way.the-variants.Ends, declared.Way.the-variants.Leaves, declared.Extent.Extent, Work.workRecords, Work.aimOf, Work.briefRecords, Needs.Makes}
+use Rattle.blocks.specs.{declared.Said.Said, Machine.Machine, Motions.movesOf, Reach.Steady}
 use Rattle.blocks.specs.Exec.{working, settled, spindleRecords, lastRecords, controlOf, madeBy, Calls, blames, Verdict, accepted, unless}
-use Rattle.execution.specs.declared.Planned.{Planned}
-use Rattle.execution.specs.declared.Checked.{Checked}
+use Rattle.execution.specs.declared.{Planned.Planned, Checked.Checked}
 use Rattle.execution.specs.declared.Checked.the-variants as Checked
 
 -- the verdict by the refusals from a place of their order on

@@ -1,11 +1,6 @@
 -- What becomes of a name, test by test. Assumes nothing.
-use Prim.Native.Nat.{ℕ, _/_, _%_}
-use mathlib.Core.Path.{_≡_, refl}
-use mathlib.Core.Bool.{Bool, true, false, _||_}
-use borrow.Author.Tests.{eq-eqb, ne-eqb}
-use Rattle.files.specs.Names.{sameFile, missingFate, kindFate, fateOf}
-use Rattle.files.specs.declared.Named.{Named}
-use Rattle.files.specs.declared.Fate.{Fate}
+use Rattle.terms.proofs.Common.{ℕ, _/_, _%_, _≡_, Bool, true, false, _||_, eq-eqb, ne-eqb}
+use Rattle.files.specs.{Names.sameFile, Names.missingFate, Names.kindFate, Names.fateOf, declared.Named.Named}
 use Rattle.files.specs.declared.Fate.the-variants.{New, Old, Read, Link, Folder, Special, Locked, Unknown}
 
 module _ (kind : ℕ) (locked : Bool) where

@@ -1,12 +1,5 @@
 -- The name of the file beside a path, written part by part. Assumes nothing.
-use Prim.Native.Nat.{ℕ, _+_, _≤_, _<_}
-use mathlib.Core.Path.{_≡_, sym, ap, _∙_}
-use mathlib.Core.List.{List, _++_}
-use native.Mathlib.Omega.{arith}
-use native.Mathlib.Numerals.{add-one}
-use lib.ListN.{length, take, getD, set}
-use lib.Seq.{take-length, paste, paste-suc, length-paste, take-paste}
-use borrow.Author.Tests.{lt-ltb, le-ltb}
+use Rattle.terms.proofs.Common.{ℕ, _+_, _≤_, _<_, _≡_, sym, ap, _∙_, List, _++_, arith, add-one, length, take, getD, set, take-length, paste, paste-suc, length-paste, take-paste, lt-ltb, le-ltb}
 use Rattle.io.proofs.Counting.{counts}
 use Rattle.terms.specs.Terms.{bytes}
 use Rattle.files.specs.Parts.{partOf, partIn, Puts, Names}

@@ -1,12 +1,6 @@
 -- A name with a 0 after it, in an array that ends in 0. Assumes nothing.
-use Prim.Native.Nat.{ℕ, zero, suc, _+_, _≤_, _<_}
-use mathlib.Core.Path.{_≡_, refl, ap, _∙_}
-use mathlib.Core.List.{List, [], _∷_, _++_}
-use native.Mathlib.Omega.{arith}
-use lib.ListN.{length, take, getD, set, length-set}
-use lib.Seq.{take-length, take-paste, paste, length-paste, take-suc-set, take-set-le, getD-set-same}
-use Rattle.files.specs.Parts.{Puts}
-use Rattle.files.specs.Names.{Spelt}
+use Rattle.terms.proofs.Common.{ℕ, zero, suc, _+_, _<_, _≡_, refl, ap, _∙_, List, [], _∷_, _++_, arith, length, take, getD, set, length-set, take-length, take-paste, paste, length-paste, take-suc-set, take-set-le, getD-set-same}
+use Rattle.files.specs.{Parts.Puts, Names.Spelt}
 
 -- a 0 stays where another is written
 still : (l : List ℕ) (i j : ℕ) → getD l j 1 ≡ 0 → getD (set l i 0) j 1 ≡ 0

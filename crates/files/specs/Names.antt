@@ -1,14 +1,8 @@
 -- Which file a name stands for, and what becomes of it where a command wants to write there.
-use Prim.Native.Nat.{ℕ, _+_, _/_, _%_}
-use mathlib.Core.Path.{_≡_}
-use mathlib.Core.Bool.{Bool, not, _&&_, _||_}
-use mathlib.Core.List.{List, [], _∷_, _++_}
-use lib.Dec.{eqb}
-use lib.ListN.{length, take}
+use Rattle.terms.specs.Common.{ℕ, _+_, _/_, _%_, _≡_, Bool, not, _&&_, _||_, List, [], _∷_, _++_, eqb, length, take}
 use Rattle.libc.specs.Io.{Ended}
 use Rattle.terms.specs.Terms.{if_then_else_}
-use Rattle.files.specs.declared.Named.{Named}
-use Rattle.files.specs.declared.Fate.{Fate}
+use Rattle.files.specs.declared.{Named.Named, Fate.Fate}
 use Rattle.files.specs.declared.Fate.the-variants.{New, Old, Read, Link, Folder, Special, Locked, Unknown}
 
 -- "device and inode": two names of one file, whatever they are

@@ -1,11 +1,6 @@
 -- The file beside a path, which has the bytes until all of them are there. The system puts six characters for the X's, so
 -- that no other file has the name.
-use Prim.Native.Nat.{ℕ, _+_}
-use mathlib.Core.Path.{_≡_}
-use mathlib.Core.List.{List, [], _++_}
-use lib.Dec.{ltb}
-use lib.ListN.{length, take}
-use lib.Seq.{paste}
+use Rattle.terms.specs.Common.{ℕ, _+_, _≡_, List, [], _++_, ltb, length, take, paste}
 use Rattle.io.specs.Counts.{Counts}
 use Rattle.terms.specs.Terms.{if_then_else_, bytes}
 

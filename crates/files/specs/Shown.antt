@@ -1,6 +1,5 @@
 -- Text of somebody else's, shown on one line.
-use Prim.Native.Nat.{ℕ}
-use lib.Dec.{ltb, eqb}
+use Rattle.terms.specs.Common.{ℕ, ltb, eqb}
 use Rattle.terms.specs.Terms.{if_then_else_, byte}
 
 -- a tab is shown as a blank; a byte below the blank, or above the last one that is shown, as a question mark

@@ -1,34 +1,19 @@
 -- What the code of a block answers, by the verdict of the rules, and what the verdict keeps. Assumes nothing.
-use Prim.Native.Nat.{ℕ, _+_, _-_, _≤_}
-use mathlib.Core.Path.{_≡_, refl, _∙_, ap}
-use mathlib.Core.Bool.{Bool, true, false, _&&_}
-use mathlib.Core.List.{List, [], _∷_}
-use native.Mathlib.Omega.{arith}
-use lib.ListN.{length, drop}
-use lib.Seq.{drop-drop}
+use Rattle.terms.proofs.Common.{ℕ, _+_, _-_, _≤_, _≡_, refl, _∙_, ap, Bool, true, false, _&&_, List, [], _∷_, arith, length, drop, drop-drop}
 use Rattle.terms.specs.Terms.{if_then_else_}
 use Rattle.refusals.specs.declared.Refusal.{Refusal}
-use Rattle.lines.specs.Blocks.{Block, isSlashed, beginsWith, textFrom, lengthFrom, blockFrom}
 use Rattle.lines.proofs.Laws.{text-drop, text-next}
+use Rattle.lines.specs.Blocks.{Block, isSlashed, beginsWith, textFrom, lengthFrom, blockFrom}
 use Rattle.setup.specs.Fair.{Fair}
-use Rattle.records.specs.declared.Record.{Record}
-use Rattle.records.specs.Layout.{roomOf, listBytes}
+use Rattle.records.specs.{declared.Record.Record, Layout.roomOf, Layout.listBytes}
 use Rattle.settings.specs.declared.State.{State}
-use Rattle.blocks.specs.declared.Control.{Control}
-use Rattle.blocks.specs.declared.Control.the-variants.{On, Call}
-use Rattle.blocks.specs.declared.Done.{Done}
-use Rattle.blocks.specs.declared.Executed.{Executed}
-use Rattle.blocks.specs.declared.Executed.the-variants as Executed
-use Rattle.blocks.specs.Machine.{machineOf}
-use Rattle.blocks.specs.Exec.{Verdict, refused, accepted, exec}
-use Rattle.blocks.specs.Calling.{freely}
-use Rattle.blocks.specs.Reach.{Reachable}
-use Rattle.blocks.specs.Doing.{madeOf, executed, Does}
-use Rattle.blocks.proofs.Accepting.{accepted-kept}
-use Rattle.blocks.proofs.Calling.{exec-makes-none}
+use Rattle.blocks.specs.declared.{Control.Control, Control.the-variants.On, Control.the-variants.Call, Done.Done, Executed.Executed}
+use Rattle.blocks.specs.{Machine.machineOf, Exec.Verdict, Exec.refused, Exec.accepted, Exec.exec, Calling.freely, Reach.Reachable, Doing.madeOf, Doing.executed, Doing.Does}
+use Rattle.blocks.proofs.{Accepting.accepted-kept, Calling.exec-makes-none}
 use Rattle.execution.specs.declared.Ground.{Ground}
 use Rattle.runs.specs.Walk.{slashLength}
 use Rattle.interpreter.specs.Progressing.{verdictAt}
+use Rattle.blocks.specs.declared.Executed.the-variants as Executed
 
 -- ---- the verdict that an answer tells
 

@@ -1,39 +1,17 @@
 -- The loop from call to call: what a call of a number leads to, and the walk of the subprogram. Assumes nothing.
-use Prim.Native.Nat.{ℕ, zero, suc, _+_, _-_, _≤_, _<_}
-use mathlib.Core.Path.{_≡_, refl, sym, _∙_}
-use mathlib.Core.Bool.{Bool, true, false}
-use mathlib.Core.Option.{Option, none, some}
-use mathlib.Core.List.{List, []}
-use native.Mathlib.Omega.{arith}
-use borrow.Author.Tests.{eq-eqb, ne-eqb}
-use lib.Dec.{eqb}
-use lib.ListN.{length}
+use Rattle.terms.proofs.Common.{ℕ, zero, suc, _+_, _-_, _≤_, _<_, _≡_, refl, sym, _∙_, Bool, true, false, Option, none, some, List, [], arith, eq-eqb, ne-eqb, eqb, length}
 use Rattle.terms.specs.Terms.{firstOf, stands}
-use Rattle.refusals.specs.declared.Refusal.{Refusal}
-use Rattle.refusals.specs.declared.Refusal.the-variants.{NumberNotFound, NestOver}
+use Rattle.refusals.specs.declared.Refusal.{Refusal, the-variants.NumberNotFound, the-variants.NestOver}
 use Rattle.lines.specs.Serving.{blocksFrom}
 use Rattle.records.specs.Layout.{roomOf, listBytes}
-use Rattle.programs.specs.declared.Program.{Program}
-use Rattle.programs.specs.declared.Found.{Found}
-use Rattle.programs.specs.declared.Found.the-variants.{At, Missing}
-use Rattle.programs.specs.Answers.{foundAs}
-use Rattle.programs.specs.Openings.{known}
-use Rattle.programs.specs.Found.{subsOf}
-use Rattle.programs.specs.Places.{Placed}
-use Rattle.programs.proofs.Finding.{found-at, found-none}
-use Rattle.blocks.specs.Exec.{callsIn, callTo, unknownCall, tooDeep, atStart, unless}
-use Rattle.blocks.specs.Calling.{called}
+use Rattle.programs.specs.declared.{Program.Program, Found.Found, Found.the-variants.At, Found.the-variants.Missing}
+use Rattle.programs.{specs.Answers.foundAs, specs.Openings.known, specs.Found.subsOf, specs.Places.Placed, proofs.Finding.found-at, proofs.Finding.found-none}
+use Rattle.blocks.specs.{Exec.callsIn, Exec.callTo, Exec.unknownCall, Exec.tooDeep, Exec.atStart, Exec.unless, Calling.called}
 use Rattle.runs.specs.Walk.{Going, refusedAt, Outcome, just, goingOn, after, thenRest, follow, obey, walk, blocksFor, callees}
+use Rattle.interpreter.specs.declared.{Task.Task, Progress.Progress, How.the-variants.Returned, How.the-variants.Refused, Ending.Ending, Leg.Leg, Callee.Callee}
 use Rattle.interpreter.specs.Progressing.{jobOf, goingOf, walkFrom, callFrom, calleeBy, howBy, nextBy, outcomeBy, Ran, Sound, Reaches}
-use Rattle.interpreter.specs.declared.Task.{Task}
-use Rattle.interpreter.specs.declared.Progress.{Progress}
-use Rattle.interpreter.specs.declared.How.the-variants.{Returned, Refused}
-use Rattle.interpreter.specs.declared.Ending.{Ending}
-use Rattle.interpreter.specs.declared.Leg.{Leg}
-use Rattle.interpreter.specs.declared.Callee.{Callee}
+use Rattle.interpreter.proofs.{Endings.ran-still, Endings.ran-after, Endings.ran-length, Endings.ran-then, Endings.ran-stops, Rounds.Walking}
 use Rattle.interpreter.specs.declared.Callee.the-variants as Callee
-use Rattle.interpreter.proofs.Endings.{ran-still, ran-after, ran-length, ran-then, ran-stops}
-use Rattle.interpreter.proofs.Rounds.{Walking}
 
 -- what a call of a number leads to, by what is found
 module _ (o : Option Program) (left : ℕ) {found : Found} (f : found ≡ foundAs o) where

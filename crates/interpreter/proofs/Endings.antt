@@ -1,27 +1,15 @@
 -- How walks end and what they leave in the list: with nothing more to do, after records, and after a call. Assumes nothing.
-use Prim.Native.Nat.{ℕ, _+_, _≤_}
-use mathlib.Core.Path.{_≡_, refl, sym, _∙_, ap}
-use mathlib.Core.List.{List, [], _∷_, _++_, map, append-nil}
-use native.Mathlib.Omega.{arith}
-use lib.ListN.{length, length-append}
-use lib.Seq.{sets, length-sets}
+use Rattle.terms.proofs.Common.{ℕ, _+_, _≤_, _≡_, refl, sym, _∙_, ap, List, [], _∷_, _++_, map, append-nil, arith, length, length-append, sets, length-sets}
 use Rattle.lengths.specs.declared.Point.{Point}
 use Rattle.setup.specs.declared.Bed.{Bed}
-use Rattle.records.specs.declared.Record.{Record}
-use Rattle.records.specs.Layout.{kindOf, roomOf, listBytes}
-use Rattle.records.specs.Path.{recordMoved}
-use Rattle.records.specs.Serving.{Wrote}
-use Rattle.records.specs.Writing.{movedBytes}
-use Rattle.records.proofs.Laid.{mark-room, list-length}
-use Rattle.records.proofs.Moved.{room-append, moved-room, put-then}
+use Rattle.records.specs.{declared.Record.Record, Layout.kindOf, Layout.roomOf, Layout.listBytes, Path.recordMoved, Serving.Wrote, Writing.movedBytes}
+use Rattle.records.proofs.{Laid.mark-room, Laid.list-length, Moved.room-append, Moved.moved-room, Moved.put-then}
 use Rattle.settings.specs.declared.State.{State}
 use Rattle.refusals.specs.declared.Place.{Place}
 use Rattle.runs.specs.Walk.{Going, returned, Outcome, after, thenRest}
+use Rattle.interpreter.specs.declared.{Progress.Progress, How.How, Ending.Ending}
 use Rattle.interpreter.specs.Progressing.{goingOf, howBy, nextBy, outcomeBy, Ran, Fits}
-use Rattle.interpreter.specs.declared.Progress.{Progress}
-use Rattle.interpreter.specs.declared.How.{How}
 use Rattle.interpreter.specs.declared.How.the-variants.{Ended, Returned, Unfinished, Refused}
-use Rattle.interpreter.specs.declared.Ending.{Ending}
 
 -- a record takes a byte at least
 pub count-room : (rs : List Record) → length rs ≤ roomOf rs

@@ -1,17 +1,11 @@
 -- "no two different outcomes may satisfy one statement": for each entry point, two outcomes that satisfy its statement for the same
 -- input are equal. Assumes nothing.
-use Prim.Native.Nat.{ℕ}
-use mathlib.Core.Path.{_≡_, sym, _∙_, ap₂}
-use mathlib.Core.List.{List}
+use Rattle.terms.proofs.Common.{ℕ, _≡_, sym, _∙_, ap₂, List}
 use Rattle.setup.specs.declared.Setup.{Setup}
-use Rattle.records.specs.declared.Listed.{Listed}
-use Rattle.records.specs.Reading.{readAt}
-use Rattle.interpreter.specs.Owing.{Owes}
+use Rattle.records.specs.{declared.Listed.Listed, Reading.readAt}
 use Rattle.refusals.specs.declared.Answer.{Answer}
-use Rattle.runs.specs.declared.Budget.{Budget}
-use Rattle.runs.specs.declared.Standing.{Standing}
-use Rattle.runs.specs.declared.Budget.the-variants.{Whole, First}
-use Rattle.runs.specs.declared.Report.{Report}
+use Rattle.runs.specs.declared.{Budget.Budget, Standing.Standing, Budget.the-variants.Whole, Budget.the-variants.First, Report.Report}
+use Rattle.interpreter.specs.Owing.{Owes}
 
 one :
     {s : Setup} {l : List ℕ} {budget : Budget} {was is is′ : List ℕ} {r r′ : Report}

@@ -1,11 +1,6 @@
 -- The place that a missing end names. Assumes nothing.
-use Prim.Native.Nat.{ℕ, _+_, _-_, _≤_}
-use mathlib.Core.Path.{_≡_, _∙_, ap}
-use mathlib.Core.List.{List}
-use native.Mathlib.Omega.{arith}
-use lib.ListN.{length, length-drop}
-use Rattle.lines.specs.Blocks.{blocksOf}
-use Rattle.lines.proofs.Lines.{blocks-end}
+use Rattle.terms.proofs.Common.{ℕ, _+_, _-_, _≤_, _≡_, _∙_, ap, List, arith, length, length-drop}
+use Rattle.lines.{specs.Blocks.blocksOf, proofs.Lines.blocks-end}
 use Rattle.programs.specs.Places.{Begins}
 use Rattle.runs.specs.Run.{finishOf}
 

@@ -1,15 +1,9 @@
 -- Demand 2 of what `run` and `run_blocks` leave: what satisfies their statement reads back as the run's records. Assumes nothing.
-use Prim.Native.Nat.{ℕ}
-use mathlib.Core.Path.{_≡_, _∙_, ap}
-use mathlib.Core.List.{List}
-use lib.ListN.{length, take, drop}
-use lib.Seq.{take-append-seam}
+use Rattle.terms.proofs.Common.{ℕ, _≡_, _∙_, ap, List, length, take, drop, take-append-seam}
 use Rattle.refusals.specs.Answers.{countOf}
 use Rattle.setup.specs.declared.Setup.{Setup}
 use Rattle.records.specs.Layout.{listBytes}
-use Rattle.runs.specs.declared.Budget.{Budget}
-use Rattle.runs.specs.declared.Report.{Report}
-use Rattle.runs.specs.Run.{recordsOf}
+use Rattle.runs.specs.{declared.Budget.Budget, declared.Report.Report, Run.recordsOf}
 use Rattle.promises.proofs.ReadBack.{read-back}
 use Rattle.interpreter.specs.Owing.{Owes, ReadsAs}
 

@@ -1,47 +1,25 @@
 -- The loop over a program's blocks. What is left gives the same: the walk from here, with the list as it is, ends and leaves what the
 -- whole walk leaves of the list at entry. Assumes nothing.
-use Prim.Native.Nat.{ℕ, _+_, _-_, _≤_, _<_}
-use mathlib.Core.Path.{_≡_, refl, sym, _∙_, ap}
-use mathlib.Core.Bool.{true, false}
-use mathlib.Core.List.{List, []}
-use native.Mathlib.Omega.{arith}
-use lib.ListN.{length, drop}
-use lib.Seq.{sets, length-sets}
+use Rattle.terms.proofs.Common.{ℕ, _+_, _-_, _≤_, _<_, _≡_, refl, sym, _∙_, ap, true, false, List, [], arith, length, drop, sets, length-sets}
 use Rattle.terms.specs.Terms.{firstOf}
-use Rattle.refusals.specs.declared.Refusal.{Refusal}
-use Rattle.refusals.specs.declared.Refusal.the-variants.{NoEnd}
-use Rattle.refusals.specs.declared.Place.{Place}
-use Rattle.lines.specs.Blocks.{Block, blockFrom, lengthFrom}
-use Rattle.lines.specs.Serving.{blocksFrom}
-use Rattle.lines.proofs.Lines.{length-some}
+use Rattle.refusals.specs.declared.{Refusal.Refusal, Refusal.the-variants.NoEnd, Place.Place}
+use Rattle.lines.{specs.Blocks.Block, specs.Blocks.blockFrom, specs.Blocks.lengthFrom, specs.Serving.blocksFrom, proofs.Lines.length-some}
 use Rattle.setup.specs.Fair.{Fair}
-use Rattle.records.specs.declared.Record.{Record}
-use Rattle.records.specs.Layout.{roomOf, listBytes}
-use Rattle.records.specs.Writing.{movedBytes}
+use Rattle.records.specs.{declared.Record.Record, Layout.roomOf, Layout.listBytes, Writing.movedBytes}
 use Rattle.settings.specs.declared.State.{State}
-use Rattle.programs.specs.declared.Programs.{Programs}
-use Rattle.programs.specs.Found.{subsOf}
-use Rattle.programs.specs.Places.{Begins}
-use Rattle.programs.proofs.Places.{begins-next}
-use Rattle.blocks.specs.declared.Control.{Control}
+use Rattle.programs.{specs.declared.Programs.Programs, specs.Found.subsOf, specs.Places.Begins, proofs.Places.begins-next}
+use Rattle.blocks.specs.{declared.Control.Control, declared.Done.Done, declared.Executed.Executed, Calling.called, Doing.madeOf, Doing.Does}
 use Rattle.blocks.specs.declared.Control.the-variants.{On, Call, Back, Stop}
-use Rattle.blocks.specs.declared.Done.{Done}
-use Rattle.blocks.specs.declared.Executed.{Executed}
+use Rattle.blocks.specs.Exec.{Verdict, accepted, callsIn, callTo, unknownCall, tooDeep, atStart, unless}
+use Rattle.runs.specs.Walk.{Going, Outcome, goingOn, isSpent, after, follow, obey, walk, callees}
+use Rattle.interpreter.specs.declared.{Task.Task, Progress.Progress, Ending.Ending, Turn.the-variants.Calls}
+use Rattle.interpreter.specs.Progressing.{jobOf, goingOf, walkFrom, callFrom, programEnds, progressBy, howBy, nextBy, outcomeBy, Ran, Fits, Reaches}
+use Rattle.interpreter.specs.declared.How.the-variants.{Ended, Returned, Unfinished, Refused}
+use Rattle.interpreter.proofs.Endings.{count-room, ran-still, ran-after}
+use Rattle.interpreter.proofs.Walking.{freeVerdict, goes-inside, walk-spent, walk-ends, walk-goes}
+use Rattle.interpreter.proofs.Acting.{Accepts, accepted-is, refused-is, verdict-kept, verdict-quiet}
 use Rattle.blocks.specs.declared.Executed.the-variants as Executed
 use Rattle.blocks.specs.Exec as Exec
-use Rattle.blocks.specs.Exec.{Verdict, accepted, callsIn, callTo, unknownCall, tooDeep, atStart, unless}
-use Rattle.blocks.specs.Calling.{called}
-use Rattle.blocks.specs.Doing.{madeOf, Does}
-use Rattle.runs.specs.Walk.{Going, Outcome, goingOn, isSpent, after, follow, obey, walk, callees}
-use Rattle.interpreter.specs.Progressing.{jobOf, goingOf, walkFrom, callFrom, programEnds, progressBy, howBy, nextBy, outcomeBy, Ran, Fits, Reaches}
-use Rattle.interpreter.specs.declared.Task.{Task}
-use Rattle.interpreter.specs.declared.Progress.{Progress}
-use Rattle.interpreter.specs.declared.How.the-variants.{Ended, Returned, Unfinished, Refused}
-use Rattle.interpreter.specs.declared.Ending.{Ending}
-use Rattle.interpreter.specs.declared.Turn.the-variants.{Calls}
-use Rattle.interpreter.proofs.Walking.{freeVerdict, goes-inside, walk-spent, walk-ends, walk-goes}
-use Rattle.interpreter.proofs.Endings.{count-room, ran-still, ran-after}
-use Rattle.interpreter.proofs.Acting.{Accepts, accepted-is, refused-is, verdict-kept, verdict-quiet}
 
 pub record Walking (l : List ℕ) (task : Task) (left : ℕ) (whole : Outcome) (p₀ : Progress) (was list : List ℕ) (n at : ℕ) (p : Progress) : Type 0 where
   pub begins : Begins l n at

@@ -1,61 +1,26 @@
 -- What a run starts with, and what it answers. Assumes nothing.
-use Prim.Native.Nat.{ℕ, _+_, _-_, _≤_, _<_, _^_}
-use mathlib.Core.Path.{_≡_, refl, sym, _∙_, ap}
-use mathlib.Core.Bool.{Bool, true, false}
-use mathlib.Core.Option.{some}
-use mathlib.Core.List.{List, [], _∷_}
-use native.Mathlib.Omega.{arith}
-use native.Mathlib.Decide.{decLt}
-use borrow.Author.Tests.{lt-ltb, le-ltb}
-use lib.ListN.{length, drop}
-use lib.Seq.{sets-eq}
-use Rattle.refusals.specs.declared.Refusal.{Refusal}
-use Rattle.refusals.specs.declared.Refusal.the-variants.{FirstBlock, BadSetup, DataTooLong}
-use Rattle.refusals.specs.declared.Place.{Place}
+use Rattle.terms.proofs.Common.{ℕ, _+_, _-_, _≤_, _<_, _^_, _≡_, refl, sym, _∙_, ap, Bool, true, false, some, List, [], _∷_, arith, decLt, lt-ltb, le-ltb, length, drop, sets-eq, ℤ, _+ℤ_, _-ℤ_}
+use Rattle.refusals.specs.declared.{Refusal.Refusal, Refusal.the-variants.FirstBlock, Refusal.the-variants.BadSetup, Refusal.the-variants.DataTooLong, Place.Place, Answer.the-variants.Refused}
 use Rattle.lines.specs.Blocks.{Block, blockFrom, blocksOf, lengthFrom, isPercent, textFrom}
-use Rattle.lines.specs.Serving.{blocksFrom}
-use Rattle.lines.proofs.Lines.{blocks-step, blocks-end, percent-end}
-use lib.IntN.{ℤ, _+ℤ_, _-ℤ_}
-use Rattle.lengths.specs.declared.Len.{Len}
-use Rattle.lengths.specs.Units.{len}
+use Rattle.lines.{specs.Serving.blocksFrom, proofs.Lines.blocks-step, proofs.Lines.blocks-end, proofs.Lines.percent-end}
+use Rattle.lengths.specs.{declared.Len.Len, Units.len, declared.Point.Point, Points.moved, Points.movedBack, Near.Near}
 use Rattle.lengths.proofs.Ring.{var, _⊞_, _⊟_, same}
-use Rattle.lengths.specs.declared.Point.{Point}
-use Rattle.lengths.specs.Points.{moved, movedBack}
-use Rattle.lengths.specs.Near.{Near}
-use Rattle.setup.specs.declared.Bed.{Bed}
-use Rattle.setup.specs.declared.Setup.{Setup}
-use Rattle.setup.specs.Limits.{validSetup}
-use Rattle.setup.specs.Frame.{pointOf, offset, startOf, bedOf, switchOn}
-use Rattle.setup.specs.Fair.{Fair}
+use Rattle.setup.specs.{declared.Bed.Bed, declared.Setup.Setup, Limits.validSetup, Frame.pointOf, Frame.offset, Frame.startOf, Frame.bedOf, Frame.switchOn, Fair.Fair}
 use Rattle.setup.proofs.Valid.{valid-feed, valid-speed, start-inside}
-use Rattle.records.specs.declared.Record.{Record}
-use Rattle.records.specs.Layout.{roomOf, listBytes}
-use Rattle.settings.specs.declared.State.{State}
-use Rattle.settings.specs.Settings.{firstState, firstModes, stateMoved}
-use Rattle.records.specs.Writing.{movedBytes}
-use Rattle.programs.specs.declared.Programs.{Programs}
-use Rattle.programs.specs.declared.Scanned.{Scanned}
-use Rattle.programs.specs.declared.Verdict.{Verdict}
-use Rattle.programs.specs.declared.Verdict.the-variants as Verdict
-use Rattle.programs.specs.Openings.{Table, table, refusedAt, programsFrom}
-use Rattle.programs.specs.Found.{subsOf, tableBy, tableOf}
-use Rattle.programs.specs.Answers as Answers
-use Rattle.programs.specs.Places.{Placed, TablePlaced}
+use Rattle.records.specs.{declared.Record.Record, Layout.roomOf, Layout.listBytes, Writing.movedBytes}
+use Rattle.settings.specs.{declared.State.State, Settings.firstState, Settings.firstModes, Settings.stateMoved}
+use Rattle.programs.specs.declared.{Programs.Programs, Scanned.Scanned, Verdict.Verdict}
+use Rattle.programs.specs.{Openings.Table, Openings.table, Openings.refusedAt, Openings.programsFrom, Found.subsOf, Found.tableBy, Found.tableOf, Places.Placed, Places.TablePlaced}
 use Rattle.programs.proofs.Places.{found-placed, main-placed, subs-placed, known-placed}
-use Rattle.blocks.specs.Reach.{Reachable}
-use Rattle.blocks.proofs.Nearness.{inside-sums}
-use Rattle.runs.specs.Walk.{How, Outcome, nowhere, just}
-use Rattle.runs.specs.Walk as Walk
+use Rattle.blocks.{specs.Reach.Reachable, proofs.Nearness.inside-sums}
+use Rattle.runs.specs.{Walk.How, Walk.Outcome, Walk.nowhere, Walk.just, declared.Budget.Budget, declared.Report.Report}
 use Rattle.runs.specs.Run.{firstOf, runTable, runBlocks, outcome, recordsOf, answerBy, answerOf, standingOf}
+use Rattle.interpreter.specs.{Owing.Owes, Serving.Opened, Serving.Gives, Serving.reportBy, declared.Progress.Progress, declared.Ending.Ending}
 use Rattle.interpreter.specs.Progressing.{jobOf, goingOf, walkFrom, outcomeBy, Ran, Sound, Fits}
-use Rattle.interpreter.specs.Owing.{Owes}
-use Rattle.interpreter.specs.Serving.{Opened, Gives, reportBy}
-use Rattle.runs.specs.declared.Budget.{Budget}
-use Rattle.runs.specs.declared.Report.{Report}
-use Rattle.refusals.specs.declared.Answer.the-variants.{Refused}
-use Rattle.interpreter.specs.declared.Progress.{Progress}
-use Rattle.interpreter.specs.declared.Ending.{Ending}
 use Rattle.interpreter.proofs.Endings.{moved-length}
+use Rattle.programs.specs.declared.Verdict.the-variants as Verdict
+use Rattle.programs.specs.Answers as Answers
+use Rattle.runs.specs.Walk as Walk
 
 module _ (s : Setup) (valid : validSetup s ≡ true) where
   first-reachable : Reachable (bedOf s) (firstOf s)

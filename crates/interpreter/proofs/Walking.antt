@@ -1,28 +1,15 @@
 -- The walk at a place of the data: what the block there leads to. Assumes nothing.
-use Prim.Native.Nat.{ℕ, _+_, _≤_, _<_}
-use mathlib.Core.Path.{_≡_, refl, sym, _∙_, ap}
-use mathlib.Core.Bool.{Bool, true, false, _&&_, _||_}
-use mathlib.Core.List.{List, []}
-use native.Mathlib.Omega.{arith}
-use native.Mathlib.Decide.{decLt}
-use lib.ListN.{length, drop, drop-of-length-le}
+use Rattle.terms.proofs.Common.{ℕ, _+_, _≤_, _<_, _≡_, refl, sym, _∙_, ap, Bool, true, false, _&&_, _||_, List, [], arith, decLt, length, drop, drop-of-length-le}
 use Rattle.terms.specs.Terms.{if_then_else_, firstOf}
-use Rattle.refusals.specs.declared.Refusal.the-variants.{NoEnd}
-use Rattle.refusals.specs.declared.Place.{Place}
+use Rattle.refusals.specs.declared.{Refusal.the-variants.NoEnd, Place.Place}
+use Rattle.lines.{specs.Serving.blocksFrom, proofs.Lines.at-place, proofs.Lines.blocks-step, proofs.Lines.blocks-end}
 use Rattle.lines.specs.Blocks.{Block, blockFrom, lengthFrom, beginsWith, isPercent, isSlashed, textFrom}
-use Rattle.lines.specs.Serving.{blocksFrom}
-use Rattle.lines.proofs.Lines.{at-place, blocks-step, blocks-end}
-use Rattle.programs.specs.Places.{Begins}
-use Rattle.programs.specs.Found.{subsOf}
+use Rattle.programs.specs.{Places.Begins, Found.subsOf}
 use Rattle.settings.specs.declared.State.{State}
-use Rattle.blocks.specs.Machine.{machineOf}
+use Rattle.blocks.{specs.Machine.machineOf, specs.Calling.freely, specs.Calling.called, specs.declared.Control.the-variants.On, proofs.Calling.exec-called}
 use Rattle.blocks.specs.Exec.{Calls, callsIn, callTo, unknownCall, tooDeep, atStart, Verdict, accepted, unless, exec}
-use Rattle.blocks.specs.Calling.{freely, called}
-use Rattle.blocks.proofs.Calling.{exec-called}
-use Rattle.blocks.specs.declared.Control.the-variants.{On}
 use Rattle.runs.specs.Walk.{Going, Outcome, refusedAt, just, spentAt, after, isSpent, isSkipped, slashLength, follow, obey, verdictOn, runBlock, reached, walk}
-use Rattle.interpreter.specs.Progressing.{jobOf, programEnds, verdictAt}
-use Rattle.interpreter.specs.declared.Task.{Task}
+use Rattle.interpreter.specs.{Progressing.jobOf, Progressing.programEnds, Progressing.verdictAt, declared.Task.Task}
 use Rattle.interpreter.proofs.Places.{begins-end}
 
 -- a program ends at the data's end, at an opening and at `%` alone

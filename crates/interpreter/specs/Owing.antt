@@ -1,18 +1,9 @@
 -- What the entry points owe, by the rules of the run.
-use Prim.Native.Nat.{ℕ, _+_}
-use mathlib.Core.Path.{_≡_}
-use mathlib.Core.List.{List, _++_}
-use lib.ListN.{length, take, drop}
+use Rattle.terms.specs.Common.{ℕ, _+_, _≡_, List, _++_, length, take, drop}
 use Rattle.setup.specs.declared.Setup.{Setup}
-use Rattle.records.specs.declared.Record.{Record}
-use Rattle.records.specs.declared.Listed.the-variants.{End}
-use Rattle.records.specs.Layout.{listBytes}
-use Rattle.records.specs.Reading.{trail, after, readAll}
-use Rattle.runs.specs.Run.{answerOf, standingOf, recordsOf}
-use Rattle.runs.specs.declared.Budget.{Budget}
-use Rattle.runs.specs.declared.Report.{Report}
-use Rattle.refusals.specs.declared.Answer.{Answer}
-use Rattle.refusals.specs.Answers.{countOf}
+use Rattle.records.specs.{declared.Record.Record, declared.Listed.the-variants.End, Layout.listBytes, Reading.trail, Reading.after, Reading.readAll}
+use Rattle.runs.specs.{Run.answerOf, Run.standingOf, Run.recordsOf, declared.Budget.Budget, declared.Report.Report}
+use Rattle.refusals.specs.{declared.Answer.Answer, Answers.countOf}
 
 -- What a run owes: its answer, where it stands, and the list buffer's final bytes in full. The whole buffer is the room.
 pub record Owes (s : Setup) (l : List ℕ) (budget : Budget) (was is : List ℕ) (r : Report) : Type 0 where

@@ -1,47 +1,20 @@
 -- What the code of the run answers and leaves in the list, by the rules of the walk.
-use Prim.Native.Nat.{ℕ, _+_, _-_, _≤_, _<_}
-use mathlib.Core.Path.{_≡_}
-use mathlib.Core.Bool.{Bool, true, _&&_, _||_}
-use mathlib.Core.Option.{Option, none, some}
-use mathlib.Core.List.{List, [], _∷_}
-use lib.Dec.{eqb}
-use lib.ListN.{length, drop}
-use lib.Seq.{sets}
+use Rattle.terms.specs.Common.{ℕ, _+_, _-_, _≤_, _<_, _≡_, Bool, true, _&&_, _||_, Option, none, some, List, [], _∷_, eqb, length, drop, sets}
 use Rattle.terms.specs.Terms.{if_then_else_, byte}
-use Rattle.refusals.specs.declared.Refusal.the-variants.{NumberNotFound, NestOver}
-use Rattle.refusals.specs.declared.Place.{Place}
-use Rattle.lines.specs.Blocks.{Block, blockFrom, blocksOf, beginsWith, isPercent, isSlashed, textFrom}
-use Rattle.lines.specs.Serving.{blocksFrom}
-use Rattle.setup.specs.declared.Bed.{Bed}
-use Rattle.setup.specs.Fair.{Fair}
-use Rattle.records.specs.declared.Record.{Record}
-use Rattle.records.specs.Layout.{roomOf}
+use Rattle.refusals.specs.declared.{Refusal.the-variants.NumberNotFound, Refusal.the-variants.NestOver, Place.Place}
+use Rattle.lines.specs.{Blocks.Block, Blocks.blockFrom, Blocks.blocksOf, Blocks.beginsWith, Blocks.isPercent, Blocks.isSlashed, Blocks.textFrom, Serving.blocksFrom}
+use Rattle.setup.specs.{declared.Bed.Bed, Fair.Fair}
+use Rattle.records.specs.{declared.Record.Record, Layout.roomOf, Writing.movedBytes}
 use Rattle.settings.specs.declared.State.{State}
-use Rattle.records.specs.Writing.{movedBytes}
-use Rattle.programs.specs.declared.Program.{Program}
-use Rattle.programs.specs.declared.Programs.{Programs}
-use Rattle.programs.specs.Openings.{known}
-use Rattle.programs.specs.Found.{subsOf, WellFound}
-use Rattle.programs.specs.Places.{Begins, Placed}
-use Rattle.blocks.specs.Machine.{machineOf}
-use Rattle.blocks.specs.declared.Control.the-variants.{On, Call}
-use Rattle.blocks.specs.declared.Done.{Done}
-use Rattle.blocks.specs.Exec.{Verdict, accepted, exec, callsIn}
-use Rattle.blocks.specs.Calling.{freely, called}
-use Rattle.blocks.specs.Reach.{Reachable}
-use Rattle.runs.specs.Walk as Walk
-use Rattle.runs.specs.Walk.{Job, Going, ended, returned, unfinished, refusedAt, Outcome, nowhere, goingOn, oneLess, slashLength, obey, walk, callees}
+use Rattle.programs.specs.{declared.Program.Program, declared.Programs.Programs, Openings.known, Found.subsOf, Found.WellFound, Places.Begins, Places.Placed}
+use Rattle.blocks.specs.{Machine.machineOf, declared.Control.the-variants.On, declared.Control.the-variants.Call}
+use Rattle.blocks.specs.{declared.Done.Done, Exec.Verdict, Exec.accepted, Exec.exec, Exec.callsIn, Calling.freely, Calling.called, Reach.Reachable}
 use Rattle.runs.specs.Run.{finishOf}
+use Rattle.runs.specs.Walk.{Job, Going, ended, returned, unfinished, refusedAt, Outcome, nowhere, goingOn, oneLess, slashLength, obey, walk, callees}
 use Rattle.execution.specs.declared.Ground.{Ground}
-use Rattle.interpreter.specs.declared.Task.{Task}
-use Rattle.interpreter.specs.declared.Progress.{Progress}
-use Rattle.interpreter.specs.declared.How.{How}
+use Rattle.interpreter.specs.declared.{Task.Task, Progress.Progress, How.How, Ending.Ending, Turn.Turn, Turn.the-variants.Calls, Turn.the-variants.Over, Leg.Leg, Callee.Callee}
 use Rattle.interpreter.specs.declared.How.the-variants.{Ended, Returned, Unfinished, Refused}
-use Rattle.interpreter.specs.declared.Ending.{Ending}
-use Rattle.interpreter.specs.declared.Turn.{Turn}
-use Rattle.interpreter.specs.declared.Turn.the-variants.{Calls, Over}
-use Rattle.interpreter.specs.declared.Leg.{Leg}
-use Rattle.interpreter.specs.declared.Callee.{Callee}
+use Rattle.runs.specs.Walk as Walk
 use Rattle.interpreter.specs.declared.Callee.the-variants as Callee
 
 -- the job that the code's task is, on the bytes of the data

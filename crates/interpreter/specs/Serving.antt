@@ -1,21 +1,11 @@
 -- What only serves the proofs of the entry points: what their inner functions are handed and answer.
-use Prim.Native.Nat.{ℕ, _+_, _≤_, _<_}
-use mathlib.Core.Path.{_≡_}
-use mathlib.Core.List.{List}
-use lib.ListN.{length}
-use lib.Seq.{sets}
-use Rattle.lines.specs.Blocks.{blockFrom, lengthFrom}
-use Rattle.lines.specs.Serving.{blocksFrom}
+use Rattle.terms.specs.Common.{ℕ, _+_, _≤_, _<_, _≡_, List, length, sets}
+use Rattle.lines.specs.{Blocks.blockFrom, Blocks.lengthFrom, Serving.blocksFrom}
 use Rattle.lengths.specs.declared.Point.{Point}
-use Rattle.records.specs.Layout.{roomOf}
-use Rattle.records.specs.Writing.{movedBytes}
-use Rattle.programs.specs.declared.Programs.{Programs}
-use Rattle.programs.specs.Openings.{table, programsFrom}
-use Rattle.programs.specs.Found.{subsOf, WellFound}
+use Rattle.records.specs.{Layout.roomOf, Writing.movedBytes}
+use Rattle.programs.specs.{declared.Programs.Programs, Openings.table, Openings.programsFrom, Found.subsOf, Found.WellFound}
 use Rattle.settings.specs.Settings.{stateMoved}
-use Rattle.runs.specs.Walk.{Outcome}
-use Rattle.runs.specs.Run.{answerBy}
-use Rattle.runs.specs.declared.Report.{Report}
+use Rattle.runs.specs.{Walk.Outcome, Run.answerBy, declared.Report.Report}
 
 -- what an outcome tells the caller, the point in machine units
 unfoldable pub reportBy : Point → Outcome → Report

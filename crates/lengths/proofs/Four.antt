@@ -1,19 +1,7 @@
 -- Laws of the four bytes of a number, the little end first: the bytes give the number back, and the number gives the bytes back.
 -- Assumes nothing.
-use Prim.Native.Nat.{ℕ, zero, suc, _+_, _*_, _/_, _%_, _^_, _≤_, _<_}
-use mathlib.Core.Path.{_≡_, refl, sym, ap, _∙_}
-use mathlib.Core.Bool.{Bool, true, false, _&&_, and-true}
-use mathlib.Core.List.{List, [], _∷_}
-use native.Mathlib.Nat.{mod-lt, mod-eq-of-lt, div-add-mod, div-div-eq-div-mul}
-use native.Mathlib.Omega.{arith}
-use lib.Dec.{ltb, leb, leb·suc-suc}
-use lib.IntN.{ℤ, pos, negsuc, _-ℤ_}
-use lib.ListN.{length, getD}
-use lib.Signed.{leZ}
-use borrow.Author.Tests.{ltb-true, ltb-false, lt-ltb, le-ltb}
-use Rattle.lengths.specs.Units.{len, fitsFour, wordOf, fourOf, fourBytes, signedOf, ofFour}
-use Rattle.lengths.specs.View.{over, under, Short}
-use Rattle.lengths.specs.Serving.{Read}
+use Rattle.terms.proofs.Common.{ℕ, _+_, _*_, _/_, _%_, _^_, _≤_, _<_, _≡_, refl, sym, ap, _∙_, Bool, true, false, _&&_, and-true, List, [], _∷_, mod-eq-of-lt, div-add-mod, div-div-eq-div-mul, arith, ltb, leb, leb·suc-suc, ℤ, pos, negsuc, _-ℤ_, getD, leZ, ltb-true, ltb-false, lt-ltb, le-ltb}
+use Rattle.lengths.specs.{Units.len, Units.fitsFour, Units.wordOf, Units.fourOf, Units.fourBytes, Units.signedOf, Units.ofFour, View.over, View.under, View.Short, Serving.Read}
 use Rattle.lengths.proofs.Laws.{view, diff-bal}
 
 -- ---- which numbers fit

@@ -1,21 +1,7 @@
 -- Laws of signed numbers in the view of two naturals (specs/View.antt). Assumes nothing.
-use Prim.Native.Nat.{ℕ, zero, suc, _+_, _-_, _*_, _≤_, _<_}
-use mathlib.Core.Path.{_≡_, refl, ap, _∙_}
-use mathlib.Core.Bool.{Bool, true, false, cond}
-use native.Mathlib.Nat.{mul-le-mul}
-use native.Mathlib.Omega.{arith}
-use native.Mathlib.Decide.{decLe}
-use lib.Dec.{T, ltb}
-use lib.IntN.{ℤ, pos, negsuc, negℤ, subℕ, _+ℤ_, _-ℤ_, _*ℤ_, natAbs}
-use lib.Signed.{leZ, ltZ, nonNeg}
-use borrow.Author.Tests.{ltb-true, ltb-false, leb-true, leb-false, lt-ltb, le-ltb, le-leb, lt-leb}
-use mir.Syntax.{w64}
-use mir.Val.{Fits, SFits, toZ, ofZ}
-use mir.Facts.{toZ-ofZ}
-use Rattle.lengths.specs.declared.Len.{Len}
-use Rattle.lengths.specs.Units.{sq, halved}
-use Rattle.lengths.specs.View.{over, under, Within}
-use Rattle.lengths.specs.Serving.{Room}
+use Rattle.terms.proofs.Common.{ℕ, zero, suc, _+_, _-_, _*_, _≤_, _<_, _≡_, refl, ap, _∙_, Bool, true, false, cond, mul-le-mul, arith, decLe, T, ltb, ℤ, pos, negsuc, negℤ, subℕ, _+ℤ_, _-ℤ_, _*ℤ_, natAbs, leZ, ltZ, nonNeg, ltb-true, ltb-false, leb-true, leb-false, lt-ltb, le-ltb, le-leb, lt-leb}
+use mir.{Syntax.w64, Val.Fits, Val.SFits, Val.toZ, Val.ofZ, Facts.toZ-ofZ}
+use Rattle.lengths.specs.{declared.Len.Len, Units.sq, Units.halved, View.over, View.under, View.Within, Serving.Room}
 
 -- ---- the balance of each operation
 

@@ -1,12 +1,7 @@
 -- A point that is moved is near by the sum of the bounds. Assumes nothing.
-use Prim.Native.Nat.{ℕ, _+_}
-use native.Mathlib.Omega.{arith}
-use Rattle.lengths.proofs.Laws.{sum-bal, diff-bal}
-use Rattle.lengths.specs.declared.Point.{Point}
-use Rattle.lengths.specs.Points.{moved, movedBack, flat}
-use Rattle.lengths.specs.Near.{Near, FlatNear}
-use Rattle.codes.specs.declared.Plane.{Plane}
-use Rattle.codes.specs.declared.Plane.the-variants.{G17, G18, G19}
+use Rattle.terms.proofs.Common.{ℕ}
+use Rattle.codes.specs.declared.Plane.{Plane, the-variants.G17, the-variants.G18, the-variants.G19}
+use Rattle.lengths.specs.{declared.Point.Point, Points.flat, Near.Near, Near.FlatNear}
 
 -- a point of a plane is as near as the point in space
 pub flat-near : {n : ℕ} (plane : Plane) (p : Point) → Near n p → FlatNear n (flat plane p)

@@ -1,12 +1,7 @@
 -- Equations and orders of sums and products of signed numbers, in one line each. A `Form z` is z written as a difference of two
 -- naturals, `ups` − `downs`, made of the naturals of z's variables. It is put together as z is: `var` at a variable or a literal,
 -- `_⊞_`, `_⊟_`, `_⊠_`, `neg`. Two forms are then compared in naturals, where `omega` multiplies out. Assumes nothing.
-use Prim.Native.Nat.{ℕ, _+_, _*_, _≤_, _<_}
-use mathlib.Core.Path.{_≡_, ap}
-use mathlib.Core.Bool.{true}
-use native.Mathlib.Omega.{arith}
-use lib.IntN.{ℤ, pos, negℤ, _+ℤ_, _-ℤ_, _*ℤ_}
-use lib.Signed.{leZ, ltZ}
+use Rattle.terms.proofs.Common.{ℕ, _+_, _*_, _≤_, _<_, _≡_, ap, true, arith, ℤ, pos, negℤ, _+ℤ_, _-ℤ_, _*ℤ_, leZ, ltZ}
 use Rattle.lengths.specs.View.{over, under}
 use Rattle.lengths.proofs.Laws.{view, sum-bal, diff-bal, mul-bal, neg-over, neg-under}
 

@@ -1,9 +1,5 @@
 -- The tests of the rules, in the view that proofs use.
-use Prim.Native.Nat.{ℕ}
-use mathlib.Core.Path.{_≡_}
-use mathlib.Core.Bool.{true}
-use borrow.Author.Tests.{leb-true}
-use lib.IntN.{ℤ, natAbs}
+use Rattle.terms.proofs.Common.{ℕ, _≡_, true, leb-true, ℤ, natAbs}
 use Rattle.terms.specs.Terms.{within}
 use Rattle.lengths.specs.View.{Within}
 use Rattle.lengths.proofs.Laws.{abs-near}

@@ -1,12 +1,7 @@
 -- Bounds of points, and what the functions that move a point answer: the value as a definition, and the balance of each axis
 -- (specs/View.antt), from which a caller's bounds follow by linear arithmetic.
-use Prim.Native.Nat.{ℕ}
-use mathlib.Core.Path.{_≡_}
-use Rattle.lengths.specs.View.{Within}
-use Rattle.lengths.specs.Serving.{Sum, Difference}
-use Rattle.lengths.specs.declared.Point.{Point}
-use Rattle.lengths.specs.declared.Flat.{Flat}
-use Rattle.lengths.specs.Points.{moved, movedBack}
+use Rattle.terms.specs.Common.{ℕ, _≡_}
+use Rattle.lengths.specs.{View.Within, Serving.Sum, Serving.Difference, declared.Point.Point, declared.Flat.Flat, Points.moved, Points.movedBack}
 
 -- each coordinate is at most n away from 0
 pub record Near (n : ℕ) (p : Point) : Type 0 where

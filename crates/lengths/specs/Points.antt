@@ -1,13 +1,8 @@
 -- Points, the axes of a plane, and the travel.
-use mathlib.Core.Bool.{Bool, _&&_}
+use Rattle.terms.specs.Common.{Bool, _&&_}
 use Rattle.terms.specs.Terms.{between}
-use Rattle.lengths.specs.declared.Len.{Len}
-use Rattle.lengths.specs.Units.{_⊕_, _⊖_}
-use Rattle.codes.specs.declared.Plane.{Plane}
-use Rattle.codes.specs.declared.Plane.the-variants.{G17, G18, G19}
-use Rattle.lengths.specs.declared.Point.{Point}
-use Rattle.lengths.specs.declared.Flat.{Flat}
-use Rattle.lengths.specs.declared.Travel.{Travel}
+use Rattle.codes.specs.declared.Plane.{Plane, the-variants.G17, the-variants.G18, the-variants.G19}
+use Rattle.lengths.specs.{declared.Len.Len, Units._⊕_, Units._⊖_, declared.Point.Point, declared.Flat.Flat, declared.Travel.Travel}
 
 -- a point displaced by the numbers of another, and back
 unfoldable pub moved : Point → Point → Point

@@ -1,12 +1,7 @@
 -- What only serves proofs: what each method on lengths asks and answers, the value as a definition and the same as linear facts
 -- of naturals (specs/View.antt).
-use Prim.Native.Nat.{ℕ, _+_, _-_, _*_, _^_, _≤_, _<_}
-use mathlib.Core.Path.{_≡_}
-use mathlib.Core.Bool.{true}
-use lib.IntN.{ℤ, pos, negℤ, _-ℤ_, _*ℤ_, natAbs}
-use Rattle.lengths.specs.declared.Len.{Len}
-use Rattle.lengths.specs.Units.{len, _⊕_, _⊖_, fitsFour, ofFour}
-use Rattle.lengths.specs.View.{Short, Within, over, under}
+use Rattle.terms.specs.Common.{ℕ, _+_, _-_, _*_, _^_, _≤_, _<_, _≡_, true, ℤ, pos, negℤ, _-ℤ_, _*ℤ_, natAbs}
+use Rattle.lengths.specs.{declared.Len.Len, Units.len, Units._⊕_, Units._⊖_, Units.fitsFour, Units.ofFour, View.Short, View.Within, View.over, View.under}
 
 -- x − y is a number of 64 bits with a sign
 pub record Room (x y : ℕ) : Type 0 where

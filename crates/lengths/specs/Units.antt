@@ -1,10 +1,6 @@
 -- Lengths: signed whole numbers in units of 0.00001 mm. What a reader needs of them: sums and differences, the
 -- square, and the four bytes of a number in the list.
-use Prim.Native.Nat.{ℕ, suc, _+_, _-_, _*_, _/_, _%_, _^_}
-use mathlib.Core.Bool.{Bool, true, false}
-use mathlib.Core.List.{List, [], _∷_}
-use lib.Dec.{ltb}
-use lib.IntN.{ℤ, pos, negsuc, _+ℤ_, _-ℤ_, natAbs}
+use Rattle.terms.specs.Common.{ℕ, suc, _+_, _-_, _*_, _/_, _%_, _^_, Bool, true, false, List, [], _∷_, ltb, ℤ, pos, negsuc, _+ℤ_, _-ℤ_, natAbs}
 use Rattle.lengths.specs.declared.Len.{Len}
 
 abbrev pub len : ℤ → Len

@@ -1,19 +1,13 @@
 -- Whether a block is an arc with a centre word. Assumes nothing.
-use Prim.Native.Nat.{ℕ}
-use mathlib.Core.Path.{_≡_, refl, sym}
-use mathlib.Core.Bool.{Bool, true, false, _||_}
-use mathlib.Core.List.{List, [], _∷_}
-use lib.Dec.{eqb}
+use Rattle.terms.proofs.Common.{ℕ, _≡_, refl, sym, Bool, true, false, _||_, List, [], _∷_, eqb}
 use denote.Enum.Declared.{tagOf}
 use types.Run.{OneOf, miss}
 use Rattle.terms.specs.Terms.{any}
-use Rattle.codes.specs.declared.Motion.{Motion}
+use Rattle.codes.{specs.declared.Motion.Motion, proofs.Motion.the-type as motion-type}
 use Rattle.codes.specs.declared.Motion.the-variants.{Off, G00, G01, G02, G03, Drilling}
-use Rattle.codes.proofs.Motion.{the-type as motion-type}
 use Rattle.words.specs.declared.Word.{Word}
-use Rattle.letters.specs.declared.BlockCode.{BlockCode}
+use Rattle.letters.specs.{declared.BlockCode.BlockCode, Letters.turns, Letters.isArc}
 use Rattle.letters.specs.declared.BlockCode.the-variants.{Calling, Returning, Dwelling, Moving}
-use Rattle.letters.specs.Letters.{turns, isArc}
 use Rattle.letters.proofs.BlockCode.{the-type as code-type}
 
 -- one of two letters stands among a block's words where the one or the other does

@@ -1,32 +1,14 @@
 -- The judgement of a block's words, word by word: what the words that are left make of it is the same at every word. Assumes
 -- nothing.
-use Prim.Native.Nat.{ℕ, _+_, _≤_, _<_}
-use mathlib.Core.Path.{_≡_, refl, sym, _∙_}
-use mathlib.Core.Bool.{Bool, true, false, _&&_, _||_}
-use mathlib.Core.Option.{some}
-use mathlib.Core.List.{List, [], _∷_}
-use native.Mathlib.Omega.{arith}
-use native.Mathlib.Numerals.{add-one}
-use lib.Dec.{eqb}
-use lib.ListN.{length, take, drop, getD, drop-of-length-le}
-use lib.Seq.{length-take-le, drop-cons, getD-take}
-use borrow.Author.Tests.{ne-eqb}
+use Rattle.terms.proofs.Common.{ℕ, _+_, _≤_, _<_, _≡_, refl, sym, _∙_, Bool, true, false, _&&_, _||_, some, List, [], _∷_, arith, add-one, eqb, length, take, drop, getD, drop-of-length-le, length-take-le, drop-cons, getD-take, ne-eqb}
 use Rattle.terms.specs.Terms.{if_then_else_, byte, bytes, first}
 use Rattle.codes.proofs.Tables.{Others}
-use Rattle.words.specs.declared.Word.{Word}
-use Rattle.words.specs.declared.Given.{Given}
-use Rattle.words.specs.declared.Use.{Use}
-use Rattle.words.specs.declared.Value.{Value}
-use Rattle.words.specs.declared.Value.the-variants as value
-use Rattle.words.specs.declared.Values.{Values}
-use Rattle.words.specs.Values.{noValues}
+use Rattle.words.specs.{declared.Word.Word, declared.Given.Given, declared.Use.Use, declared.Value.Value, declared.Values.Values, Values.noValues}
 use Rattle.settings.specs.declared.Modes.{Modes}
-use Rattle.letters.specs.declared.Speeds.{Speeds}
-use Rattle.letters.specs.declared.BlockCode.{BlockCode}
-use Rattle.letters.specs.declared.Judged.{Judged}
-use Rattle.letters.specs.declared.Judged.the-variants.{Fine, Unused, Bad}
+use Rattle.letters.specs.declared.{Speeds.Speeds, BlockCode.BlockCode, Judged.Judged, Judged.the-variants.Fine, Judged.the-variants.Unused, Judged.the-variants.Bad}
 use Rattle.letters.specs.Letters.{useOf, isNothing, isUnused, firstUnused, wordValue, isBad, firstBadValue, givenBy, withValue, valuesAfter}
 use Rattle.letters.specs.Judging.{unusedOr, badOr, judgedBy, valueNext, judgedNext, judgedAll, judgedAfter}
+use Rattle.words.specs.declared.Value.the-variants as value
 
 -- a letter that is none of a value's
 pub no-value : (v : Values) (g : Given) (n : ℕ) → Others n (bytes "SFPRKJIZYX") → v ≡ withValue v n g

@@ -1,34 +1,15 @@
 -- A word's value put at its letter's place, and the judgement of the words so far. Assumes nothing.
-use Prim.Native.Nat.{ℕ, _+_, _≤_, _<_}
-use mathlib.Core.Path.{_≡_, refl, ap, _∙_, fun-ext}
-use mathlib.Core.Bool.{Bool, true, false, _&&_, _||_}
-use mathlib.Core.List.{List}
-use native.Mathlib.Omega.{arith}
-use lib.Dec.{eqb}
-use lib.IntN.{pos}
-use lib.ListN.{length, take, getD, set, replicate, length-set}
-use lib.Seq.{getD-set-same, getD-set-other}
-use borrow.Author.Tests.{eqb-true, eqb-false}
+use Rattle.terms.proofs.Common.{ℕ, _+_, _≤_, _<_, _≡_, refl, ap, _∙_, fun-ext, Bool, true, false, _&&_, _||_, List, arith, eqb, pos, length, take, getD, set, replicate, length-set, getD-set-same, getD-set-other, eqb-true, eqb-false}
 use Rattle.terms.specs.Terms.{if_then_else_, byte, bytes}
 use Rattle.codes.proofs.Tables.{Others}
-use Rattle.lengths.specs.declared.Len.{Len}
-use Rattle.lengths.specs.Units.{len}
-use Rattle.words.specs.declared.Word.{Word}
-use Rattle.words.specs.declared.Given.{Given}
-use Rattle.words.specs.declared.Use.{Use}
-use Rattle.words.specs.declared.Value.{Value}
-use Rattle.words.specs.declared.Value.the-variants as value
-use Rattle.words.specs.declared.Values.{Values}
-use Rattle.words.specs.Values.{valueOf}
+use Rattle.lengths.specs.{declared.Len.Len, Units.len}
+use Rattle.words.specs.{declared.Word.Word, declared.Given.Given, declared.Use.Use, declared.Value.Value, declared.Values.Values, Values.valueOf}
 use Rattle.settings.specs.declared.Modes.{Modes}
-use Rattle.letters.specs.declared.Speeds.{Speeds}
-use Rattle.letters.specs.declared.BlockCode.{BlockCode}
-use Rattle.letters.specs.declared.Judged.{Judged}
-use Rattle.letters.specs.declared.Judged.the-variants.{Fine, Bad}
+use Rattle.letters.specs.declared.{Speeds.Speeds, BlockCode.BlockCode, Judged.Judged, Judged.the-variants.Fine, Judged.the-variants.Bad}
+use Rattle.letters.specs.{Judging.judgedBy, Judging.valueNext, Judging.judgedNext, Places.givenAt, Places.valuesBy, Places.valuesIn, Places.IsPlace}
 use Rattle.letters.specs.Letters.{useOf, isNothing, wordValue, givenBy, withValue}
-use Rattle.letters.specs.Judging.{judgedBy, valueNext, judgedNext}
 use Rattle.letters.proofs.Judging.{LeftFrom, no-value, judge-start, judge-past, judge-done}
-use Rattle.letters.specs.Places.{givenAt, valuesBy, valuesIn, IsPlace}
+use Rattle.words.specs.declared.Value.the-variants as value
 
 -- ---- a value put at its letter's place
 

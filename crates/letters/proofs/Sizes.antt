@@ -1,59 +1,20 @@
 -- How large the values of a block's words are, none of them being refused: each is within the limit of its letter's use. Assumes
 -- nothing.
-use Prim.Native.Nat.{ℕ, _≤_, min}
-use mathlib.Core.Path.{_≡_, refl, _∙_, ap}
-use mathlib.Core.Bool.{Bool, true, false, not, _&&_}
-use mathlib.Core.Option.{none, some}
-use mathlib.Core.List.{List, [], _∷_}
-use native.Mathlib.Omega.{arith}
-use lib.Dec.{leb, eqb}
-use lib.IntN.{ℤ, pos}
-use lib.Signed.{leZ, ltZ}
-use borrow.Author.Tests.{leb-true, eqb-true}
+use Rattle.terms.proofs.Common.{ℕ, _≤_, min, _≡_, refl, _∙_, ap, Bool, true, false, not, _&&_, none, some, List, [], _∷_, arith, leb, eqb, ℤ, pos, leZ, ltZ, leb-true, eqb-true}
 use Rattle.terms.specs.Terms.{if_then_else_, byte, bytes, first, lookup, between}
 use Rattle.terms.proofs.Laws.{both-left, both-right, everyPlace, every-place}
-use Rattle.lengths.specs.declared.Len.{Len}
-use Rattle.lengths.specs.Units.{len}
-use Rattle.lengths.specs.View.{Within}
-use Rattle.lengths.proofs.Laws.{view}
-use Rattle.codes.specs.declared.Cycle.{Cycle}
-use Rattle.codes.specs.declared.Cycle.the-variants.{G81, G82, G85, G89}
-use Rattle.codes.specs.declared.Motion.{Motion}
+use Rattle.lengths.{specs.declared.Len.Len, specs.Units.len, specs.View.Within, proofs.Laws.view}
+use Rattle.codes.specs.declared.Cycle.{Cycle, the-variants.G81, the-variants.G82, the-variants.G85, the-variants.G89}
+use Rattle.codes.specs.declared.{Motion.Motion, Plane.Plane, Plane.the-variants.G17, Plane.the-variants.G18, Plane.the-variants.G19, Unit.Unit}
 use Rattle.codes.specs.declared.Motion.the-variants.{Off, G00, G01, G02, G03, Drilling}
-use Rattle.codes.specs.declared.Plane.{Plane}
-use Rattle.codes.specs.declared.Plane.the-variants.{G17, G18, G19}
-use Rattle.codes.specs.declared.Unit.{Unit}
-use Rattle.words.specs.declared.Number.{Number}
-use Rattle.words.specs.declared.Word.{Word}
-use Rattle.words.specs.declared.Use.{Use}
-use Rattle.words.specs.declared.Use.the-variants.{Nothing, Codes, Label, Program, Length, Feed, Speed, Dwell, Count}
-use Rattle.words.specs.declared.Value.{Value}
-use Rattle.words.specs.declared.Value.the-variants.{Fit, Bad}
-use Rattle.words.specs.declared.Given.{Given}
-use Rattle.words.specs.declared.Values.{Values}
+use Rattle.words.specs.declared.{Number.Number, Word.Word, Use.Use, Value.Value, Value.the-variants.Fit, Value.the-variants.Bad, Given.Given, Values.Values}
 use Rattle.words.specs.Values.{isPlain, signed, countOf, valueOf, noValues}
 use Rattle.words.proofs.Bounds.{tested, length-near, feed-near, dwell-between}
+use Rattle.words.specs.declared.Use.the-variants.{Nothing, Codes, Label, Program, Length, Feed, Speed, Dwell, Count}
 use Rattle.settings.specs.declared.Modes.{Modes}
-use Rattle.letters.specs.declared.Speeds.{Speeds}
-use Rattle.letters.specs.declared.BlockCode.{BlockCode}
+use Rattle.letters.specs.{declared.Speeds.Speeds, declared.BlockCode.BlockCode, Sizes.Sizes}
 use Rattle.letters.specs.declared.BlockCode.the-variants.{Calling, Returning, Dwelling, Moving}
-use Rattle.letters.specs.Letters.{
-  endLetters,
-  centreLetters,
-  arcLetters,
-  drillingLetters,
-  motionLetters,
-  lettersOf,
-  useOf,
-  wordValue,
-  isBad,
-  firstBadValue,
-  givenBy,
-  withValue,
-  valuesAfter,
-  valuesOf,
-}
-use Rattle.letters.specs.Sizes.{Sizes}
+use Rattle.letters.specs.Letters.{endLetters, centreLetters, arcLetters, drillingLetters, motionLetters, lettersOf, useOf, wordValue, isBad, firstBadValue, givenBy, withValue, valuesAfter, valuesOf}
 
 -- ---- by a letter's use
 

@@ -1,19 +1,13 @@
 -- What a letter means by a table of letters: a letter that the table has, and one that its first rows do not have. Assumes
 -- nothing.
-use Prim.Native.Nat.{ℕ}
-use mathlib.Core.Path.{_≡_, refl, sym, ap, _∙_}
-use mathlib.Core.Bool.{true, false}
-use mathlib.Core.List.{List, [], _∷_, _++_}
+use Rattle.terms.proofs.Common.{ℕ, _≡_, refl, sym, ap, _∙_, true, false, List, [], _∷_, _++_}
 use denote.Enum.Declared.{tagOf}
 use types.Run.{OneOf, miss}
 use Rattle.terms.specs.Terms.{byte, bytes, any, all}
-use Rattle.codes.specs.declared.Plane.{Plane}
-use Rattle.codes.proofs.Tables.{Others, among, passes, others-past}
-use Rattle.words.proofs.Use.{the-type}
-use Rattle.words.specs.declared.Use.{Use}
+use Rattle.codes.{specs.declared.Plane.Plane, proofs.Tables.Others, proofs.Tables.among, proofs.Tables.passes, proofs.Tables.others-past}
+use Rattle.words.{specs.declared.Use.Use, proofs.Use.the-type}
 use Rattle.words.specs.declared.Use.the-variants.{Nothing, Codes, Label, Program, Length, Feed, Speed, Dwell, Count}
-use Rattle.letters.specs.Letters.{usedIn, lettersOf, useOf, isNothing}
-use Rattle.letters.specs.declared.BlockCode.{BlockCode}
+use Rattle.letters.specs.{Letters.usedIn, Letters.lettersOf, Letters.useOf, Letters.isNothing, declared.BlockCode.BlockCode}
 
 pub used-at : (rows : List (ℕ × Use)) (k : ℕ) {n : ℕ} → n ≡ k → usedIn rows k ≡ usedIn rows n
 used-at rows k e = ap (usedIn rows) (sym e)

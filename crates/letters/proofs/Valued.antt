@@ -1,24 +1,12 @@
 -- A block's G and M words change nothing in the judgement of its words: their use is to be codes, which is never refused here
 -- and is no value. Assumes nothing.
-use Prim.Native.Nat.{ℕ}
-use mathlib.Core.Path.{_≡_, refl}
-use mathlib.Core.Bool.{Bool, true, false, _||_, and-false}
-use mathlib.Core.Option.{some}
-use mathlib.Core.List.{List, [], _∷_}
-use lib.Dec.{eqb}
-use borrow.Author.Tests.{eqb-true}
+use Rattle.terms.proofs.Common.{ℕ, _≡_, refl, Bool, true, false, _||_, and-false, some, List, [], _∷_, eqb, eqb-true}
 use Rattle.terms.specs.Terms.{if_then_else_, byte, first, lookup}
 use Rattle.codes.specs.declared.Plane.{Plane}
-use Rattle.words.specs.declared.Word.{Word}
-use Rattle.words.specs.declared.Given.{Given}
-use Rattle.words.specs.declared.Use.the-variants.{Codes}
-use Rattle.words.specs.declared.Values.{Values}
-use Rattle.words.specs.Values.{valueOf, noValues}
+use Rattle.words.specs.{declared.Word.Word, declared.Given.Given, declared.Use.the-variants.Codes, declared.Values.Values, Values.valueOf, Values.noValues}
 use Rattle.settings.specs.declared.Modes.{Modes}
-use Rattle.letters.specs.declared.Speeds.{Speeds}
-use Rattle.letters.specs.declared.BlockCode.{BlockCode}
+use Rattle.letters.specs.{declared.Speeds.Speeds, declared.BlockCode.BlockCode, Judging.judgedBy, Judging.valued}
 use Rattle.letters.specs.Letters.{isG, isMisc, useOf, isNothing, isUnused, firstUnused, wordValue, isBad, firstBadValue, givenBy, withValue, valuesAfter, valuesOf}
-use Rattle.letters.specs.Judging.{judgedBy, valued}
 
 -- what holds of the letters G and M holds of a word that is one of the two
 code-word :

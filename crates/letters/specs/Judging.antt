@@ -1,23 +1,11 @@
 -- The judgement of a block's words by the refusals 2 and then 1, and how it is made word by word.
-use Prim.Native.Nat.{ℕ, _≤_, _<_}
-use mathlib.Core.Path.{_≡_}
-use mathlib.Core.Bool.{Bool, _||_}
-use mathlib.Core.Option.{Option, none, some}
-use mathlib.Core.List.{List, [], _∷_}
-use lib.Dec.{eqb}
-use lib.ListN.{length, getD}
+use Rattle.terms.specs.Common.{ℕ, _≤_, _<_, _≡_, Bool, _||_, Option, none, some, List, [], _∷_, eqb, length, getD}
 use Rattle.terms.specs.Terms.{if_then_else_, byte, any}
-use Rattle.words.specs.declared.Word.{Word}
-use Rattle.words.specs.declared.Value.{Value}
-use Rattle.words.specs.declared.Value.the-variants as value
-use Rattle.words.specs.declared.Values.{Values}
-use Rattle.words.specs.Serving.{Written}
+use Rattle.words.specs.{declared.Word.Word, declared.Value.Value, declared.Values.Values, Serving.Written}
 use Rattle.settings.specs.declared.Modes.{Modes}
-use Rattle.letters.specs.declared.Speeds.{Speeds}
-use Rattle.letters.specs.declared.BlockCode.{BlockCode}
-use Rattle.letters.specs.declared.Judged.{Judged}
-use Rattle.letters.specs.declared.Judged.the-variants.{Fine, Unused, Bad}
+use Rattle.letters.specs.declared.{Speeds.Speeds, BlockCode.BlockCode, Judged.Judged, Judged.the-variants.Fine, Judged.the-variants.Unused, Judged.the-variants.Bad}
 use Rattle.letters.specs.Letters.{isG, isMisc, wordValue, firstUnused, firstBadValue, givenBy, withValue, valuesOf}
+use Rattle.words.specs.declared.Value.the-variants as value
 
 -- "2 leftmost; 1 leftmost by value": the word at fault, or else what is left to say
 unfoldable pub unusedOr : Option Word → Judged → Judged

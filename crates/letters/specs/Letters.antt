@@ -1,34 +1,16 @@
 -- Document 01, "Codes" and "The sixteen refusals": which words may stand in a block, what they mean there, and the
 -- refusals 4, 2 and 1 that name a word.
-use Prim.Native.Nat.{ℕ}
-use mathlib.Core.Bool.{Bool, true, false, not, _&&_, _||_}
-use mathlib.Core.Option.{Option, none, some}
-use mathlib.Core.List.{List, [], _∷_, _++_, map}
-use lib.Dec.{eqb}
+use Rattle.terms.specs.Common.{ℕ, Bool, true, false, not, _&&_, _||_, Option, none, some, List, [], _∷_, _++_, map, eqb}
 use Rattle.terms.specs.Terms.{if_then_else_, byte, bytes, any, first, lookup}
-use Rattle.codes.specs.declared.Cycle.{Cycle}
-use Rattle.codes.specs.declared.Cycle.the-variants.{G81, G82, G85, G89}
-use Rattle.codes.specs.declared.Motion.{Motion}
+use Rattle.codes.specs.declared.{Cycle.Cycle, Cycle.the-variants.G81, Cycle.the-variants.G82, Cycle.the-variants.G85, Cycle.the-variants.G89, Motion.Motion}
+use Rattle.codes.specs.declared.{Plane.Plane, Plane.the-variants.G17, Plane.the-variants.G18, Plane.the-variants.G19, Code.Code, Code.the-variants.Unknown, Misc.Misc, Misc.the-variants.Other}
 use Rattle.codes.specs.declared.Motion.the-variants.{Off, G00, G01, G02, G03, Drilling}
-use Rattle.codes.specs.declared.Plane.{Plane}
-use Rattle.codes.specs.declared.Plane.the-variants.{G17, G18, G19}
-use Rattle.codes.specs.declared.Code.{Code}
-use Rattle.codes.specs.declared.Code.the-variants.{Unknown}
-use Rattle.codes.specs.declared.Misc.{Misc}
-use Rattle.codes.specs.declared.Misc.the-variants.{Other}
 use Rattle.codes.specs.Codes.{codeOf, miscOf, groupOf, isGroupA, isG04, clash, isM, isNoM, endsProgram}
-use Rattle.words.specs.declared.Word.{Word}
-use Rattle.words.specs.declared.Use.{Use}
-use Rattle.words.specs.declared.Use.the-variants.{Nothing, Codes, Label, Program, Length, Feed, Speed, Dwell, Count}
-use Rattle.words.specs.declared.Value.{Value}
-use Rattle.words.specs.declared.Value.the-variants.{Fit, Bad}
-use Rattle.words.specs.declared.Given.{Given}
-use Rattle.words.specs.declared.Values.{Values}
+use Rattle.words.specs.declared.{Word.Word, Use.Use, Value.Value, Value.the-variants.Fit, Value.the-variants.Bad, Given.Given, Values.Values}
 use Rattle.words.specs.Values.{isPlain, valueOf, missing, noValues}
-use Rattle.settings.specs.declared.Modes.{Modes}
-use Rattle.settings.specs.Settings.{switched}
-use Rattle.letters.specs.declared.Speeds.{Speeds}
-use Rattle.letters.specs.declared.BlockCode.{BlockCode}
+use Rattle.words.specs.declared.Use.the-variants.{Nothing, Codes, Label, Program, Length, Feed, Speed, Dwell, Count}
+use Rattle.settings.specs.{declared.Modes.Modes, Settings.switched}
+use Rattle.letters.specs.declared.{Speeds.Speeds, BlockCode.BlockCode}
 use Rattle.letters.specs.declared.BlockCode.the-variants.{Calling, Returning, Dwelling, Moving}
 
 -- the letters that words are made of, all others being unknown

@@ -1,15 +1,7 @@
 -- The values of a block's words by places: whether a word stands, and its value, each in a list of eleven.
-use Prim.Native.Nat.{ℕ, _<_}
-use mathlib.Core.Path.{_≡_}
-use mathlib.Core.Bool.{Bool, true, false}
-use mathlib.Core.List.{List}
-use lib.IntN.{pos}
-use lib.ListN.{length, getD, set}
-use Rattle.lengths.specs.declared.Len.{Len}
-use Rattle.lengths.specs.Units.{len}
-use Rattle.words.specs.declared.Given.{Given}
-use Rattle.words.specs.declared.Value.the-variants.{Fit}
-use Rattle.words.specs.declared.Values.{Values}
+use Rattle.terms.specs.Common.{ℕ, _<_, _≡_, Bool, true, false, List, pos, length, getD, set}
+use Rattle.lengths.specs.{declared.Len.Len, Units.len}
+use Rattle.words.specs.declared.{Given.Given, Value.the-variants.Fit, Values.Values}
 use Rattle.letters.specs.Letters.{givenBy, withValue}
 
 abbrev pub givenAt : List Bool → List Len → ℕ → Given

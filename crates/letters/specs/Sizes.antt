@@ -1,12 +1,9 @@
 -- How large the values of a block's words can be, none of them being refused.
-use mathlib.Core.Path.{_≡_}
+use Rattle.terms.specs.Common.{_≡_}
 use Rattle.lengths.specs.View.{Within}
-use Rattle.codes.specs.declared.Cycle.{Cycle}
-use Rattle.codes.specs.declared.Motion.{Motion}
-use Rattle.codes.specs.declared.Motion.the-variants.{Drilling}
+use Rattle.codes.specs.declared.{Cycle.Cycle, Motion.Motion, Motion.the-variants.Drilling}
 use Rattle.words.specs.declared.Values.{Values}
-use Rattle.letters.specs.declared.BlockCode.{BlockCode}
-use Rattle.letters.specs.declared.BlockCode.the-variants.{Dwelling, Moving}
+use Rattle.letters.specs.declared.BlockCode.{BlockCode, the-variants.Dwelling, the-variants.Moving}
 
 pub record Sizes (code : BlockCode) (v : Values) : Type 0 where
   pub x : Within 1_000_000_000 (v .x .v .v)

@@ -1,30 +1,15 @@
 -- What stands inside comments changes neither the words of a text nor the blocks of the data.
-use Prim.Native.Nat.{ℕ, zero, suc, _+_, _-_}
-use mathlib.Core.Path.{_≡_, refl, sym, _∙_, ap}
-use mathlib.Core.Bool.{Bool, true, false, false≢true, not, _&&_, _||_, and-false}
-use mathlib.Core.Option.{Option, none, some}
-use mathlib.Core.List.{List, [], _∷_}
-use native.Mathlib.Omega.{arith}
-use native.Mathlib.Decide.{ℕ-discrete}
-use borrow.Author.Tests.{eqb-true, eqb-false, not-true, ne-eqb}
-use lib.Dec.{eqb}
-use lib.ListN.{length, drop, set}
-use lib.Seq.{drop-drop}
-use Rattle.terms.specs.Terms.{if_then_else_, byte}
-use Rattle.terms.proofs.Laws.{either-left, either-right}
-use Rattle.lines.specs.Blocks.{beginsWith, endsAt, textFrom, noText, lengthFrom, blocksAfter, blocksOf, isPercent}
+use Rattle.terms.proofs.Common.{ℕ, zero, suc, _+_, _-_, _≡_, refl, sym, _∙_, ap, Bool, true, false, false≢true, not, _&&_, _||_, and-false, Option, none, some, List, [], _∷_, arith, ℕ-discrete, eqb-true, eqb-false, not-true, ne-eqb, eqb, length, drop, set, drop-drop}
+use Rattle.terms.{specs.Terms.if_then_else_, specs.Terms.byte, proofs.Laws.either-left, proofs.Laws.either-right}
+use Rattle.words.specs.declared.{Sign.Sign, Sign.the-variants.Plain, Sign.the-variants.Plus, Sign.the-variants.Minus, Number.Number, Numbered.Numbered}
+use Rattle.words.specs.declared.Numbered.the-variants.{Is, Unreadable}
 use Rattle.words.specs.Numbers.{isFigure, signOf, signLength, run, isNumeral, numberBy, numberIn}
 use Rattle.words.specs.Words.{isBlank, isCapital, oneMore, closing, gap, unreadable, commentItem, wordItem, itemAt, Words, withWord, itemThen, wordsAfter, wordsOf}
-use Rattle.words.specs.declared.Sign.{Sign}
-use Rattle.words.specs.declared.Sign.the-variants.{Plain, Plus, Minus}
-use Rattle.words.specs.declared.Number.{Number}
-use Rattle.words.specs.declared.Numbered.{Numbered}
-use Rattle.words.specs.declared.Numbered.the-variants.{Is, Unreadable}
-use Rattle.lines.specs.Comments.{openAfter, insideAt}
+use Rattle.lines.specs.{Comments.openAfter, Comments.insideAt, Gaps.noWords, Gaps.onlyGaps}
+use Rattle.lines.specs.Blocks.{beginsWith, endsAt, textFrom, noText, lengthFrom, blocksAfter, blocksOf, isPercent}
 use Rattle.lines.specs.Alike.{Alike, nothing, outside, begins, inside, finishes, breaks, AlikeBlocks}
-use Rattle.lines.specs.Alike as Alikes
-use Rattle.lines.specs.Gaps.{noWords, onlyGaps}
 use Rattle.lines.proofs.Laws.{text-here, text-none}
+use Rattle.lines.specs.Alike as Alikes
 
 pub length-alike : {m : Bool} {s t : List ℕ} → Alike m s t → length s ≡ length t
 length-alike nothing = refl

@@ -1,28 +1,11 @@
 -- How blanks and comments are passed, byte by byte.
-use Prim.Native.Nat.{ℕ, zero, suc, _+_, _≤_, _<_}
-use mathlib.Core.Path.{_≡_, refl, sym, _∙_, ap}
-use mathlib.Core.Bool.{Bool, true, false, false≢true, true≢false, _&&_, _||_}
-use mathlib.Core.Option.{Option, none, some}
-use mathlib.Core.List.{List, [], _∷_}
-use native.Mathlib.Omega.{arith}
-use native.Mathlib.Decide.{decLt}
-use borrow.Author.Tests.{eq-eqb, ne-eqb}
-use lib.Dec.{eqb}
-use lib.ListN.{length, drop, getD, drop-of-length-le, length-drop}
-use lib.Seq.{drop-drop}
-use Rattle.terms.specs.Terms.{if_then_else_}
-use Rattle.terms.proofs.Laws.{both-right}
-use Rattle.lines.specs.Blocks.{beginsWith, textFrom, noText, lengthFrom}
-use Rattle.lines.proofs.Lines.{at-place}
+use Rattle.terms.proofs.Common.{ℕ, zero, suc, _+_, _≤_, _<_, _≡_, refl, sym, _∙_, ap, Bool, true, false, false≢true, true≢false, _&&_, _||_, Option, none, some, List, [], _∷_, arith, decLt, eq-eqb, ne-eqb, eqb, length, drop, getD, drop-of-length-le, length-drop, drop-drop}
+use Rattle.terms.{specs.Terms.if_then_else_, proofs.Laws.both-right}
+use Rattle.words.specs.{Numbers.numberIn, declared.Numbered.Numbered, declared.Numbered.the-variants.Is, declared.Numbered.the-variants.Unreadable, declared.Word.Word}
 use Rattle.words.specs.Words.{isBlank, isCapital, oneMore, closing, gap, unreadable, commentItem, wordItem, itemAt, Words, these, badAt, withWord, itemThen, wordsAfter}
-use Rattle.words.specs.Numbers.{numberIn}
-use Rattle.words.specs.declared.Numbered.{Numbered}
-use Rattle.words.specs.declared.Numbered.the-variants.{Is, Unreadable}
-use Rattle.words.specs.declared.Word.{Word}
-use Rattle.lines.specs.Gaps.{noWords, onlyGaps}
-use Rattle.lines.specs.Closing.{commentBy, commentAt}
-use Rattle.lines.specs.declared.Comment.{Comment}
+use Rattle.lines.specs.{Blocks.beginsWith, Blocks.textFrom, Blocks.noText, Blocks.lengthFrom, Gaps.noWords, Gaps.onlyGaps, Closing.commentBy, Closing.commentAt}
 use Rattle.lines.specs.declared.Comment.the-variants.{Closed, Open}
+use Rattle.lines.proofs.Lines.{at-place}
 
 -- ---- the text from a place on
 

@@ -1,19 +1,7 @@
 -- How blocks follow each other, byte by byte: what a walk over places needs.
-use Prim.Native.Nat.{ℕ, zero, suc, _+_, _-_, _≤_, _<_}
-use mathlib.Core.Path.{_≡_, refl, sym, _∙_, ap}
-use mathlib.Core.Bool.{Bool, true, false, _&&_, _||_}
-use mathlib.Core.List.{List, [], _∷_}
-use native.Mathlib.Omega.{arith}
-use native.Mathlib.Numerals.{add-one}
-use native.Mathlib.Decide.{ℕ-discrete}
-use borrow.Author.Tests.{eq-eqb, ne-eqb, eqb-false}
-use lib.Dec.{eqb}
-use lib.ListN.{length, drop, getD, drop-of-length-le}
-use lib.Seq.{drop-cons, drop-drop}
-use Rattle.terms.specs.Terms.{if_then_else_}
-use Rattle.terms.proofs.Laws.{either-left, either-right}
-use Rattle.lines.specs.Blocks.{beginsWith, textFrom, noText, lengthFrom, blockFrom, blocksAfter, isPercent}
-use Rattle.lines.specs.Serving.{blocksFrom}
+use Rattle.terms.proofs.Common.{ℕ, zero, suc, _+_, _-_, _≤_, _<_, _≡_, refl, sym, _∙_, ap, Bool, true, false, _&&_, _||_, List, [], _∷_, arith, add-one, ℕ-discrete, eq-eqb, ne-eqb, eqb-false, eqb, length, drop, getD, drop-of-length-le, drop-cons, drop-drop}
+use Rattle.terms.{specs.Terms.if_then_else_, proofs.Laws.either-left, proofs.Laws.either-right}
+use Rattle.lines.specs.{Blocks.beginsWith, Blocks.textFrom, Blocks.noText, Blocks.lengthFrom, Blocks.blockFrom, Blocks.blocksAfter, Blocks.isPercent, Serving.blocksFrom}
 
 -- ---- the bytes from a place on
 

@@ -1,8 +1,5 @@
 -- Blocks that differ only in the bytes of comments: for the proof that these change nothing.
-use Prim.Native.Nat.{ℕ}
-use mathlib.Core.Path.{_≡_}
-use mathlib.Core.Bool.{Bool, true, false}
-use mathlib.Core.List.{List, [], _∷_}
+use Rattle.terms.specs.Common.{ℕ, _≡_, Bool, true, false, List, [], _∷_}
 use Rattle.terms.specs.Terms.{byte}
 use Rattle.lines.specs.Blocks.{noText, Block}
 

@@ -1,8 +1,5 @@
 -- Document 01, "Data set and blocks": the blocks of the data.
-use Prim.Native.Nat.{ℕ, zero, suc, _+_, _-_}
-use mathlib.Core.Bool.{Bool, true, false, _&&_, _||_}
-use mathlib.Core.List.{List, [], _∷_}
-use lib.Dec.{eqb}
+use Rattle.terms.specs.Common.{ℕ, zero, suc, _+_, _-_, Bool, true, false, _&&_, _||_, List, [], _∷_, eqb}
 use Rattle.terms.specs.Terms.{if_then_else_, byte}
 
 unfoldable pub beginsWith : ℕ → List ℕ → Bool

@@ -1,10 +1,7 @@
 -- What only serves the proofs of this crate: where a comment ends, as the code answers it.
-use Prim.Native.Nat.{ℕ, _+_}
-use mathlib.Core.Option.{Option, none, some}
-use mathlib.Core.List.{List}
+use Rattle.terms.specs.Common.{ℕ, _+_, Option, none, some, List}
 use Rattle.words.specs.Words.{closing}
-use Rattle.lines.specs.declared.Comment.{Comment}
-use Rattle.lines.specs.declared.Comment.the-variants.{Closed, Open}
+use Rattle.lines.specs.declared.Comment.{Comment, the-variants.Closed, the-variants.Open}
 
 -- where a comment ends whose bytes begin at a place, with the block's text from there
 unfoldable pub commentBy : ℕ → Option ℕ → Comment

@@ -1,9 +1,6 @@
 -- Document 01, "Data set and blocks": "Bytes inside a comment, replaced by others that are neither `)`, LF nor CR, change no
 -- record and no answer."
-use Prim.Native.Nat.{ℕ, zero, suc}
-use mathlib.Core.Bool.{Bool, true, false, not, _&&_, _||_}
-use mathlib.Core.List.{List, [], _∷_}
-use lib.Dec.{eqb}
+use Rattle.terms.specs.Common.{ℕ, zero, suc, Bool, true, false, not, _&&_, _||_, List, [], _∷_, eqb}
 use Rattle.terms.specs.Terms.{byte}
 use Rattle.lines.specs.Blocks.{noText}
 

@@ -1,7 +1,5 @@
 -- Blanks and comments, found by their places.
-use Prim.Native.Nat.{ℕ}
-use mathlib.Core.Bool.{Bool, true, false}
-use mathlib.Core.List.{List, [], _∷_}
+use Rattle.terms.specs.Common.{ℕ, Bool, true, false, List, [], _∷_}
 use Rattle.words.specs.Words.{Words, these, badAt, wordsOf}
 
 -- the text reads as no word at all

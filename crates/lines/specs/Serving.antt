@@ -1,7 +1,5 @@
 -- What only serves proofs: the blocks from a place of the data on.
-use Prim.Native.Nat.{ℕ}
-use mathlib.Core.List.{List}
-use lib.ListN.{drop}
+use Rattle.terms.specs.Common.{ℕ, List, drop}
 use Rattle.lines.specs.Blocks.{Block, blocksAfter}
 
 -- the blocks of the data from a place where the block n begins

@@ -1,26 +1,12 @@
 -- Where the records of a run end in a list, and that nothing else stands before. Assumes nothing.
-use Prim.Native.Nat.{ℕ, zero, suc, _+_, _-_, _≤_, _<_}
-use mathlib.Core.Path.{_≡_, refl, sym, ap, _∙_}
-use mathlib.Core.Bool.{true, false}
-use mathlib.Core.List.{List, [], _∷_, _++_, append-assoc}
-use native.Mathlib.Omega.{arith}
-use native.Mathlib.Nat.{add-zero}
-use lib.ListN.{length, take, drop, take-append-drop}
-use lib.Seq.{drop-drop, drop-at, drop-append-le, length-take-le, take-append-seam}
+use Rattle.terms.proofs.Common.{ℕ, zero, suc, _+_, _-_, _≤_, _<_, _≡_, refl, sym, ap, _∙_, true, false, List, [], _∷_, _++_, append-assoc, arith, add-zero, length, take, drop, take-append-drop, drop-drop, drop-at, drop-append-le, length-take-le, take-append-seam}
 use Rattle.refusals.specs.Answers.{countOf}
 use Rattle.setup.specs.declared.Setup.{Setup}
-use Rattle.records.specs.declared.Record.{Record}
-use Rattle.records.specs.declared.Fault.{Fault}
-use Rattle.records.specs.declared.Listed.the-variants.{Next, End, Faulty}
+use Rattle.records.specs.declared.{Record.Record, Fault.Fault, Listed.the-variants.Next, Listed.the-variants.End, Listed.the-variants.Faulty}
 use Rattle.records.specs.Layout.{kindOf, kindLength, recordBytes, listBytes, roomOf}
-use Rattle.records.specs.Writing.{ListShort}
-use Rattle.records.specs.Reading.{readAt}
-use Rattle.records.proofs.Laid.{record-length, list-length}
-use Rattle.records.proofs.Back.{record-back}
+use Rattle.records.{specs.Writing.ListShort, specs.Reading.readAt, proofs.Laid.record-length, proofs.Laid.list-length, proofs.Back.record-back}
 use Rattle.commands.specs.declared.options.Options.{Options}
-use Rattle.runs.specs.Run.{answerOf, standingOf, recordsOf}
-use Rattle.runs.specs.declared.Budget.the-variants.{Whole, First}
-use Rattle.runs.specs.declared.Report.{Report}
+use Rattle.runs.specs.{Run.answerOf, Run.standingOf, Run.recordsOf, declared.Budget.the-variants.Whole, declared.Budget.the-variants.First, declared.Report.Report}
 use Rattle.promises.proofs.ReadBack.{read-back, records-short}
 use Rattle.interpreter.specs.Owing.{Owes}
 use Rattle.lists.specs.Lists.{budgetOf, madeBy, endBy, endAfter, Makes}

@@ -1,22 +1,12 @@
 -- The list that a run leaves for a file, by the rules of the run.
-use Prim.Native.Nat.{ℕ, zero, suc, _≤_}
-use mathlib.Core.Path.{_≡_}
-use mathlib.Core.Bool.{Bool, _&&_}
-use mathlib.Core.List.{List, _++_}
-use lib.ListN.{length, take, drop}
+use Rattle.terms.specs.Common.{ℕ, zero, suc, _≤_, _≡_, Bool, _&&_, List, _++_, length, take, drop}
 use Rattle.terms.specs.Terms.{if_then_else_}
-use Rattle.refusals.specs.declared.Answer.{Answer}
-use Rattle.refusals.specs.declared.Answer.the-variants.{Done, Unfinished, Refused}
+use Rattle.refusals.specs.declared.Answer.{Answer, the-variants.Done, the-variants.Unfinished, the-variants.Refused}
 use Rattle.setup.specs.declared.Setup.{Setup}
-use Rattle.records.specs.declared.Listed.{Listed}
-use Rattle.records.specs.declared.Listed.the-variants.{Next, End, Faulty}
-use Rattle.records.specs.declared.Record.{Record}
-use Rattle.records.specs.Layout.{listBytes}
-use Rattle.records.specs.Reading.{readAt}
+use Rattle.records.specs.declared.Listed.{Listed, the-variants.Next, the-variants.End, the-variants.Faulty}
+use Rattle.records.specs.{declared.Record.Record, Layout.listBytes, Reading.readAt}
 use Rattle.commands.specs.declared.options.Options.{Options}
-use Rattle.runs.specs.Run.{answerOf, standingOf, recordsOf}
-use Rattle.runs.specs.declared.Budget.{Budget}
-use Rattle.runs.specs.declared.Budget.the-variants.{Whole, First}
+use Rattle.runs.specs.{Run.answerOf, Run.standingOf, Run.recordsOf, declared.Budget.Budget, declared.Budget.the-variants.Whole, declared.Budget.the-variants.First}
 use Rattle.lists.specs.declared.Made.{Made}
 
 -- "N: only the first N blocks"

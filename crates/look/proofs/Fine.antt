@@ -1,18 +1,10 @@
 -- A block that is read as fine has words, and they are such as the judgement takes. Assumes nothing.
-use Prim.Native.Nat.{ℕ}
-use mathlib.Core.Path.{_≡_, refl, sym, _∙_}
-use mathlib.Core.Bool.{Bool}
-use mathlib.Core.List.{List}
-use native.Mathlib.Omega.{arith}
-use Rattle.words.specs.Words as Words
-use Rattle.words.specs.Words.{these, badAt}
-use Rattle.words.specs.declared.Word.{Word}
+use Rattle.terms.proofs.Common.{ℕ, _≡_, refl, sym, _∙_, Bool, List, arith}
+use Rattle.words.specs.{Words.these, Words.badAt, declared.Word.Word}
 use Rattle.settings.specs.declared.Modes.{Modes}
 use Rattle.letters.specs.Judging.{Stored}
-use Rattle.reading.specs.Items.{wordsAt}
-use Rattle.reading.specs.Whole.{statusOf, IsRead}
-use Rattle.reading.specs.declared.Status.the-variants.{Fine}
-use Rattle.reading.specs.declared.Reading.{Reading}
+use Rattle.reading.specs.{Items.wordsAt, Whole.statusOf, Whole.IsRead, declared.Status.the-variants.Fine, declared.Reading.Reading}
+use Rattle.words.specs.Words as Words
 
 fine-words : (main : Bool) (x : Words.Words) → statusOf main x ≡ Fine → (ws : List Word) × (x ≡ these ws)
 unfolding statusOf

@@ -1,22 +1,13 @@
 -- Data that differs only inside comments has the same programs.
-use Prim.Native.Nat.{ℕ}
-use mathlib.Core.Path.{_≡_, refl}
-use mathlib.Core.Bool.{Bool, true, false, false≢true}
-use mathlib.Core.List.{List, [], _∷_, _++_}
-use lib.ListN.{drop}
+use Rattle.terms.proofs.Common.{ℕ, _≡_, refl, Bool, true, false, false≢true, List, [], _∷_, _++_, drop}
 use Rattle.terms.specs.Terms.{if_then_else_}
-use Rattle.refusals.specs.declared.Refusal.{Refusal}
-use Rattle.refusals.specs.declared.Refusal.the-variants.{BadParameter}
+use Rattle.refusals.specs.declared.Refusal.{Refusal, the-variants.BadParameter}
 use Rattle.lines.specs.Blocks.{beginsWith, Block, closes, opens}
-use Rattle.words.specs.Numbers.{isDigit}
-use Rattle.lines.specs.Alike.{Alike, nothing, outside, begins, AlikeBlock, AlikeBlocks, none, more}
 use Rattle.lines.proofs.Comments.{run-alike, past-run, gaps-alike, begins-alike, percent-alike}
+use Rattle.lines.specs.Alike.{Alike, nothing, outside, begins, AlikeBlock, AlikeBlocks, none, more}
+use Rattle.words.specs.Numbers.{isDigit}
+use Rattle.programs.specs.declared.{Program.Program, Opening.Opening, Opening.the-variants.Number, Opening.the-variants.Bad, Entry.Entry, Entry.the-variants.Refuses, Entry.the-variants.Enters}
 use Rattle.programs.specs.Openings.{numberAfterO, openingOf, placeOf, programAfter, Table, refusedAt, entryOf, entered, scanBlock, scan, mainAs, programsFrom}
-use Rattle.programs.specs.declared.Program.{Program}
-use Rattle.programs.specs.declared.Opening.{Opening}
-use Rattle.programs.specs.declared.Opening.the-variants.{Number, Bad}
-use Rattle.programs.specs.declared.Entry.{Entry}
-use Rattle.programs.specs.declared.Entry.the-variants.{Refuses, Enters}
 
 number-alike : {s t : List ℕ} → Alike false s t → numberAfterO s ≡ numberAfterO t
 unfolding numberAfterO

@@ -1,26 +1,10 @@
 -- The table of subprograms: searched by number, and with one more.
-use Prim.Native.Nat.{ℕ, _+_, _≤_, _<_}
-use mathlib.Core.Path.{_≡_, refl, _∙_, ap}
-use mathlib.Core.Bool.{Bool, true, false}
-use mathlib.Core.List.{List, [], _∷_}
-use native.Mathlib.Omega.{arith}
-use native.Mathlib.Numerals.{add-one}
-use borrow.Author.Tests.{eq-eqb, ne-eqb, le-leb, lt-leb, leb-false}
-use lib.Dec.{eqb, leb}
-use lib.ListN.{length, take, drop, getD, set, length-set}
-use lib.Seq.{length-take-le, getD-take, take-suc-set}
-use Rattle.terms.specs.Terms.{if_then_else_, any}
-use Rattle.terms.proofs.Laws.{any-end, any-here, any-past}
-use Rattle.refusals.specs.declared.Refusal.{Refusal}
-use Rattle.refusals.specs.declared.Refusal.the-variants.{BadParameter, DuplicateNumber, TableOver}
+use Rattle.terms.proofs.Common.{ℕ, _+_, _≤_, _<_, _≡_, refl, _∙_, ap, Bool, true, false, List, [], _∷_, arith, add-one, eq-eqb, ne-eqb, le-leb, lt-leb, leb-false, eqb, leb, length, take, drop, getD, set, length-set, length-take-le, getD-take, take-suc-set}
+use Rattle.terms.{specs.Terms.if_then_else_, specs.Terms.any, proofs.Laws.any-end, proofs.Laws.any-here, proofs.Laws.any-past}
+use Rattle.refusals.specs.declared.Refusal.{Refusal, the-variants.BadParameter, the-variants.DuplicateNumber, the-variants.TableOver}
 use Rattle.refusals.specs.Numbers.{numberOf}
-use Rattle.programs.specs.Openings.{isTaken, entryOf}
-use Rattle.programs.specs.Found.{WellFound, Entered, subsOf}
-use Rattle.programs.specs.declared.Program.{Program}
-use Rattle.programs.specs.declared.Opening.{Opening}
-use Rattle.programs.specs.declared.Opening.the-variants.{Number, Bad}
-use Rattle.programs.specs.declared.Entry.the-variants.{Refuses, Enters}
-use Rattle.programs.specs.declared.Programs.{Programs}
+use Rattle.programs.specs.{Openings.isTaken, Openings.entryOf, Found.WellFound, Found.Entered, Found.subsOf, declared.Program.Program}
+use Rattle.programs.specs.declared.{Opening.Opening, Opening.the-variants.Number, Opening.the-variants.Bad, Entry.the-variants.Refuses, Entry.the-variants.Enters, Programs.Programs}
 
 pub taken-main : (main : Program) (subs : List Program) (n : ℕ) → n ≡ main .number → isTaken main subs n ≡ true
 unfolding isTaken

@@ -1,6 +1,5 @@
 -- The rules give the examples' tables, by computation.
-use mathlib.Core.Path.{_≡_, refl}
-use mathlib.Core.List.{map}
+use Rattle.terms.proofs.Common.{_≡_, refl, map}
 use Rattle.programs.specs.Examples.{rows, tableFrom, tableOfRow}
 use Rattle.programs.proofs.Opened.{opened}
 

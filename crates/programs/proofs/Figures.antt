@@ -1,20 +1,9 @@
 -- The digits of an opening, byte by byte.
-use Prim.Native.Nat.{ℕ, suc, _+_, _-_, _*_, _^_, _≤_, _<_}
-use mathlib.Core.Path.{_≡_, refl, _∙_, ap}
-use mathlib.Core.Bool.{true, false, _&&_, _||_}
-use mathlib.Core.List.{List, [], _∷_}
-use native.Mathlib.Omega.{arith}
-use native.Mathlib.Nat.{pow-le-pow-right}
-use borrow.Author.Tests.{ne-eqb, le-leb, lt-leb}
-use lib.Dec.{eqb, lit≤, lit<}
-use lib.ListN.{length, drop, getD, drop-of-length-le}
+use Rattle.terms.proofs.Common.{ℕ, suc, _+_, _-_, _*_, _^_, _≤_, _<_, _≡_, refl, _∙_, ap, true, false, _&&_, _||_, List, [], _∷_, arith, pow-le-pow-right, ne-eqb, le-leb, lt-leb, eqb, lit≤, lit<, length, drop, getD, drop-of-length-le}
 use Rattle.terms.specs.Terms.{if_then_else_}
-use Rattle.lines.specs.Blocks.{beginsWith, textFrom}
-use Rattle.lines.proofs.Lines.{at-place}
-use Rattle.words.specs.Numbers.{isDigit, run, digitsAfter}
-use Rattle.words.proofs.Numbers.{ten-more}
-use Rattle.programs.specs.Found.{IsDigits}
-use Rattle.programs.specs.Openings.{figuresOf}
+use Rattle.lines.{specs.Blocks.beginsWith, specs.Blocks.textFrom, proofs.Lines.at-place}
+use Rattle.words.{specs.Numbers.isDigit, specs.Numbers.run, specs.Numbers.digitsAfter, proofs.Numbers.ten-more}
+use Rattle.programs.specs.{Found.IsDigits, Openings.figuresOf}
 
 pub digit-is : (b : ℕ) → 48 ≤ b → b ≤ 57 → isDigit b ≡ true
 digit-is b h k = rw (le-leb 48 b h, le-leb b 57 k)

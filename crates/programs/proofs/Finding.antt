@@ -1,19 +1,7 @@
 -- The subprogram of a number, searched by the places of the table. Assumes nothing.
-use Prim.Native.Nat.{ℕ, _+_, _≤_, _<_}
-use mathlib.Core.Path.{_≡_, refl, _∙_, ap}
-use mathlib.Core.Option.{Option, none, some}
-use mathlib.Core.List.{List}
-use native.Mathlib.Omega.{arith}
-use native.Mathlib.Numerals.{add-one}
-use borrow.Author.Tests.{eq-eqb, ne-eqb}
-use lib.ListN.{length, take, drop, getD, drop-of-length-le}
-use lib.Seq.{length-take-le, getD-take, drop-cons}
+use Rattle.terms.proofs.Common.{ℕ, _+_, _≤_, _<_, _≡_, refl, _∙_, ap, Option, none, some, List, arith, add-one, eq-eqb, ne-eqb, length, take, drop, getD, drop-of-length-le, length-take-le, getD-take, drop-cons}
 use Rattle.terms.specs.Terms.{first}
-use Rattle.programs.specs.Openings.{Table, known}
-use Rattle.programs.specs.Answers.{Gives, foundAs}
-use Rattle.programs.specs.declared.Program.{Program}
-use Rattle.programs.specs.declared.Scanned.{Scanned}
-use Rattle.programs.specs.declared.Found.{Found}
+use Rattle.programs.specs.{Openings.Table, Openings.known, Answers.Gives, Answers.foundAs, declared.Program.Program, declared.Scanned.Scanned}
 use Rattle.programs.specs.declared.Found.the-variants.{At, Missing}
 
 -- a scan's answer, by another name of its table

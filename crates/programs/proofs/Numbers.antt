@@ -1,22 +1,9 @@
 -- The number of an opening, from its digits and what follows them.
-use Prim.Native.Nat.{ℕ, _+_, _≤_, _<_}
-use mathlib.Core.Path.{_≡_, _∙_, ap}
-use mathlib.Core.Bool.{Bool, true, false, _&&_}
-use mathlib.Core.List.{List}
-use native.Mathlib.Omega.{arith}
-use borrow.Author.Tests.{le-leb, lt-leb}
-use lib.ListN.{length, drop, length-drop}
-use lib.Seq.{drop-drop}
+use Rattle.terms.proofs.Common.{ℕ, _+_, _≤_, _<_, _≡_, _∙_, ap, Bool, true, false, _&&_, List, arith, le-leb, lt-leb, length, drop, length-drop, drop-drop}
 use Rattle.terms.specs.Terms.{fromTo}
-use Rattle.lines.specs.Blocks.{textFrom}
-use Rattle.words.specs.Numbers.{digitsAfter}
-use Rattle.words.proofs.Numbers.{run-short}
-use Rattle.lines.specs.Gaps.{onlyGaps}
-use Rattle.lines.proofs.Laws.{text-drop, text-length}
-use Rattle.programs.specs.Openings.{numberAfterO, figuresOf}
-use Rattle.programs.specs.Found.{IsDigits}
-use Rattle.programs.specs.declared.Digits.{Digits}
-use Rattle.programs.specs.declared.Opening.the-variants.{Number, Bad}
+use Rattle.lines.{specs.Blocks.textFrom, specs.Gaps.onlyGaps, proofs.Laws.text-drop, proofs.Laws.text-length}
+use Rattle.words.{specs.Numbers.digitsAfter, proofs.Numbers.run-short}
+use Rattle.programs.specs.{Openings.numberAfterO, Openings.figuresOf, Found.IsDigits, declared.Digits.Digits, declared.Opening.the-variants.Number, declared.Opening.the-variants.Bad}
 
 -- the test of an opening's number: n digits of the value v, and what follows them
 abbrev test : ℕ → ℕ → Bool → Bool

@@ -4,8 +4,7 @@ use Rattle.lengths.proofs.Opened.{opened as lengths-opened}
 use Rattle.codes.proofs.Opened.{opened as codes-opened}
 use Rattle.lines.proofs.Opened.{opened as lines-opened}
 use Rattle.words.proofs.Opened.{opened as words-opened}
-use Rattle.programs.specs.Found.{tableBy}
-use Rattle.programs.specs.Answers.{foundAs}
+use Rattle.programs.specs.{Found.tableBy, Answers.foundAs}
 use Rattle.programs.specs.Openings.{numberAfterO, openingOf, isTaken, entryOf, entered, scanBlock, scan, mainAs, programsFrom, known}
 
 unfoldable pub opened : Unit {0}

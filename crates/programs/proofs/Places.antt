@@ -1,32 +1,12 @@
 -- Every program of the table begins at a place of the data, and its blocks are those from that place on. Assumes nothing.
-use Prim.Native.Nat.{ℕ, _+_, _-_, _≤_, _<_}
-use mathlib.Core.Path.{_≡_, refl, sym, _∙_, ap}
-use mathlib.Core.Bool.{Bool, true, false}
-use mathlib.Core.Option.{some}
-use mathlib.Core.List.{List, [], _∷_, _++_}
-use native.Mathlib.Omega.{arith}
-use native.Mathlib.Decide.{decLt}
-use lib.Dec.{eqb}
-use lib.ListN.{length, drop, length-drop}
-use lib.Seq.{drop-drop}
+use Rattle.terms.proofs.Common.{ℕ, _+_, _-_, _≤_, _<_, _≡_, refl, sym, _∙_, ap, Bool, true, false, some, List, [], _∷_, _++_, arith, decLt, eqb, length, drop, length-drop, drop-drop}
 use Rattle.terms.specs.Terms.{if_then_else_, first}
 use Rattle.lines.specs.Blocks.{lengthFrom, Block, blockFrom, blocksOf, closes, opens}
-use Rattle.lines.specs.Serving.{blocksFrom}
-use Rattle.lines.proofs.Lines.{blocks-step, blocks-end, length-some}
+use Rattle.lines.{specs.Serving.blocksFrom, proofs.Lines.blocks-step, proofs.Lines.blocks-end, proofs.Lines.length-some}
+use Rattle.programs.specs.declared.{Program.Program, Opening.Opening, Opening.the-variants.Number, Opening.the-variants.Bad, Entry.Entry, Entry.the-variants.Refuses, Entry.the-variants.Enters}
 use Rattle.programs.specs.Openings.{Table, table, openingOf, programAfter, entryOf, entered, scanBlock, scan, mainAs, programsFrom, known}
-use Rattle.programs.specs.Found.{subsOf, tableBy}
-use Rattle.programs.specs.Answers.{Gives, foundAs}
 use Rattle.programs.specs.Places.{Begins, Placed, Places, none, more, TablePlaced, found, refused}
-use Rattle.programs.specs.declared.Program.{Program}
-use Rattle.programs.specs.declared.Opening.{Opening}
-use Rattle.programs.specs.declared.Opening.the-variants.{Number, Bad}
-use Rattle.programs.specs.declared.Entry.{Entry}
-use Rattle.programs.specs.declared.Entry.the-variants.{Refuses, Enters}
-use Rattle.programs.specs.declared.Scanned.{Scanned}
-use Rattle.programs.specs.declared.Verdict.the-variants.{Fine}
-use Rattle.programs.specs.declared.Found.the-variants.{At}
 use Rattle.programs.proofs.Scanning.{next-inside}
-use Rattle.programs.proofs.Finding.{found-at}
 
 -- ---- where blocks begin
 

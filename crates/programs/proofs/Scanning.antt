@@ -1,25 +1,12 @@
 -- The scan of the openings, block by block of the data.
-use Prim.Native.Nat.{ℕ, _+_, _≤_, _<_}
-use mathlib.Core.Path.{_≡_, refl, sym, _∙_, ap, ap₂}
-use mathlib.Core.Bool.{Bool, true, false, false≢true}
-use mathlib.Core.List.{List, []}
-use native.Mathlib.Omega.{arith}
-use native.Mathlib.Decide.{decLt}
-use borrow.Author.Tests.{eq-eqb, ne-eqb, eqb-true}
-use lib.ListN.{length, drop, getD, length-drop}
+use Rattle.terms.proofs.Common.{ℕ, _+_, _≤_, _<_, _≡_, refl, sym, _∙_, ap, ap₂, true, false, false≢true, List, [], arith, decLt, eq-eqb, ne-eqb, eqb-true, length, drop, getD, length-drop}
+use Rattle.lines.{specs.Serving.blocksFrom, proofs.Laws.text-at}
 use Rattle.lines.specs.Blocks.{beginsWith, textFrom, lengthFrom, Block, blockFrom, isPercent}
-use Rattle.lines.specs.Serving.{blocksFrom}
 use Rattle.lines.proofs.Lines.{blocks-step, blocks-end, text-begins-end, text-begins-at, no-text-other, length-bound, length-at-more}
-use Rattle.lines.proofs.Laws.{text-at}
-use Rattle.programs.specs.Openings.{table, refusedAt, numberAfterO, openingOf, entryOf, entered, scanBlock, scan, mainAs, programsFrom, programAfter}
+use Rattle.refusals.specs.declared.Refusal.{Refusal, the-variants.BadParameter}
 use Rattle.programs.specs.Found.{WellFound, subsOf, Entered, Empty}
-use Rattle.programs.specs.declared.Program.{Program}
-use Rattle.programs.specs.declared.Entry.{Entry}
-use Rattle.programs.specs.declared.Entry.the-variants.{Refuses, Enters}
-use Rattle.programs.specs.declared.Opening.the-variants.{Number, Bad}
-use Rattle.refusals.specs.declared.Refusal.{Refusal}
-use Rattle.refusals.specs.declared.Refusal.the-variants.{BadParameter}
-use Rattle.programs.specs.declared.Programs.{Programs}
+use Rattle.programs.specs.declared.{Program.Program, Entry.Entry, Entry.the-variants.Refuses, Entry.the-variants.Enters, Opening.the-variants.Number, Opening.the-variants.Bad, Programs.Programs}
+use Rattle.programs.specs.Openings.{table, refusedAt, numberAfterO, openingOf, entryOf, entered, scanBlock, scan, mainAs, programsFrom, programAfter}
 
 -- what follows an `O`
 text-after-o : (l : List ℕ) (at : ℕ) → at < length l → getD l at 0 ≡ 79 → drop 1 (textFrom (drop at l)) ≡ textFrom (drop (at + 1) l)

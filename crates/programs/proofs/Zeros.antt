@@ -1,17 +1,9 @@
 -- "Numbers compare by value: `O1` and `O0001` are the same."
-use Prim.Native.Nat.{ℕ, zero, suc, _≤_, _<_}
-use mathlib.Core.Path.{_≡_, refl, sym, _∙_, ap}
-use mathlib.Core.Bool.{Bool, true, false, _&&_}
-use mathlib.Core.List.{List, _∷_, _++_}
-use native.Mathlib.Omega.{arith}
-use borrow.Author.Tests.{le-leb}
-use lib.ListN.{length, drop, replicate}
+use Rattle.terms.proofs.Common.{ℕ, zero, suc, _≤_, _<_, _≡_, refl, sym, _∙_, ap, Bool, true, false, _&&_, List, _∷_, _++_, arith, le-leb, length, drop, replicate}
 use Rattle.terms.specs.Terms.{if_then_else_, byte, fromTo}
-use Rattle.words.specs.Numbers.{run, digitsAfter}
-use Rattle.words.proofs.Numbers.{leading-zero}
+use Rattle.words.{specs.Numbers.run, specs.Numbers.digitsAfter, proofs.Numbers.leading-zero}
 use Rattle.lines.specs.Gaps.{onlyGaps}
-use Rattle.programs.specs.Openings.{numberAfterO, figuresOf}
-use Rattle.programs.specs.declared.Opening.the-variants.{Number, Bad}
+use Rattle.programs.specs.{Openings.numberAfterO, Openings.figuresOf, declared.Opening.the-variants.Number, declared.Opening.the-variants.Bad}
 
 -- what an opening's number says of its digits' value and of what follows them
 record Opened (bs : List ℕ) (n : ℕ) : Type 0 where

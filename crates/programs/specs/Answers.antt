@@ -1,12 +1,7 @@
 -- What the functions of this layer answer, in the types of the code.
-use mathlib.Core.Path.{_≡_}
-use mathlib.Core.Option.{Option, none, some}
-use Rattle.programs.specs.Openings.{Table}
-use Rattle.programs.specs.Found.{tableOf, WellFound}
-use Rattle.programs.specs.declared.Program.{Program}
-use Rattle.programs.specs.declared.Scanned.{Scanned}
-use Rattle.programs.specs.declared.Found.{Found}
-use Rattle.programs.specs.declared.Found.the-variants.{At, Missing}
+use Rattle.terms.specs.Common.{_≡_, Option, none, some}
+use Rattle.programs.specs.{Openings.Table, Found.tableOf, Found.WellFound}
+use Rattle.programs.specs.declared.{Program.Program, Scanned.Scanned, Found.Found, Found.the-variants.At, Found.the-variants.Missing}
 
 -- The scan gives the rules' table. Its struct has ten places, of which no more than ten are in use, where it refuses too.
 pub record Gives (t : Table) (r : Scanned) : Type 0 where

@@ -1,14 +1,10 @@
 -- Data sets with their openings, and what the rules make of them. The worst fault of the old box is among them: two
 -- subprograms that are one number.
-use Prim.Native.Nat.{ℕ}
-use Prim.Native.String.{String}
-use mathlib.Core.List.{List, [], _∷_}
+use Rattle.terms.specs.Common.{ℕ, String, List, [], _∷_}
 use Rattle.terms.specs.Terms.{bytes}
-use Rattle.refusals.specs.declared.Refusal.{Refusal}
-use Rattle.refusals.specs.declared.Refusal.the-variants.{BadParameter, DuplicateNumber, FirstBlock}
+use Rattle.refusals.specs.declared.Refusal.{Refusal, the-variants.BadParameter, the-variants.DuplicateNumber, the-variants.FirstBlock}
 use Rattle.lines.specs.Blocks.{Block, blocksOf}
-use Rattle.programs.specs.Openings.{Table, table, refusedAt, programsFrom}
-use Rattle.programs.specs.declared.Program.{Program}
+use Rattle.programs.specs.{Openings.Table, Openings.table, Openings.refusedAt, Openings.programsFrom, declared.Program.Program}
 
 pub record Row : Type 0 where
   pub text : String

@@ -1,16 +1,8 @@
 -- What the scan of the openings answers, in the types of the code.
-use Prim.Native.Nat.{ℕ, _≤_, _<_}
-use mathlib.Core.Path.{_≡_}
-use mathlib.Core.List.{List, [], _∷_, _++_}
-use lib.ListN.{length, take}
+use Rattle.terms.specs.Common.{ℕ, _≤_, _<_, _≡_, List, [], _∷_, _++_, length, take}
 use Rattle.words.specs.Numbers.{digitsAfter}
+use Rattle.programs.specs.declared.{Program.Program, Digits.Digits, Verdict.Verdict, Verdict.the-variants.Fine, Verdict.the-variants.Refused, Programs.Programs, Scanned.Scanned}
 use Rattle.programs.specs.Openings.{figuresOf, Table, table, refusedAt, most}
-use Rattle.programs.specs.declared.Program.{Program}
-use Rattle.programs.specs.declared.Digits.{Digits}
-use Rattle.programs.specs.declared.Verdict.{Verdict}
-use Rattle.programs.specs.declared.Verdict.the-variants.{Fine, Refused}
-use Rattle.programs.specs.declared.Programs.{Programs}
-use Rattle.programs.specs.declared.Scanned.{Scanned}
 
 pub record IsDigits (text : List ℕ) (d : Digits) : Type 0 where
   pub few : d .count ≤ 8 → length (figuresOf text) ≡ d .count

@@ -1,22 +1,10 @@
 -- Document 01, "Data set and blocks": the openings, the main program and the subprograms.
-use Prim.Native.Nat.{ℕ, _+_, _-_}
-use mathlib.Core.Bool.{Bool, true, false, _&&_, _||_}
-use mathlib.Core.Option.{Option}
-use mathlib.Core.List.{List, [], _∷_, _++_}
-use lib.Dec.{eqb, leb}
-use lib.ListN.{length, drop}
+use Rattle.terms.specs.Common.{ℕ, _+_, _-_, Bool, true, false, _&&_, _||_, Option, List, [], _∷_, _++_, eqb, leb, length, drop}
 use Rattle.terms.specs.Terms.{if_then_else_, any, first, fromTo}
-use Rattle.refusals.specs.declared.Refusal.{Refusal}
-use Rattle.refusals.specs.declared.Refusal.the-variants.{BadParameter, DuplicateNumber, TableOver}
-use Rattle.refusals.specs.declared.Place.{Place}
+use Rattle.refusals.specs.declared.{Refusal.Refusal, Refusal.the-variants.BadParameter, Refusal.the-variants.DuplicateNumber, Refusal.the-variants.TableOver, Place.Place}
 use Rattle.words.specs.Numbers.{isDigit, run, digitsAfter}
-use Rattle.lines.specs.Gaps.{onlyGaps}
-use Rattle.lines.specs.Blocks.{Block, closes, opens}
-use Rattle.programs.specs.declared.Program.{Program}
-use Rattle.programs.specs.declared.Opening.{Opening}
-use Rattle.programs.specs.declared.Opening.the-variants.{Number, Bad}
-use Rattle.programs.specs.declared.Entry.{Entry}
-use Rattle.programs.specs.declared.Entry.the-variants.{Refuses, Enters}
+use Rattle.lines.specs.{Gaps.onlyGaps, Blocks.Block, Blocks.closes, Blocks.opens}
+use Rattle.programs.specs.declared.{Program.Program, Opening.Opening, Opening.the-variants.Number, Opening.the-variants.Bad, Entry.Entry, Entry.the-variants.Refuses, Entry.the-variants.Enters}
 
 -- the digits that a text begins with, as far as an opening may have them: a ninth makes the count 9, whatever follows
 abbrev pub figuresOf : List ℕ → List ℕ

@@ -1,14 +1,8 @@
 -- A program of the table begins where the data's own count of blocks and bytes says.
-use Prim.Native.Nat.{ℕ, _+_, _-_, _≤_}
-use mathlib.Core.Path.{_≡_}
-use mathlib.Core.List.{List, [], _∷_}
-use lib.ListN.{length, drop}
-use Rattle.refusals.specs.declared.Refusal.{Refusal}
-use Rattle.refusals.specs.declared.Place.{Place}
-use Rattle.lines.specs.Blocks.{blocksOf}
-use Rattle.lines.specs.Serving.{blocksFrom}
-use Rattle.programs.specs.Openings.{Table, table, refusedAt}
-use Rattle.programs.specs.declared.Program.{Program}
+use Rattle.terms.specs.Common.{ℕ, _+_, _-_, _≤_, _≡_, List, [], _∷_, length, drop}
+use Rattle.refusals.specs.declared.{Refusal.Refusal, Place.Place}
+use Rattle.lines.specs.{Blocks.blocksOf, Serving.blocksFrom}
+use Rattle.programs.specs.{Openings.Table, Openings.table, Openings.refusedAt, declared.Program.Program}
 
 -- The block n begins at a place: the blocks found by its number are those that a walk finds from that byte on. A block takes
 -- a byte at least, so that no block's number is more than one past its byte; and none is more than one past the last block's.

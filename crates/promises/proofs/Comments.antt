@@ -1,34 +1,20 @@
 -- "Bytes inside a comment, replaced by others that are neither `)`, LF nor CR, change no record and no answer."
-use Prim.Native.Nat.{ℕ, zero, suc, _+_, _-_}
-use mathlib.Core.Path.{_≡_, refl, ap}
-use mathlib.Core.Bool.{Bool, true, false, false≢true, _||_}
-use mathlib.Core.Logic.{inl, inr, ⊎-elim}
-use mathlib.Core.Option.{Option, none, some}
-use mathlib.Core.List.{List, [], _∷_}
-use native.Mathlib.Omega.{arith}
-use borrow.Author.Tests.{eqb-false, ne-eqb, not-true}
-use lib.Dec.{eqb}
-use lib.ListN.{length, drop}
-use Rattle.terms.specs.Terms.{if_then_else_, byte}
-use Rattle.terms.proofs.Laws.{either-left, either-right}
+use Rattle.terms.proofs.Common.{ℕ, zero, suc, _+_, _-_, _≡_, refl, ap, Bool, true, false, false≢true, _||_, inl, inr, ⊎-elim, Option, none, some, List, [], _∷_, arith, eqb-false, ne-eqb, not-true, eqb, length, drop}
+use Rattle.terms.{specs.Terms.if_then_else_, specs.Terms.byte, proofs.Laws.either-left, proofs.Laws.either-right}
 use Rattle.refusals.specs.declared.Refusal.the-variants.{FirstBlock}
-use Rattle.lines.specs.Blocks.{Block, beginsWith, noText, closes, opens, isSlashed}
-use Rattle.lines.specs.Comments.{openAfter, insideAt}
+use Rattle.lines.specs.{Blocks.Block, Blocks.beginsWith, Blocks.noText, Blocks.closes, Blocks.opens, Blocks.isSlashed, Comments.openAfter, Comments.insideAt}
 use Rattle.lines.specs.Alike.{Alike, nothing, outside, begins, inside, AlikeBlock, AlikeBlocks}
-use Rattle.lines.specs.Alike as Alikes
 use Rattle.lines.proofs.Comments.{length-alike, words-alike, blocks-alike, begins-alike, percent-alike, later-outside, later-inside}
-use Rattle.programs.specs.declared.Program.{Program}
+use Rattle.programs.{specs.declared.Program.Program, proofs.Comments.programs-alike}
 use Rattle.programs.specs.Openings.{Table, table, refusedAt, placeOf, known, programsFrom}
-use Rattle.programs.proofs.Comments.{programs-alike}
-use Rattle.setup.specs.declared.Setup.{Setup}
-use Rattle.setup.specs.Frame.{bedOf, switchOn}
-use Rattle.blocks.specs.Machine.{machineOf}
-use Rattle.blocks.specs.Exec.{Verdict, refused, accepted, exec, execWords, callsIn}
-use Rattle.runs.specs.Walk.{Job, Going, Outcome, just, goingOn, obey, isSpent, isSkipped, slashLength, verdictOn, runBlock, reached, walk, blocksFor, callees}
-use Rattle.runs.specs.Walk as Walk
-use Rattle.runs.specs.Run.{firstOf, finishOf, runTable, runBlocks, outcome, recordsOf, answerOf, standingOf}
+use Rattle.setup.specs.{declared.Setup.Setup, Frame.bedOf, Frame.switchOn}
+use Rattle.blocks.specs.{Machine.machineOf, Exec.Verdict, Exec.refused, Exec.accepted, Exec.exec, Exec.execWords, Exec.callsIn}
 use Rattle.runs.specs.declared.Budget.{Budget}
+use Rattle.runs.specs.Walk.{Job, Going, Outcome, just, goingOn, obey, isSpent, isSkipped, slashLength, verdictOn, runBlock, reached, walk, blocksFor, callees}
+use Rattle.runs.specs.Run.{firstOf, finishOf, runTable, runBlocks, outcome, recordsOf, answerOf, standingOf}
 use Rattle.promises.specs.Comments.{MayBecome, Replaced, SameRun}
+use Rattle.lines.specs.Alike as Alikes
+use Rattle.runs.specs.Walk as Walk
 
 -- ---- one block
 

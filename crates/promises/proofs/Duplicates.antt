@@ -1,39 +1,21 @@
 -- The worst fault: "8: Duplicate Sub-Program Number". Data with two openings of one number, however they are written, is
 -- refused, and gives no record, under every setup, room and budget.
 -- The table of programs goes by the openings alone: the blocks between them do not count.
-use Prim.Native.Nat.{ℕ, _<_, _+_, _≤_}
-use mathlib.Core.Path.{_≡_, refl, sym, _∙_, ap}
-use mathlib.Core.Bool.{Bool, true, false, _&&_, _||_, or-true, or-assoc, false≢true, not, or-false}
-use mathlib.Core.List.{List, [], _∷_, _++_, map, append-assoc}
-use native.Mathlib.Omega.{arith}
-use borrow.Author.Tests.{eqb-true, eq-eqb, ne-eqb, leb-true, lt-leb, le-ltb, not-true}
-use lib.Dec.{eqb, leb}
-use lib.ListN.{length, drop, length-append}
+use Rattle.terms.proofs.Common.{ℕ, _<_, _+_, _≤_, _≡_, refl, sym, _∙_, ap, Bool, true, false, _&&_, _||_, or-true, or-assoc, false≢true, not, or-false, List, [], _∷_, _++_, map, append-assoc, arith, eqb-true, eq-eqb, ne-eqb, leb-true, lt-leb, le-ltb, not-true, eqb, leb, length, drop, length-append}
 use Rattle.terms.specs.Terms.{if_then_else_, any, fromTo}
 use Rattle.terms.proofs.Laws.{any-snoc, both-left, both-right, either-left, either-right, any-neither}
+use Rattle.refusals.specs.{declared.Refusal.Refusal, declared.Place.Place, Numbers.numberOf}
 use Rattle.refusals.specs.declared.Refusal.the-variants.{BadParameter, DuplicateNumber, TableOver, FirstBlock, BadSetup, DataTooLong}
-use Rattle.refusals.specs.declared.Refusal.{Refusal}
-use Rattle.refusals.specs.declared.Place.{Place}
-use Rattle.refusals.specs.Numbers.{numberOf}
 use Rattle.words.specs.Numbers.{isDigit, run, digitsAfter}
-use Rattle.lines.specs.Blocks.{Block, beginsWith, isPercent, closes, opens, blocksOf}
-use Rattle.lines.specs.Gaps.{onlyGaps}
-use Rattle.programs.specs.declared.Program.{Program}
-use Rattle.programs.specs.declared.Opening.{Opening}
-use Rattle.programs.specs.declared.Opening.the-variants.{Number, Bad}
-use Rattle.programs.specs.declared.Entry.{Entry}
-use Rattle.programs.specs.declared.Entry.the-variants.{Refuses, Enters}
-use Rattle.programs.specs.Openings.{numberAfterO, openingOf, placeOf, programAfter, Table, table, refusedAt, isTaken, entryOf, entered, scanBlock, scan, mainAs, programsFrom}
+use Rattle.lines.specs.{Blocks.Block, Blocks.beginsWith, Blocks.isPercent, Blocks.closes, Blocks.opens, Blocks.blocksOf, Gaps.onlyGaps}
+use Rattle.programs.specs.declared.{Program.Program, Opening.Opening, Opening.the-variants.Number, Opening.the-variants.Bad, Entry.Entry, Entry.the-variants.Refuses, Entry.the-variants.Enters}
 use Rattle.programs.proofs.Entries.{taken-main, entry-refusal}
-use Rattle.setup.specs.declared.Setup.{Setup}
-use Rattle.setup.specs.Limits.{validSetup}
-use Rattle.runs.specs.Walk.{Outcome, nowhere, just}
-use Rattle.runs.specs.Run.{firstOf, runTable, runBlocks, outcome, recordsOf, answerBy, answerOf}
-use Rattle.runs.specs.declared.Budget.{Budget}
-use Rattle.runs.specs.Walk as Walk
-use Rattle.claims.specs.Blockwise.{tableIn}
-use Rattle.claims.proofs.Runs.{by-test, by-order}
+use Rattle.programs.specs.Openings.{numberAfterO, openingOf, placeOf, programAfter, Table, table, refusedAt, isTaken, entryOf, entered, scanBlock, scan, mainAs, programsFrom}
+use Rattle.setup.specs.{declared.Setup.Setup, Limits.validSetup}
+use Rattle.runs.specs.{Walk.Outcome, Walk.nowhere, Walk.just, Run.firstOf, Run.runTable, Run.runBlocks, Run.outcome, Run.recordsOf, Run.answerBy, Run.answerOf, declared.Budget.Budget}
+use Rattle.claims.{specs.Blockwise.tableIn, proofs.Runs.by-test, proofs.Runs.by-order}
 use Rattle.promises.specs.Duplicates.{withBlock, openingsIn, mainOpens, openingsOf, percentBegins, mostOpenings, Twice, Early, tooLong, badSetup, firstBlock, opening, earlier, NoList, RefusedEarly, allDifferent, InOrder}
+use Rattle.runs.specs.Walk as Walk
 
 -- ---- the openings alone
 

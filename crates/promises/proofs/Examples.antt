@@ -1,36 +1,16 @@
 -- The promises tried on small data sets: what each of them asks can be met, and what it says is what the rules compute.
-use Prim.Native.Nat.{ℕ}
-use mathlib.Core.Path.{_≡_, refl}
-use mathlib.Core.Bool.{Bool, true, false, false≢true, not, _&&_, _||_}
-use mathlib.Core.Logic.{_⊎_, inl, inr}
-use mathlib.Core.List.{List, [], _∷_, map}
-use native.Mathlib.Omega.{arith}
-use borrow.Author.Tests.{eqb-true, eqb-false}
-use lib.Dec.{eqb}
-use lib.ListN.{getD}
-use Rattle.terms.specs.Terms.{any}
-use Rattle.terms.proofs.Laws.{every-place}
-use Rattle.refusals.specs.Answers.{refusedWith, reportOf}
+use Rattle.terms.proofs.Common.{ℕ, _≡_, refl, Bool, true, false, false≢true, not, _&&_, _||_, _⊎_, inl, inr, List, [], _∷_, map, arith, eqb-true, eqb-false, eqb, getD}
+use Rattle.terms.{specs.Terms.any, proofs.Laws.every-place}
+use Rattle.refusals.specs.{Answers.refusedWith, Answers.reportOf, declared.Answer.the-variants.Done}
 use Rattle.programs.specs.Openings.{placeOf}
 use Rattle.lines.specs.Comments.{insideAt}
-use Rattle.records.specs.declared.Listed.the-variants.{End}
-use Rattle.records.specs.Layout.{listBytes}
-use Rattle.records.specs.Reading.{trail, readAll}
-use Rattle.setup.specs.declared.Setup.{Setup}
-use Rattle.setup.specs.Examples.{setupT}
-use Rattle.runs.specs.Examples.{roomT, sample, sampleRecords}
-use Rattle.runs.specs.Run.{answerOf, recordsOf, standingOf}
-use Rattle.refusals.specs.declared.Answer.the-variants.{Done}
-use Rattle.runs.specs.declared.Budget.{Budget}
-use Rattle.runs.specs.declared.Budget.the-variants.{Whole, First}
-use Rattle.promises.specs.Duplicates.{Twice, NoList, openingsOf}
-use Rattle.promises.specs.Comments.{MayBecome, SameRun}
-use Rattle.promises.specs.ReadBack.{ReadsBack}
+use Rattle.records.specs.{declared.Listed.the-variants.End, Layout.listBytes, Reading.trail, Reading.readAll}
+use Rattle.setup.specs.{declared.Setup.Setup, Examples.setupT}
+use Rattle.runs.specs.{Examples.roomT, Examples.sample, Examples.sampleRecords, Run.answerOf, Run.recordsOf, Run.standingOf}
+use Rattle.runs.specs.declared.Budget.{Budget, the-variants.Whole, the-variants.First}
+use Rattle.promises.specs.{Duplicates.Twice, Duplicates.NoList, Duplicates.openingsOf, Comments.MayBecome, Comments.SameRun, ReadBack.ReadsBack}
 use Rattle.promises.specs.Examples.{twoSubprograms, firstOne, secondOne, mainAgain, mainOpening, otherOpening, mainNumberAgain, commented, commentedElse}
-use Rattle.promises.proofs.Opened.{opened}
-use Rattle.promises.proofs.Duplicates.{first-duplicate}
-use Rattle.promises.proofs.Comments.{comment-bytes-replaced}
-use Rattle.promises.proofs.ReadBack.{read-back}
+use Rattle.promises.proofs.{Opened.opened, Duplicates.first-duplicate, Comments.comment-bytes-replaced, ReadBack.read-back}
 
 -- ---- two openings of one number
 

@@ -1,32 +1,18 @@
 -- Demand 2: "The list read back, record by record from its first byte, gives the run's events and then the end of what was
 -- written." The records of every run can be written and read back, they fit the list, and the answer has their count.
-use Prim.Native.Nat.{ℕ, _+_, _≤_}
-use mathlib.Core.Path.{_≡_, refl, _∙_, ap}
-use mathlib.Core.List.{List, [], _++_, map}
-use native.Mathlib.Omega.{arith}
-use lib.ListN.{length, drop, length-map}
+use Rattle.terms.proofs.Common.{ℕ, _+_, _≤_, _≡_, refl, _∙_, ap, List, [], _++_, map, arith, length, drop, length-map}
 use Rattle.refusals.specs.Answers.{countOf}
-use Rattle.setup.specs.declared.Setup.{Setup}
-use Rattle.setup.specs.Frame.{offset, bedOf}
-use Rattle.setup.proofs.Valid.{fair}
-use Rattle.records.specs.declared.Record.{Record}
-use Rattle.records.specs.Layout.{listBytes, roomOf}
-use Rattle.records.specs.Path.{recordMoved}
-use Rattle.records.specs.Reading.{after, readAll}
-use Rattle.records.specs.Writing.{ListShort}
-use Rattle.records.proofs.Laid.{list-length}
-use Rattle.records.proofs.Back.{round-trip, whole-list}
-use Rattle.records.proofs.Moved.{moved-room, room-append, short-both}
+use Rattle.setup.{specs.declared.Setup.Setup, specs.Frame.offset, specs.Frame.bedOf, proofs.Valid.fair}
+use Rattle.records.specs.{declared.Record.Record, Layout.listBytes, Layout.roomOf, Path.recordMoved, Reading.after, Reading.readAll, Writing.ListShort}
+use Rattle.records.proofs.{Laid.list-length, Back.round-trip, Back.whole-list, Moved.moved-room, Moved.room-append, Moved.short-both}
 use Rattle.settings.specs.declared.State.{State}
 use Rattle.blocks.specs.Reach.{Reachable}
-use Rattle.runs.specs.Walk.{How, ended, returned, unfinished}
-use Rattle.runs.specs.Walk as Walk
-use Rattle.runs.specs.Run.{firstOf, outcome, recordsOf, answerBy, answerOf}
-use Rattle.runs.specs.declared.Budget.{Budget}
-use Rattle.claims.specs.Blockwise.{notYet, more, recordsBy, outcomeSofar, jobFor, standAt, refusedAtOnce, firstBlocks}
+use Rattle.runs.specs.{Walk.How, Walk.ended, Walk.returned, Walk.unfinished, Run.firstOf, Run.outcome, Run.recordsOf, Run.answerBy, Run.answerOf, declared.Budget.Budget}
 use Rattle.claims.proofs.Turns.{run-holds}
+use Rattle.claims.specs.Blockwise.{notYet, more, recordsBy, outcomeSofar, jobFor, standAt, refusedAtOnce, firstBlocks}
 use Rattle.claims.proofs.Runs.{begun-cases, once-over, gives, suited, first-reached, block-keeps}
 use Rattle.promises.specs.ReadBack.{ReadsBack}
+use Rattle.runs.specs.Walk as Walk
 
 -- ---- the records of a run: their numbers fit four bytes, and they fit the room
 

@@ -1,16 +1,10 @@
 -- Document 01, "Data set and blocks": "Bytes inside a comment, replaced by others that are neither `)`, LF nor CR, change no
 -- record and no answer."
-use Prim.Native.Nat.{ℕ, _<_}
-use mathlib.Core.Path.{_≡_}
-use mathlib.Core.Bool.{Bool, true}
-use mathlib.Core.Logic.{_⊎_}
-use mathlib.Core.List.{List}
-use lib.ListN.{length, getD}
+use Rattle.terms.specs.Common.{ℕ, _<_, _≡_, Bool, true, _⊎_, List, length, getD}
 use Rattle.terms.specs.Terms.{byte}
 use Rattle.lines.specs.Comments.{insideAt}
 use Rattle.setup.specs.declared.Setup.{Setup}
-use Rattle.runs.specs.Run.{answerOf, recordsOf, standingOf}
-use Rattle.runs.specs.declared.Budget.{Budget}
+use Rattle.runs.specs.{Run.answerOf, Run.recordsOf, Run.standingOf, declared.Budget.Budget}
 
 -- A byte inside a comment, and another that may take its place. The test says whether a comment is open where the bytes begin.
 pub record MayBecome (open′ : Bool) (x : List ℕ) (i c : ℕ) : Type 0 where

@@ -1,21 +1,12 @@
 -- The openings of the data, and two of them with one number: the worst fault of the old box, that it ran one of two
 -- subprograms of one number.
-use Prim.Native.Nat.{ℕ, _+_, _≤_}
-use mathlib.Core.Path.{_≡_}
-use mathlib.Core.Bool.{Bool, true, false, not, _&&_}
-use mathlib.Core.List.{List, [], _∷_, _++_, map}
-use lib.Dec.{eqb}
-use lib.ListN.{length, drop}
+use Rattle.terms.specs.Common.{ℕ, _+_, _≤_, _≡_, Bool, true, false, not, _&&_, List, [], _∷_, _++_, map, eqb, length, drop}
 use Rattle.terms.specs.Terms.{if_then_else_, any}
-use Rattle.refusals.specs.declared.Place.{Place}
-use Rattle.refusals.specs.Answers.{refusedWith, reportOf}
+use Rattle.refusals.specs.{declared.Place.Place, Answers.refusedWith, Answers.reportOf}
 use Rattle.lines.specs.Blocks.{Block, blocksOf, closes, opens}
-use Rattle.programs.specs.Openings.{openingOf, placeOf, most}
-use Rattle.programs.specs.declared.Opening.the-variants.{Number}
+use Rattle.programs.specs.{Openings.openingOf, Openings.placeOf, Openings.most, declared.Opening.the-variants.Number}
 use Rattle.setup.specs.declared.Setup.{Setup}
-use Rattle.runs.specs.Walk.{nowhere}
-use Rattle.runs.specs.Run.{answerOf, recordsOf}
-use Rattle.runs.specs.declared.Budget.{Budget}
+use Rattle.runs.specs.{Walk.nowhere, Run.answerOf, Run.recordsOf, declared.Budget.Budget}
 
 -- A block in front of openings: "A later `%` alone ends the data; nothing after it is read.", and an opening is one more.
 unfoldable pub withBlock : Bool → Bool → Block → List Block → List Block

@@ -1,6 +1,5 @@
 -- Data sets on which the promises are tried.
-use Prim.Native.Nat.{ℕ}
-use mathlib.Core.List.{List}
+use Rattle.terms.specs.Common.{ℕ, List}
 use Rattle.terms.specs.Terms.{bytes}
 use Rattle.lines.specs.Blocks.{Block}
 

@@ -1,15 +1,8 @@
 -- Demand 2: "The list read back, record by record from its first byte, gives the run's events and then the end of what was
 -- written."
-use Prim.Native.Nat.{ℕ, _+_, _≤_}
-use mathlib.Core.Path.{_≡_}
-use mathlib.Core.List.{List, _++_}
-use lib.ListN.{length, drop}
-use Rattle.records.specs.declared.Record.{Record}
-use Rattle.records.specs.declared.Listed.the-variants.{End}
-use Rattle.records.specs.Layout.{listBytes}
-use Rattle.records.specs.Reading.{trail, after, readAll}
-use Rattle.refusals.specs.declared.Answer.{Answer}
-use Rattle.refusals.specs.Answers.{countOf}
+use Rattle.terms.specs.Common.{ℕ, _+_, _≤_, _≡_, List, _++_, length, drop}
+use Rattle.records.specs.{declared.Record.Record, declared.Listed.the-variants.End, Layout.listBytes, Reading.trail, Reading.after, Reading.readAll}
+use Rattle.refusals.specs.{declared.Answer.Answer, Answers.countOf}
 
 -- the records and the answer of a run for a list of so many bytes
 pub record ReadsBack (rs : List Record) (answer : Answer) (room : ℕ) : Type 0 where

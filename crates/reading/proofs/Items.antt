@@ -1,35 +1,17 @@
 -- Items and words by their places.
-use Prim.Native.Nat.{ℕ, suc, _+_, _≤_, _<_}
-use mathlib.Core.Path.{_≡_, refl, sym, _∙_, ap}
-use mathlib.Core.Bool.{Bool, true, false, _||_}
-use mathlib.Core.Option.{Option, none, some}
-use mathlib.Core.List.{List, [], _∷_}
-use native.Mathlib.Omega.{arith}
-use native.Mathlib.Decide.{ℕ-discrete}
-use borrow.Author.Tests.{ne-eqb, le-leb, lt-leb}
-use lib.Dec.{eqb}
-use lib.ListN.{length, drop, getD, length-drop}
-use lib.Seq.{drop-drop, take-length, slice}
+use Rattle.terms.proofs.Common.{ℕ, suc, _+_, _≤_, _<_, _≡_, refl, sym, _∙_, ap, Bool, true, false, _||_, Option, none, some, List, [], _∷_, arith, ℕ-discrete, ne-eqb, le-leb, lt-leb, eqb, length, drop, getD, length-drop, drop-drop, take-length, slice}
 use Rattle.terms.specs.Terms.{if_then_else_}
-use Rattle.lines.specs.Blocks.{beginsWith, textFrom, noText, lengthFrom, endsAt}
-use Rattle.refusals.specs.declared.Refusal.{Refusal}
-use Rattle.refusals.specs.declared.Refusal.the-variants as refusals
-use Rattle.words.specs.Numbers.{isDigit, isPoint, signOf, signLength, run, numberBy, numberIn}
-use Rattle.words.specs.Serving.{Written}
-use Rattle.words.specs.Words as Words
-use Rattle.words.specs.Words.{isBlank, isCapital, closing, gap, word, unreadable, commentItem, wordItem, itemAt, these, badAt, withWord, itemThen, wordsAfter}
-use Rattle.words.specs.declared.Number.{Number}
-use Rattle.words.specs.declared.Numbered.{Numbered}
-use Rattle.words.specs.declared.Numbered.the-variants.{Is, Unreadable}
-use Rattle.words.specs.declared.Sign.{Sign}
-use Rattle.words.specs.declared.Sign.the-variants.{Plain}
-use Rattle.words.specs.declared.Word.{Word}
-use Rattle.words.proofs.Numbers.{number-short, numberIn-written}
-use Rattle.lines.specs.Closing.{commentAt}
+use Rattle.lines.specs.{Blocks.beginsWith, Blocks.textFrom, Blocks.noText, Blocks.lengthFrom, Blocks.endsAt, Closing.commentAt}
 use Rattle.lines.specs.declared.Comment.the-variants.{Closed, Open}
 use Rattle.lines.proofs.Laws.{text-drop, text-none, text-inside, text-at, text-length, text-next, words-pass, open-by, comment-way, closing-within}
-use Rattle.reading.specs.Items.{placed, wordsAt, statusAfter}
-use Rattle.reading.specs.declared.Item.{Item}
+use Rattle.refusals.specs.declared.Refusal.{Refusal}
+use Rattle.words.specs.{Serving.Written, declared.Number.Number, declared.Numbered.Numbered, declared.Numbered.the-variants.Is, declared.Numbered.the-variants.Unreadable}
+use Rattle.words.{specs.declared.Sign.the-variants.Plain, specs.declared.Word.Word, proofs.Numbers.number-short, proofs.Numbers.numberIn-written}
+use Rattle.words.specs.Numbers.{isDigit, isPoint, signOf, signLength, run, numberBy, numberIn}
+use Rattle.words.specs.Words.{isBlank, isCapital, closing, gap, word, unreadable, commentItem, wordItem, itemAt, these, badAt, withWord, itemThen, wordsAfter}
+use Rattle.reading.specs.{Items.placed, Items.wordsAt, Items.statusAfter, declared.Item.Item}
+use Rattle.refusals.specs.declared.Refusal.the-variants as refusals
+use Rattle.words.specs.Words as Words
 use Rattle.reading.specs.declared.Item.the-variants as item
 use Rattle.reading.specs.declared.Status.the-variants as status
 

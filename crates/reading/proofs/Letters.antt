@@ -1,13 +1,6 @@
 -- Letters that are known, and the places of letters in the alphabet.
-use Prim.Native.Nat.{ℕ, _+_, _≤_, _<_}
-use mathlib.Core.Path.{_≡_, refl, sym, _∙_, ap}
-use mathlib.Core.Bool.{Bool, true, false}
-use mathlib.Core.List.{List, [], _∷_}
-use native.Mathlib.Omega.{arith}
-use borrow.Author.Tests.{ne-eqb, leb-true}
-use lib.Dec.{eqb, leb}
-use Rattle.terms.specs.Terms.{any, all}
-use Rattle.terms.proofs.Laws.{both-left, both-right}
+use Rattle.terms.proofs.Common.{ℕ, _+_, _≤_, _<_, _≡_, refl, sym, _∙_, ap, Bool, true, false, List, [], _∷_, arith, ne-eqb, leb-true, eqb, leb}
+use Rattle.terms.{specs.Terms.any, specs.Terms.all, proofs.Laws.both-left, proofs.Laws.both-right}
 use Rattle.codes.proofs.Tables.{Others, among, none-of, differ}
 use Rattle.words.specs.Words.{isCapital}
 use Rattle.letters.specs.Letters.{known, isKnown}

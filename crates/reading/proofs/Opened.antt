@@ -6,8 +6,7 @@ use Rattle.lines.proofs.Opened.{opened as lines-opened}
 use Rattle.words.proofs.Opened.{opened as words-opened}
 use Rattle.settings.proofs.Opened.{opened as settings-opened}
 use Rattle.letters.proofs.Opened.{opened as letters-opened}
-use Rattle.reading.specs.Items.{placed, statusAfter}
-use Rattle.reading.specs.Whole.{standing, statusOf}
+use Rattle.reading.specs.{Items.placed, Items.statusAfter, Whole.standing, Whole.statusOf}
 
 unfoldable pub opened : Unit {0}
 unfolding

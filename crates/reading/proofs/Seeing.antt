@@ -1,29 +1,13 @@
 -- What is kept of the words tells whether the next one may stand, and is kept with it.
-use Prim.Native.Nat.{ℕ, _+_, _<_}
-use mathlib.Core.Path.{_≡_, refl, sym, _∙_, ap}
-use mathlib.Core.Bool.{Bool, true, false, false≢true, not, _&&_, _||_, or-false, or-true}
-use mathlib.Core.Option.{none, some}
-use mathlib.Core.List.{List, [], _∷_, _++_}
-use native.Mathlib.Omega.{arith}
-use native.Mathlib.Decide.{ℕ-discrete}
-use borrow.Author.Tests.{eq-eqb, ne-eqb, eqb-true}
-use lib.Dec.{eqb, lit<}
-use lib.ListN.{length, getD, set, replicate, length-set, length-replicate, getD-replicate}
-use lib.Seq.{getD-set-same, getD-set-other}
+use Rattle.terms.proofs.Common.{ℕ, _+_, _<_, _≡_, refl, sym, _∙_, ap, Bool, true, false, false≢true, not, _&&_, _||_, or-false, or-true, none, some, List, [], _∷_, _++_, arith, ℕ-discrete, eq-eqb, ne-eqb, eqb-true, eqb, lit<, length, getD, set, replicate, length-set, length-replicate, getD-replicate, getD-set-same, getD-set-other}
 use Rattle.terms.specs.Terms.{if_then_else_, any, first}
 use Rattle.terms.proofs.Laws.{either-left, either-right, any-snoc, any-more, any-neither, any-false}
-use Rattle.codes.specs.declared.Code.{Code}
+use Rattle.codes.specs.{declared.Code.Code, declared.Misc.Misc, declared.Misc.the-variants.Other, Codes.groupOf, Codes.isGroupA, Codes.isG04, Codes.clash, Codes.isM, Codes.miscNumber}
 use Rattle.codes.specs.declared.Code.the-variants.{GroupA, GroupB, GroupC, GroupD, GroupE, GroupF, G04, Unknown}
-use Rattle.codes.specs.declared.Misc.{Misc}
-use Rattle.codes.specs.declared.Misc.the-variants.{Other}
-use Rattle.codes.specs.Codes.{groupOf, isGroupA, isG04, clash, isM, miscNumber}
-use Rattle.words.specs.declared.Word.{Word}
-use Rattle.words.specs.Words.{isCapital}
-use Rattle.settings.specs.declared.Modes.{Modes}
-use Rattle.settings.specs.Settings.{switched}
+use Rattle.words.specs.{declared.Word.Word, Words.isCapital}
+use Rattle.settings.specs.{declared.Modes.Modes, Settings.switched}
 use Rattle.letters.specs.Letters.{isKnown, isG, isMisc, codeIn, miscIn, standsAlone, repeats, badG, badM, mayNotStand, miscOrOther, miscOfBlock, modesIn}
-use Rattle.reading.specs.Seen.{letterPlace, hasLetter, hasGroup, isAlone, Coded, Sums, badMisc}
-use Rattle.reading.specs.declared.Seen.{Seen}
+use Rattle.reading.specs.{Seen.letterPlace, Seen.hasLetter, Seen.hasGroup, Seen.isAlone, Seen.Coded, Seen.Sums, Seen.badMisc, declared.Seen.Seen}
 use Rattle.reading.proofs.Letters.{known-at, known-g, known-m, place-inside, place-back}
 
 -- ---- nothing read yet

@@ -1,42 +1,17 @@
 -- Reading a block word by word: what has been read, and what is left, give the whole.
-use Prim.Native.Nat.{ℕ, _+_, _≤_, _<_}
-use mathlib.Core.Path.{_≡_, refl, sym, _∙_, ap}
-use mathlib.Core.Bool.{Bool, true, false, false≢true, not, _&&_, _||_}
-use mathlib.Core.List.{List, [], _∷_, _++_, append-assoc, append-nil}
-use native.Mathlib.Omega.{arith}
-use native.Mathlib.Numerals.{add-one}
-use native.Mathlib.Decide.{ℕ-discrete}
-use borrow.Author.Tests.{eqb-true, ne-eqb, not-false}
-use lib.Dec.{eqb}
-use lib.ListN.{length, take, drop, getD, set, length-set}
-use lib.Seq.{take-suc-set, getD-set-same, getD-set-other}
-use Rattle.terms.specs.Terms.{if_then_else_, any}
-use Rattle.terms.proofs.Laws.{either-left, either-right}
-use Rattle.lines.specs.Blocks.{noText, lengthFrom}
-use Rattle.refusals.specs.declared.Refusal.{Refusal}
-use Rattle.refusals.specs.declared.Refusal.the-variants.{CannotExecute, Unreadable}
-use Rattle.words.specs.Serving.{Written}
-use Rattle.words.specs.Words as Words
-use Rattle.words.specs.Words.{isCapital, these, badAt, withWord, wordsAfter}
-use Rattle.words.specs.declared.Word.{Word}
-use Rattle.codes.specs.declared.Code.{Code}
-use Rattle.codes.specs.declared.Misc.{Misc}
-use Rattle.codes.specs.Codes.{groupOf}
-use Rattle.settings.specs.declared.Modes.{Modes}
-use Rattle.settings.specs.Settings.{switched}
-use Rattle.letters.specs.Letters.{known, isKnown, isG, isMisc, codeIn, miscIn, repeats, badG, badM, mayNotStand, firstThatMayNot}
+use Rattle.terms.proofs.Common.{ℕ, _+_, _≤_, _<_, _≡_, refl, sym, _∙_, ap, Bool, true, false, false≢true, not, _&&_, _||_, List, [], _∷_, _++_, append-assoc, append-nil, arith, add-one, ℕ-discrete, eqb-true, ne-eqb, not-false, eqb, length, take, drop, getD, set, length-set, take-suc-set, getD-set-same, getD-set-other}
+use Rattle.terms.{specs.Terms.if_then_else_, specs.Terms.any, proofs.Laws.either-left, proofs.Laws.either-right}
+use Rattle.lines.{specs.Blocks.noText, specs.Blocks.lengthFrom, proofs.Laws.text-none}
+use Rattle.refusals.specs.declared.Refusal.{Refusal, the-variants.CannotExecute, the-variants.Unreadable}
+use Rattle.words.specs.{Serving.Written, Words.isCapital, Words.these, Words.badAt, Words.withWord, Words.wordsAfter, declared.Word.Word}
+use Rattle.codes.specs.{declared.Code.Code, declared.Misc.Misc, Codes.groupOf}
+use Rattle.settings.specs.{declared.Modes.Modes, Settings.switched}
 use Rattle.letters.specs.Judging.{valued, Stored}
-use Rattle.lines.proofs.Laws.{text-none}
-use Rattle.reading.specs.Items.{wordsAt, statusAfter}
-use Rattle.reading.specs.Seen.{letterPlace, hasLetter, Sums}
-use Rattle.reading.specs.Whole.{standing, statusOf, Kept, IsRead}
-use Rattle.reading.specs.declared.Seen.{Seen}
-use Rattle.reading.specs.declared.Status.{Status}
-use Rattle.reading.specs.declared.Status.the-variants.{Fine, Refused}
-use Rattle.reading.specs.declared.Reading.{Reading}
-use Rattle.reading.proofs.Items.{Gone, status-word, status-end}
-use Rattle.reading.proofs.Letters.{place-inside, place-back}
-use Rattle.reading.proofs.Seeing.{nothingSeen, seenWith, sums-none, sums-with}
+use Rattle.letters.specs.Letters.{known, isKnown, isG, isMisc, codeIn, miscIn, repeats, badG, badM, mayNotStand, firstThatMayNot}
+use Rattle.reading.specs.{Items.wordsAt, Items.statusAfter, Seen.letterPlace, Seen.hasLetter, Seen.Sums, Whole.standing, Whole.statusOf, Whole.Kept, Whole.IsRead, declared.Seen.Seen}
+use Rattle.reading.specs.declared.Status.{Status, the-variants.Fine, the-variants.Refused}
+use Rattle.reading.proofs.{Items.Gone, Items.status-word, Items.status-end, Letters.place-inside, Letters.place-back, Seeing.nothingSeen, Seeing.seenWith, Seeing.sums-none, Seeing.sums-with}
+use Rattle.words.specs.Words as Words
 
 -- ---- how many of some letters stood
 

@@ -1,14 +1,10 @@
 -- What begins at a place of the data, and the words from there to the end of its block.
-use Prim.Native.Nat.{ℕ, _+_}
-use mathlib.Core.List.{List}
-use lib.ListN.{drop}
+use Rattle.terms.specs.Common.{ℕ, _+_, List, drop}
 use Rattle.lines.specs.Blocks.{textFrom}
 use Rattle.refusals.specs.declared.Refusal.the-variants.{CannotExecute, Unreadable}
-use Rattle.words.specs.Words as Words
 use Rattle.words.specs.Words.{gap, word, unreadable, these, badAt, wordsOf}
-use Rattle.reading.specs.declared.Item.{Item}
-use Rattle.reading.specs.declared.Item.the-variants.{Gap, Says, Refused}
-use Rattle.reading.specs.declared.Status.{Status}
+use Rattle.reading.specs.declared.{Item.Item, Item.the-variants.Gap, Item.the-variants.Says, Item.the-variants.Refused, Status.Status}
+use Rattle.words.specs.Words as Words
 use Rattle.reading.specs.declared.Status.the-variants as status
 
 -- an item that begins at a place, with the place after it

@@ -1,19 +1,11 @@
 -- What the reader keeps of the words before a word, and that it is enough to tell whether the word may stand.
-use Prim.Native.Nat.{ℕ, _+_, _-_, _<_}
-use mathlib.Core.Path.{_≡_}
-use mathlib.Core.Bool.{Bool, true, false, _&&_, _||_}
-use mathlib.Core.List.{List}
-use lib.Dec.{eqb}
-use lib.ListN.{length, getD}
+use Rattle.terms.specs.Common.{ℕ, _+_, _-_, _<_, _≡_, Bool, true, false, _&&_, _||_, List, eqb, length, getD}
 use Rattle.terms.specs.Terms.{byte, any}
-use Rattle.codes.specs.declared.Misc.{Misc}
-use Rattle.codes.specs.declared.Code.{Code}
-use Rattle.codes.specs.Codes.{groupOf, clash, isNoM}
+use Rattle.codes.specs.{declared.Misc.Misc, declared.Code.Code, Codes.groupOf, Codes.clash, Codes.isNoM}
 use Rattle.words.specs.declared.Word.{Word}
 use Rattle.settings.specs.declared.Modes.{Modes}
 use Rattle.letters.specs.Letters.{isG, isMisc, codeIn, miscIn, standsAlone, wrongProgram, mayNotStand, miscOfBlock, modesIn}
-use Rattle.reading.specs.declared.Seen.{Seen}
-use Rattle.reading.specs.declared.Role.{Role}
+use Rattle.reading.specs.declared.{Seen.Seen, Role.Role}
 use Rattle.reading.specs.declared.Role.the-variants as role
 
 -- the place of a capital letter in the alphabet

@@ -1,23 +1,12 @@
 -- A block that was read as a whole.
-use Prim.Native.Nat.{ℕ, _+_, _≤_}
-use mathlib.Core.Path.{_≡_}
-use mathlib.Core.Bool.{Bool}
-use mathlib.Core.Option.{Option, none, some}
-use mathlib.Core.List.{List, []}
-use lib.ListN.{length, take, drop}
+use Rattle.terms.specs.Common.{ℕ, _+_, _≤_, _≡_, Bool, Option, none, some, List, [], length, take, drop}
 use Rattle.lines.specs.Blocks.{lengthFrom}
 use Rattle.refusals.specs.declared.Refusal.the-variants.{CannotExecute, Unreadable}
-use Rattle.words.specs.Words as Words
-use Rattle.words.specs.Words.{these, badAt}
-use Rattle.words.specs.declared.Word.{Word}
+use Rattle.words.specs.{Words.these, Words.badAt, declared.Word.Word}
 use Rattle.settings.specs.declared.Modes.{Modes}
-use Rattle.letters.specs.Letters.{firstThatMayNot}
-use Rattle.letters.specs.Judging.{valued, Stored}
-use Rattle.reading.specs.Items.{wordsAt}
-use Rattle.reading.specs.Seen.{Sums}
-use Rattle.reading.specs.declared.Status.{Status}
-use Rattle.reading.specs.declared.Status.the-variants.{Fine, Refused}
-use Rattle.reading.specs.declared.Reading.{Reading}
+use Rattle.letters.specs.{Letters.firstThatMayNot, Judging.valued, Judging.Stored}
+use Rattle.reading.specs.{Items.wordsAt, Seen.Sums, declared.Status.Status, declared.Status.the-variants.Fine, declared.Status.the-variants.Refused, declared.Reading.Reading}
+use Rattle.words.specs.Words as Words
 
 -- "15 leftmost; 4 leftmost"
 unfoldable pub standing : Option Word → Status

@@ -1,26 +1,11 @@
 -- What is read, written again, gives the same bytes. Assumes nothing.
-use Prim.Native.Nat.{ℕ, zero, suc, _+_, _-_, _*_, _≤_, _<_}
-use mathlib.Core.Path.{_≡_, refl, sym, _∙_}
-use mathlib.Core.Bool.{Bool, true, false, _&&_}
-use mathlib.Core.Option.{Option, none, some}
-use mathlib.Core.List.{List, [], _∷_, _++_, append-assoc}
-use native.Mathlib.Omega.{arith}
-use borrow.Author.Tests.{eqb-true, ltb-false}
-use lib.Dec.{eqb, ltb}
-use lib.ListN.{length, getD, take, drop}
-use lib.Seq.{drop-cons, drop-drop, take-add}
+use Rattle.terms.proofs.Common.{ℕ, zero, suc, _+_, _-_, _*_, _≤_, _<_, _≡_, refl, sym, _∙_, Bool, true, false, _&&_, Option, none, some, List, [], _∷_, _++_, append-assoc, arith, eqb-true, ltb-false, eqb, ltb, length, getD, take, drop, drop-cons, drop-drop, take-add}
 use Rattle.terms.specs.Terms.{if_then_else_, first}
-use Rattle.lengths.specs.Units.{fourBytes}
-use Rattle.lengths.specs.View.{Short}
-use Rattle.lengths.proofs.Four.{four-read, bytes-of-four}
+use Rattle.lengths.{specs.Units.fourBytes, specs.View.Short, proofs.Four.four-read, proofs.Four.bytes-of-four}
 use Rattle.codes.specs.declared.Plane.{Plane}
-use Rattle.records.specs.declared.Kind.{Kind}
+use Rattle.records.specs.{declared.Kind.Kind, declared.Record.Record, declared.Listed.Listed, declared.Listed.the-variants.Next, Writing.AllShort}
 use Rattle.records.specs.declared.Kind.the-variants.{RP, LN, AR, AL, DW, SP, SO, PA, EN}
-use Rattle.records.specs.declared.Record.{Record}
-use Rattle.records.specs.declared.Listed.{Listed}
-use Rattle.records.specs.declared.Listed.the-variants.{Next}
 use Rattle.records.specs.Layout.{kindOf, markOf, hasPlane, headLength, kindLength, numbersIn, planeByte, planeOf, planeBytes, numbersOf, numberBytes, recordBytes, recordOf}
-use Rattle.records.specs.Writing.{AllShort}
 use Rattle.records.specs.Reading.{marked, kinds, kindAt, planes, planeAt, planeFor, lenAt, numbersAt, planeRead, kindRead, readAt}
 use Rattle.records.proofs.Laid.{mark-length, mark-room}
 

@@ -1,30 +1,14 @@
 -- What is written is read back: the reader's laws over lists of records. Assumes nothing.
-use Prim.Native.Nat.{ℕ, zero, suc, _+_, _≤_}
-use mathlib.Core.Path.{_≡_, refl, sym, ap, _∙_}
-use mathlib.Core.Option.{some}
-use mathlib.Core.List.{List, [], _∷_, _++_, append-assoc, append-nil}
-use native.Mathlib.Nat.{add-zero, zero-add, suc-add}
-use native.Mathlib.Omega.{arith}
-use lib.Dec.{eqb}
-use lib.ListN.{length, getD, drop, length-append, length-drop}
-use lib.Seq.{getD-drop, drop-drop, drop-at, drop-append-seam}
+use Rattle.terms.proofs.Common.{ℕ, zero, suc, _+_, _≤_, _≡_, refl, sym, ap, _∙_, some, List, [], _∷_, _++_, append-assoc, append-nil, add-zero, zero-add, suc-add, arith, eqb, length, getD, drop, length-append, length-drop, getD-drop, drop-drop, drop-at, drop-append-seam}
 use Rattle.terms.specs.Terms.{first}
-use Rattle.lengths.specs.Units.{len, fourBytes}
-use Rattle.lengths.specs.declared.Len.{Len}
-use Rattle.lengths.proofs.Four.{short-four, four-of-bytes}
-use Rattle.codes.specs.declared.Plane.{Plane}
-use Rattle.codes.specs.declared.Plane.the-variants.{G17, G18, G19}
-use Rattle.records.specs.declared.Kind.{Kind}
+use Rattle.lengths.{specs.Units.len, specs.Units.fourBytes, specs.declared.Len.Len, proofs.Four.short-four, proofs.Four.four-of-bytes}
+use Rattle.codes.specs.declared.Plane.{Plane, the-variants.G17, the-variants.G18, the-variants.G19}
+use Rattle.records.specs.{declared.Kind.Kind, declared.Record.Record, declared.Listed.the-variants.Next, declared.Listed.the-variants.End, Writing.AllShort, Writing.ListShort}
 use Rattle.records.specs.declared.Kind.the-variants.{RP as rp, LN as ln, AR as ar, AL as al, DW as dw, SP as sp, SO as so, PA as pa, EN as en}
-use Rattle.records.specs.declared.Record.{Record}
 use Rattle.records.specs.declared.Record.the-variants.{RP, LN, AR, AL, DW, SP, SO, PA, EN}
-use Rattle.records.specs.declared.Listed.{Listed}
-use Rattle.records.specs.declared.Listed.the-variants.{Next, End}
 use Rattle.records.specs.Layout.{kindOf, markOf, hasPlane, headLength, kindLength, numbersIn, planeByte, planeOf, planeBytes, numbersOf, numberBytes, recordBytes, listBytes, roomOf, recordOf}
-use Rattle.records.specs.Writing.{AllShort, ListShort}
 use Rattle.records.specs.Reading.{marked, kinds, kindAt, planes, planeAt, planeFor, lenAt, numbersAt, readAt, trail, after, onward, readAll}
-use Rattle.records.proofs.Laid.{mark-length, mark-room, head-length, count, record-length, list-length, own}
-use Rattle.records.proofs.Found.{first-same, read-end, read-next}
+use Rattle.records.proofs.{Laid.mark-length, Laid.mark-room, Laid.head-length, Laid.count, Laid.record-length, Laid.list-length, Laid.own, Found.first-same, Found.read-end, Found.read-next}
 
 -- ---- a list from a place on
 

@@ -1,14 +1,9 @@
 -- The reader on small lists: the faults in document 01's order, and one last byte. Assumes nothing.
-use mathlib.Core.Path.{_≡_, refl}
-use mathlib.Core.List.{[], _∷_, _++_}
-use lib.IntN.{negsuc}
-use lib.ListN.{replicate}
+use Rattle.terms.proofs.Common.{_≡_, refl, [], _∷_, _++_, negsuc, replicate}
 use Rattle.terms.specs.Terms.{bytes}
 use Rattle.lengths.specs.Units.{len}
-use Rattle.records.specs.declared.Record.the-variants.{DW, SO}
-use Rattle.records.specs.declared.Fault.the-variants.{UnknownMark, CutShort, OtherPlane}
-use Rattle.records.specs.declared.Listed.the-variants.{Next, End, Faulty}
-use Rattle.records.specs.Reading.{readAt}
+use Rattle.records.specs.declared.{Record.the-variants.DW, Record.the-variants.SO, Fault.the-variants.UnknownMark, Fault.the-variants.CutShort, Fault.the-variants.OtherPlane}
+use Rattle.records.specs.{declared.Listed.the-variants.Next, declared.Listed.the-variants.End, declared.Listed.the-variants.Faulty, Reading.readAt}
 use Rattle.records.proofs.Opened.{opened}
 
 pub whole-record : readAt (bytes "SO?") 0 ≡ Next SO 2

@@ -1,23 +1,11 @@
 -- Laws of what the reader finds at a place. Assumes nothing.
-use Prim.Native.Nat.{ℕ, _+_, _*_, _≤_, _<_}
-use mathlib.Core.Path.{_≡_, refl, sym, _∙_}
-use mathlib.Core.Bool.{Bool, true, false, _&&_}
-use mathlib.Core.Option.{Option, none, some}
-use mathlib.Core.List.{List, [], _∷_}
-use native.Mathlib.Omega.{arith}
-use borrow.Author.Tests.{eqb-true, eqb-false, eq-eqb, ne-eqb, lt-ltb, le-ltb}
-use lib.Dec.{eqb}
-use lib.ListN.{length, getD}
+use Rattle.terms.proofs.Common.{ℕ, _+_, _*_, _≤_, _<_, _≡_, refl, sym, _∙_, Bool, true, false, _&&_, Option, none, some, List, [], _∷_, arith, eqb-true, eqb-false, eq-eqb, ne-eqb, lt-ltb, le-ltb, eqb, length, getD}
 use Rattle.terms.specs.Terms.{first}
-use Rattle.lengths.specs.declared.Len.{Len}
+use Rattle.lengths.specs.declared.{Len.Len, Point.Point}
 use Rattle.codes.specs.declared.Plane.{Plane}
-use Rattle.lengths.specs.declared.Point.{Point}
-use Rattle.records.specs.declared.Arc.{Arc}
-use Rattle.records.specs.declared.Kind.{Kind}
-use Rattle.records.specs.declared.Kind.the-variants.{RP, LN, AR, AL, DW, SP, SO, PA, EN}
-use Rattle.records.specs.declared.Record.the-variants.{LN as line}
-use Rattle.records.specs.declared.Fault.the-variants.{UnknownMark, CutShort, OtherPlane}
+use Rattle.records.specs.declared.{Arc.Arc, Kind.Kind, Record.the-variants.LN as line, Fault.the-variants.UnknownMark, Fault.the-variants.CutShort, Fault.the-variants.OtherPlane}
 use Rattle.records.specs.declared.Listed.the-variants.{Next, End, Faulty}
+use Rattle.records.specs.declared.Kind.the-variants.{RP, LN, AR, AL, DW, SP, SO, PA, EN}
 use Rattle.records.specs.Layout.{markOf, hasPlane, headLength, kindLength, numbersIn, pointOf, arcOf, recordOf, numberAt}
 use Rattle.records.specs.Reading.{marked, kinds, kindAt, planeFor, lenAt, numbersAt, planeRead, kindRead, readAt}
 

@@ -1,15 +1,9 @@
 -- Laws of the layout of records: how long each part is, and that a record is made of its parts. Assumes nothing.
-use Prim.Native.Nat.{_+_, _*_, _≤_}
-use mathlib.Core.Path.{_≡_, refl}
-use mathlib.Core.Bool.{Bool, true, false}
-use mathlib.Core.List.{List, [], _∷_}
-use native.Mathlib.Omega.{arith}
-use lib.ListN.{length, length-append}
+use Rattle.terms.proofs.Common.{_+_, _*_, _≤_, _≡_, refl, Bool, true, false, List, [], _∷_, arith, length, length-append}
 use Rattle.terms.specs.Terms.{if_then_else_}
 use Rattle.lengths.specs.declared.Len.{Len}
-use Rattle.records.specs.declared.Kind.{Kind}
+use Rattle.records.specs.declared.{Kind.Kind, Record.Record}
 use Rattle.records.specs.declared.Kind.the-variants.{RP as rp, LN as ln, AR as ar, AL as al, DW as dw, SP as sp, SO as so, PA as pa, EN as en}
-use Rattle.records.specs.declared.Record.{Record}
 use Rattle.records.specs.declared.Record.the-variants.{RP, LN, AR, AL, DW, SP, SO, PA, EN}
 use Rattle.records.specs.Layout.{kindOf, markOf, hasPlane, headLength, numbersIn, kindLength, planeOf, planeBytes, numbersOf, numberBytes, recordBytes, listBytes, roomOf, recordOf}
 

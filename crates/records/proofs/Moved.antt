@@ -1,26 +1,11 @@
 -- Laws of records written in machine units, one list after another. Assumes nothing.
-use Prim.Native.Nat.{ℕ, _+_, _*_, _^_, _≤_}
-use mathlib.Core.Path.{_≡_, refl, sym, _∙_, ap}
-use mathlib.Core.List.{List, [], _∷_, _++_, map, append-assoc, append-nil}
-use native.Mathlib.Omega.{arith}
-use lib.IntN.{ℤ, _+ℤ_}
-use lib.ListN.{length}
-use Rattle.lengths.specs.View.{Within, Short}
-use Rattle.lengths.proofs.Laws.{sum-bal}
-use Rattle.lengths.specs.declared.Point.{Point}
-use Rattle.lengths.specs.Points.{moved, flat}
-use Rattle.lengths.specs.Near.{Near}
-use Rattle.lengths.proofs.Near.{flat-near}
-use Rattle.records.specs.declared.Arc.{Arc}
-use Rattle.records.specs.declared.Record.{Record}
+use Rattle.terms.proofs.Common.{ℕ, _+_, _*_, _^_, _≤_, _≡_, refl, sym, _∙_, ap, List, [], _∷_, _++_, map, append-assoc, append-nil, arith, ℤ, _+ℤ_, length}
+use Rattle.lengths.{specs.View.Within, specs.View.Short, specs.declared.Point.Point, specs.Points.moved, specs.Points.flat, specs.Near.Near, proofs.Laws.sum-bal, proofs.Near.flat-near}
+use Rattle.records.specs.{declared.Arc.Arc, declared.Record.Record, Path.pathOf, Path.arcMoved, Path.recordMoved, Displacing.LooseArc, Displacing.Loose, Serving.Wrote}
 use Rattle.records.specs.declared.Record.the-variants.{RP, LN, AR, AL, DW, SP, SO, PA, EN}
 use Rattle.records.specs.Layout.{kindOf, kindLength, pointNumbers, arcNumbers, numbersOf, recordBytes, listBytes, roomOf}
-use Rattle.records.specs.Path.{pathOf, arcMoved, recordMoved}
-use Rattle.records.specs.Displacing.{LooseArc, Loose}
 use Rattle.records.specs.Writing.{AllShort, ListShort, movedBytes, Displaceable, RoomFor}
-use Rattle.records.specs.Serving.{Wrote}
-use Rattle.records.proofs.Laid.{list-length}
-use Rattle.records.proofs.Written.{wrote-then, wrote-none, wrote-length}
+use Rattle.records.proofs.{Laid.list-length, Written.wrote-then, Written.wrote-none, Written.wrote-length}
 
 -- ---- the room of records
 

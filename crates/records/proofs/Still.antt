@@ -1,11 +1,11 @@
 -- The records that move nothing, in one go. Assumes nothing.
-use mathlib.Core.List.{[], _∷_}
+use Rattle.terms.proofs.Common.{[], _∷_}
 use denote.Enum.Declared.{tagOf}
 use types.Run.{OneOf, miss}
 use Rattle.lengths.specs.declared.Len.{Len}
-use Rattle.records.proofs.Record.{the-type}
 use Rattle.records.specs.declared.Record.{Record}
 use Rattle.records.specs.declared.Record.the-variants.{RP, LN, AR, AL, DW, SP, SO, PA, EN}
+use Rattle.records.proofs.Record.{the-type}
 
 -- what holds of each of them holds where a match has no arm for them
 pub still-ones :

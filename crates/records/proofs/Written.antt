@@ -1,14 +1,6 @@
 -- Laws of writing bytes over a list from a place on. Assumes nothing.
-use Prim.Native.Nat.{ℕ, suc, _+_}
-use mathlib.Core.Path.{_≡_, refl, sym, ap, _∙_}
-use mathlib.Core.List.{List, [], _∷_, _++_, append-assoc}
-use native.Mathlib.Omega.{arith}
-use lib.ListN.{length, getD, set, length-append}
-use lib.Seq.{sets, length-sets}
-use Rattle.records.specs.declared.Kind.{Kind}
-use Rattle.records.specs.declared.Record.{Record}
-use Rattle.records.specs.Layout.{kindOf, markOf, planeBytes, numbersOf, numberBytes, recordBytes}
-use Rattle.records.specs.Serving.{Wrote}
+use Rattle.terms.proofs.Common.{ℕ, suc, _+_, _≡_, refl, sym, ap, _∙_, List, [], _∷_, _++_, append-assoc, arith, length, getD, set, length-append, sets, length-sets}
+use Rattle.records.specs.{declared.Kind.Kind, declared.Record.Record, Layout.kindOf, Layout.markOf, Layout.planeBytes, Layout.numbersOf, Layout.numberBytes, Layout.recordBytes, Serving.Wrote}
 
 -- bytes in two parts are written one part after the other
 pub sets-append : (l : List ℕ) (k : ℕ) (a b : List ℕ) → sets l k (a ++ b) ≡ sets (sets l k a) (k + length a) b

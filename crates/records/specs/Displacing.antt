@@ -1,9 +1,7 @@
 -- What displacing a record asks: each of its places leaves room for a sum in 64 bits.
-use Prim.Native.Nat.{_^_}
-use Rattle.lengths.specs.View.{Within}
-use Rattle.lengths.specs.Near.{Near}
-use Rattle.records.specs.declared.Arc.{Arc}
-use Rattle.records.specs.Path.{Path, straight, clockwise, counter, still}
+use Rattle.terms.specs.Common.{_^_}
+use Rattle.lengths.specs.{View.Within, Near.Near}
+use Rattle.records.specs.{declared.Arc.Arc, Path.Path, Path.straight, Path.clockwise, Path.counter, Path.still}
 
 pub record LooseArc (a : Arc) : Type 0 where
   pub end : Near (2 ^ 61) (a .end)

@@ -1,21 +1,12 @@
 -- Document 01, "The record list": how a record lies in the list. Writing and reading both go by this one layout.
 -- "A two-byte mark before each record; numbers are four bytes, little end first, signed; points and centres are machine
 -- units."
-use Prim.Native.Nat.{ℕ, _+_, _*_}
-use mathlib.Core.Bool.{Bool, true, false}
-use mathlib.Core.List.{List, [], _∷_, _++_}
-use lib.IntN.{pos}
-use lib.ListN.{getD}
+use Rattle.terms.specs.Common.{ℕ, _+_, _*_, Bool, true, false, List, [], _∷_, _++_, pos, getD}
 use Rattle.terms.specs.Terms.{if_then_else_, bytes}
-use Rattle.lengths.specs.Units.{len, fourBytes}
-use Rattle.lengths.specs.declared.Len.{Len}
-use Rattle.codes.specs.declared.Plane.{Plane}
-use Rattle.codes.specs.declared.Plane.the-variants.{G17, G18, G19}
-use Rattle.lengths.specs.declared.Point.{Point}
-use Rattle.records.specs.declared.Arc.{Arc}
-use Rattle.records.specs.declared.Kind.{Kind}
+use Rattle.lengths.specs.{Units.len, Units.fourBytes, declared.Len.Len, declared.Point.Point}
+use Rattle.codes.specs.declared.Plane.{Plane, the-variants.G17, the-variants.G18, the-variants.G19}
+use Rattle.records.specs.declared.{Arc.Arc, Kind.Kind, Record.Record}
 use Rattle.records.specs.declared.Kind.the-variants.{RP as rp, LN as ln, AR as ar, AL as al, DW as dw, SP as sp, SO as so, PA as pa, EN as en}
-use Rattle.records.specs.declared.Record.{Record}
 use Rattle.records.specs.declared.Record.the-variants.{RP, LN, AR, AL, DW, SP, SO, PA, EN}
 
 abbrev pub kindOf : Record → Kind

@@ -1,11 +1,7 @@
 -- The path of records, and records displaced.
-use mathlib.Core.Bool.{Bool, true, _&&_}
-use mathlib.Core.List.{List, [], _∷_}
-use Rattle.lengths.specs.Units.{_⊕_}
-use Rattle.lengths.specs.declared.Point.{Point}
-use Rattle.lengths.specs.Points.{moved, flat}
-use Rattle.records.specs.declared.Arc.{Arc}
-use Rattle.records.specs.declared.Record.{Record}
+use Rattle.terms.specs.Common.{Bool, true, _&&_, List, [], _∷_}
+use Rattle.lengths.specs.{Units._⊕_, declared.Point.Point, Points.moved, Points.flat}
+use Rattle.records.specs.declared.{Arc.Arc, Record.Record}
 use Rattle.records.specs.declared.Record.the-variants.{RP, LN, AR, AL, DW, SP, SO, PA, EN}
 
 -- the path that a record tells: "`AR` (clockwise), `AL`"

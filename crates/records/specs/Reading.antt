@@ -1,32 +1,14 @@
 -- Document 01, "The record list": its reader. "A reader refuses, in this order, an unknown mark, a record cut short or
 -- another plane byte, with the byte place of its mark. At the list's end it says so; one last byte, or a place past the
 -- end, is cut short."
-use Prim.Native.Nat.{ℕ, zero, suc, _+_}
-use mathlib.Core.Bool.{Bool, true, false, _&&_}
-use mathlib.Core.Option.{Option, none, some}
-use mathlib.Core.List.{List, [], _∷_, _++_}
-use lib.Dec.{ltb, eqb}
-use lib.ListN.{length, getD}
+use Rattle.terms.specs.Common.{ℕ, zero, suc, _+_, Bool, true, false, _&&_, Option, none, some, List, [], _∷_, _++_, ltb, eqb, length, getD}
 use Rattle.terms.specs.Terms.{if_then_else_, first}
-use Rattle.lengths.specs.Units.{len, ofFour}
-use Rattle.lengths.specs.declared.Len.{Len}
-use Rattle.codes.specs.declared.Plane.{Plane}
-use Rattle.codes.specs.declared.Plane.the-variants.{G17, G18, G19}
-use Rattle.records.specs.declared.Kind.{Kind}
-use Rattle.records.specs.declared.Kind.the-variants.{RP as rp, LN as ln, AR as ar, AL as al, DW as dw, SP as sp, SO as so, PA as pa, EN as en}
-use Rattle.records.specs.Layout.{
-  markOf,
-  hasPlane,
-  headLength,
-  numbersIn,
-  kindLength,
-  planeByte,
-  recordOf,
-}
-use Rattle.records.specs.declared.Record.{Record}
-use Rattle.records.specs.declared.Fault.the-variants.{UnknownMark, CutShort, OtherPlane}
-use Rattle.records.specs.declared.Listed.{Listed}
+use Rattle.lengths.specs.{Units.len, Units.ofFour, declared.Len.Len}
+use Rattle.codes.specs.declared.Plane.{Plane, the-variants.G17, the-variants.G18, the-variants.G19}
+use Rattle.records.specs.declared.{Kind.Kind, Record.Record, Fault.the-variants.UnknownMark, Fault.the-variants.CutShort, Fault.the-variants.OtherPlane, Listed.Listed}
 use Rattle.records.specs.declared.Listed.the-variants.{Next, End, Faulty}
+use Rattle.records.specs.declared.Kind.the-variants.{RP as rp, LN as ln, AR as ar, AL as al, DW as dw, SP as sp, SO as so, PA as pa, EN as en}
+use Rattle.records.specs.Layout.{markOf, hasPlane, headLength, numbersIn, kindLength, planeByte, recordOf}
 
 -- the kind whose mark stands at a place
 unfoldable pub marked : List ℕ → ℕ → Kind → Bool

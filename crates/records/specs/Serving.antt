@@ -1,16 +1,8 @@
 -- What only serves proofs: what the reader finds, as the code answers it, and what a writer leaves in a list.
-use mathlib.Core.Option.{Option, none, some}
+use Rattle.terms.specs.Common.{Option, none, some, ℕ, _+_, _≡_, List, length, sets}
 use Rattle.codes.specs.declared.Plane.{Plane}
-use Rattle.records.specs.declared.Kind.{Kind}
-use Rattle.records.specs.declared.KindFound.{KindFound}
-use Rattle.records.specs.declared.KindFound.the-variants.{Mark, NoMark}
-use Rattle.records.specs.declared.PlaneFound.{PlaneFound}
+use Rattle.records.specs.declared.{Kind.Kind, KindFound.KindFound, KindFound.the-variants.Mark, KindFound.the-variants.NoMark, PlaneFound.PlaneFound}
 use Rattle.records.specs.declared.PlaneFound.the-variants.{Byte, NoByte}
-use Prim.Native.Nat.{ℕ, _+_}
-use mathlib.Core.Path.{_≡_}
-use mathlib.Core.List.{List}
-use lib.ListN.{length}
-use lib.Seq.{sets}
 
 -- the same as the code answers it
 abbrev pub foundKind : KindFound → Option Kind

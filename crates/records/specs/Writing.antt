@@ -1,14 +1,7 @@
 -- What writing asks and leaves.
-use Prim.Native.Nat.{ℕ, _+_, _≤_}
-use mathlib.Core.List.{List, [], _∷_, map}
-use lib.ListN.{length}
-use Rattle.lengths.specs.View.{Short}
-use Rattle.lengths.specs.declared.Len.{Len}
-use Rattle.lengths.specs.declared.Point.{Point}
-use Rattle.lengths.specs.Near.{Near}
-use Rattle.records.specs.declared.Record.{Record}
-use Rattle.records.specs.Layout.{numbersOf, listBytes, roomOf}
-use Rattle.records.specs.Path.{recordMoved}
+use Rattle.terms.specs.Common.{ℕ, _+_, _≤_, List, [], _∷_, map, length}
+use Rattle.lengths.specs.{View.Short, declared.Len.Len, declared.Point.Point, Near.Near}
+use Rattle.records.specs.{declared.Record.Record, Layout.numbersOf, Layout.listBytes, Layout.roomOf, Path.recordMoved}
 
 -- "numbers are four bytes, little end first, signed": each of these is one that four bytes hold
 abbrev pub AllShort : List Len → Type 0

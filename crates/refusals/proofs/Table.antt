@@ -1,35 +1,9 @@
 -- The table of the sixteen refusals holds of the definition, row by row, by computation; every refusal has a row in it, at the
 -- place of its number.
-use Prim.Native.Nat.{ℕ, _-_, _≤_}
-use mathlib.Core.Path.{_≡_, refl, sym, _∙_, ap}
-use mathlib.Core.List.{List, map}
-use native.Mathlib.Omega.{arith}
-use lib.Dec.{lit≤}
-use lib.ListN.{getD}
-use Rattle.refusals.specs.Numbers.{numberOf}
-use Rattle.refusals.specs.Table.{rows}
-use Rattle.refusals.specs.Answers.{reportOf}
-use Rattle.refusals.specs.declared.Answer.{Answer}
-use Rattle.refusals.specs.declared.Answer.the-variants.{Done, Unfinished, Refused}
-use Rattle.refusals.specs.declared.Refusal.{Refusal}
-use Rattle.refusals.specs.declared.Refusal.the-variants.{
-  BadParameter,
-  AddressUndefined,
-  ParameterUndefined,
-  CannotExecute,
-  NumberNotFound,
-  NestOver,
-  TableOver,
-  DuplicateNumber,
-  LeavesTravel,
-  NoRoom,
-  FirstBlock,
-  BadSetup,
-  DataTooLong,
-  NoEnd,
-  Unreadable,
-  CentreTooFar,
-}
+use Rattle.terms.proofs.Common.{ℕ, _-_, _≤_, _≡_, refl, sym, _∙_, ap, List, map, arith, lit≤, getD}
+use Rattle.refusals.specs.{Numbers.numberOf, Table.rows, Answers.reportOf}
+use Rattle.refusals.specs.declared.{Answer.Answer, Answer.the-variants.Done, Answer.the-variants.Unfinished, Answer.the-variants.Refused, Refusal.Refusal}
+use Rattle.refusals.specs.declared.Refusal.the-variants.{BadParameter, AddressUndefined, ParameterUndefined, CannotExecute, NumberNotFound, NestOver, TableOver, DuplicateNumber, LeavesTravel, NoRoom, FirstBlock, BadSetup, DataTooLong, NoEnd, Unreadable, CentreTooFar}
 
 pub table-holds : map (λ row. numberOf (row .refusal)) rows ≡ map (λ row. row .number) rows
 table-holds = refl

@@ -1,9 +1,7 @@
 -- What a run answers, in document 01's words: "the records written so far", whatever became of it, and a refusal by its number.
-use Prim.Native.Nat.{ℕ}
-use Rattle.refusals.specs.declared.Answer.{Answer}
-use Rattle.refusals.specs.declared.Answer.the-variants.{Done, Unfinished, Refused}
-use Rattle.refusals.specs.declared.Place.{Place}
-use Rattle.refusals.specs.Numbers.{numberOf}
+use Rattle.terms.specs.Common.{ℕ}
+use Rattle.refusals.specs.declared.Answer.{Answer, the-variants.Done, the-variants.Unfinished, the-variants.Refused}
+use Rattle.refusals.specs.{declared.Place.Place, Numbers.numberOf}
 
 -- the count of records that an answer names
 abbrev pub countOf : Answer → ℕ

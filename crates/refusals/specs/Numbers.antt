@@ -1,24 +1,7 @@
 -- Document 01, "The sixteen refusals": each case's number. Table.antt has the table, and the promises name a refusal by this number.
-use Prim.Native.Nat.{ℕ}
+use Rattle.terms.specs.Common.{ℕ}
 use Rattle.refusals.specs.declared.Refusal.{Refusal}
-use Rattle.refusals.specs.declared.Refusal.the-variants.{
-  BadParameter,
-  AddressUndefined,
-  ParameterUndefined,
-  CannotExecute,
-  NumberNotFound,
-  NestOver,
-  TableOver,
-  DuplicateNumber,
-  LeavesTravel,
-  NoRoom,
-  FirstBlock,
-  BadSetup,
-  DataTooLong,
-  NoEnd,
-  Unreadable,
-  CentreTooFar,
-}
+use Rattle.refusals.specs.declared.Refusal.the-variants.{BadParameter, AddressUndefined, ParameterUndefined, CannotExecute, NumberNotFound, NestOver, TableOver, DuplicateNumber, LeavesTravel, NoRoom, FirstBlock, BadSetup, DataTooLong, NoEnd, Unreadable, CentreTooFar}
 
 abbrev pub numberOf : Refusal → ℕ
 numberOf BadParameter = 1

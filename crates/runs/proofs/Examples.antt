@@ -1,13 +1,9 @@
 -- What the rules give for the sample of document 01, for small runs and for arcs by their radius, by computation.
-use mathlib.Core.Path.{_≡_, refl}
-use mathlib.Core.List.{map}
-use Rattle.refusals.specs.Answers.{refusedWith, reportOf}
+use Rattle.terms.proofs.Common.{_≡_, refl, map}
+use Rattle.refusals.specs.{Answers.refusedWith, Answers.reportOf, declared.Answer.the-variants.Done}
 use Rattle.setup.specs.Examples.{setupT}
+use Rattle.runs.specs.{Walk.nowhere, Run.answerOf, Run.recordsOf, Run.standingOf, declared.Budget.the-variants.Whole, declared.Budget.the-variants.First}
 use Rattle.runs.specs.Examples.{roomT, sample, sampleRecords, tooFar, tooFarSettings, rows, answerOfRow, radiusArcs, recordsOfRow}
-use Rattle.runs.specs.Walk.{nowhere}
-use Rattle.runs.specs.Run.{answerOf, recordsOf, standingOf}
-use Rattle.refusals.specs.declared.Answer.the-variants.{Done}
-use Rattle.runs.specs.declared.Budget.the-variants.{Whole, First}
 use Rattle.runs.proofs.Opened.{opened}
 
 -- the seven blocks give eight records and `done 8`

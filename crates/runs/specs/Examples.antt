@@ -1,28 +1,16 @@
 -- Document 01, "Numbers to try": the sample of seven blocks with its list, and small runs of which the answer is known,
 -- under setup T. Document 02, #101: arcs by their radius, with their lists.
-use Prim.Native.Nat.{ℕ}
-use Prim.Native.String.{String}
-use mathlib.Core.Bool.{false}
-use mathlib.Core.List.{List, [], _∷_}
-use lib.IntN.{ℤ, pos, negsuc}
+use Rattle.terms.specs.Common.{ℕ, String, false, List, [], _∷_, ℤ, pos, negsuc}
 use Rattle.terms.specs.Terms.{bytes}
-use Rattle.lengths.specs.Units.{len}
+use Rattle.lengths.specs.{Units.len, declared.Point.Point}
 use Rattle.refusals.specs.Answers.{NumberedAnswer, done, notFinished, refusedWith, reportOf}
 use Rattle.codes.specs.declared.Motion.the-variants.{G01}
-use Rattle.codes.specs.declared.Plane.{Plane}
-use Rattle.codes.specs.declared.Plane.the-variants.{G17, G18}
-use Rattle.codes.specs.declared.Unit.the-variants.{Millimetre}
-use Rattle.codes.specs.declared.Distance.the-variants.{Incremental}
-use Rattle.codes.specs.declared.Return.the-variants.{ToInitial}
-use Rattle.lengths.specs.declared.Point.{Point}
+use Rattle.codes.specs.declared.{Plane.Plane, Plane.the-variants.G17, Plane.the-variants.G18, Unit.the-variants.Millimetre, Distance.the-variants.Incremental, Return.the-variants.ToInitial}
 use Rattle.setup.specs.Examples.{setupT}
-use Rattle.records.specs.declared.Arc.{Arc}
-use Rattle.records.specs.declared.Record.{Record}
+use Rattle.records.specs.declared.{Arc.Arc, Record.Record}
 use Rattle.records.specs.declared.Record.the-variants.{RP, LN, AR, AL, SP, SO, EN}
 use Rattle.settings.specs.declared.State.{State}
-use Rattle.runs.specs.Run.{answerOf, recordsOf}
-use Rattle.runs.specs.declared.Budget.{Budget}
-use Rattle.runs.specs.declared.Budget.the-variants.{Whole, First}
+use Rattle.runs.specs.{Run.answerOf, Run.recordsOf, declared.Budget.Budget, declared.Budget.the-variants.Whole, declared.Budget.the-variants.First}
 
 -- setup T's "list room 4,096 bytes"
 abbrev pub roomT : ℕ

@@ -1,30 +1,18 @@
 -- The run of a data set under a setup: "Order: 13, 12, 11; then per opening 1, 8, 7. Then, block by block".
-use Prim.Native.Nat.{ℕ, _+_}
-use mathlib.Core.Bool.{not}
-use mathlib.Core.List.{List, [], _∷_, map}
-use lib.Dec.{ltb}
-use lib.ListN.{length}
+use Rattle.terms.specs.Common.{ℕ, _+_, not, List, [], _∷_, map, ltb, length}
 use Rattle.terms.specs.Terms.{if_then_else_}
 use Rattle.lengths.specs.Units.{len}
-use Rattle.refusals.specs.declared.Refusal.{Refusal}
 use Rattle.refusals.specs.declared.Refusal.the-variants.{FirstBlock, BadSetup, DataTooLong}
-use Rattle.refusals.specs.declared.Place.{Place}
-use Rattle.setup.specs.declared.Setup.{Setup}
-use Rattle.setup.specs.Limits.{validSetup}
-use Rattle.setup.specs.Frame.{offset, startOf, bedOf, switchOn}
-use Rattle.records.specs.declared.Record.{Record}
-use Rattle.records.specs.Path.{recordMoved}
-use Rattle.settings.specs.declared.State.{State}
-use Rattle.settings.specs.Settings.{firstState, stateMoved}
+use Rattle.refusals.specs.declared.{Place.Place, Answer.Answer, Answer.the-variants.Done, Answer.the-variants.Unfinished, Answer.the-variants.Refused}
+use Rattle.setup.specs.{declared.Setup.Setup, Limits.validSetup, Frame.offset, Frame.startOf, Frame.bedOf, Frame.switchOn}
+use Rattle.records.specs.{declared.Record.Record, Path.recordMoved}
+use Rattle.settings.specs.{declared.State.State, Settings.firstState, Settings.stateMoved}
 use Rattle.blocks.specs.Machine.{machineOf}
 use Rattle.lines.specs.Blocks.{Block, blocksOf, closes}
 use Rattle.programs.specs.Openings.{Table, table, refusedAt, programsFrom, blocksAt}
+use Rattle.runs.specs.declared.{Budget.Budget, Standing.Standing}
 use Rattle.runs.specs.Walk.{Job, How, ended, returned, unfinished, Outcome, nowhere, just, walk, callees}
 use Rattle.runs.specs.Walk as Walk
-use Rattle.runs.specs.declared.Budget.{Budget}
-use Rattle.runs.specs.declared.Standing.{Standing}
-use Rattle.refusals.specs.declared.Answer.{Answer}
-use Rattle.refusals.specs.declared.Answer.the-variants.{Done, Unfinished, Refused}
 
 unfoldable pub firstOf : Setup → State
 firstOf s = firstState (startOf s) (len (s .feed)) (len (s .speed))

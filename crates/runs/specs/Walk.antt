@@ -1,26 +1,14 @@
 -- The walk through the blocks of a program: executed blocks, calls, budget and room.
-use Prim.Native.Nat.{ℕ, zero, suc, _+_, _-_}
-use mathlib.Core.Bool.{Bool, true, false, _&&_, _||_}
-use mathlib.Core.Option.{Option, none, some}
-use mathlib.Core.List.{List, [], _∷_, _++_}
-use lib.Dec.{eqb}
-use lib.ListN.{drop}
+use Rattle.terms.specs.Common.{ℕ, zero, suc, _+_, _-_, Bool, true, false, _&&_, _||_, Option, none, some, List, [], _∷_, _++_, eqb, drop}
 use Rattle.terms.specs.Terms.{if_then_else_}
-use Rattle.refusals.specs.declared.Refusal.{Refusal}
-use Rattle.refusals.specs.declared.Refusal.the-variants.{NoEnd}
-use Rattle.refusals.specs.declared.Place.{Place}
-use Rattle.records.specs.declared.Record.{Record}
-use Rattle.records.specs.Layout.{roomOf}
+use Rattle.refusals.specs.declared.{Refusal.Refusal, Refusal.the-variants.NoEnd, Place.Place}
+use Rattle.records.specs.{declared.Record.Record, Layout.roomOf}
 use Rattle.settings.specs.declared.State.{State}
-use Rattle.blocks.specs.Machine.{Machine}
-use Rattle.blocks.specs.declared.Control.{Control}
+use Rattle.blocks.specs.{Machine.Machine, declared.Control.Control, Exec.Verdict, Exec.refused, Exec.accepted, Exec.exec, Exec.callsIn}
 use Rattle.blocks.specs.declared.Control.the-variants.{On, Call, Back, Stop}
-use Rattle.blocks.specs.Exec.{Verdict, refused, accepted, exec, callsIn}
 use Rattle.lines.specs.Blocks.{Block, closes, opens, isSlashed}
-use Rattle.programs.specs.Openings.{placeOf, known, blocksAt}
-use Rattle.programs.specs.declared.Program.{Program}
-use Rattle.runs.specs.declared.Budget.{Budget}
-use Rattle.runs.specs.declared.Budget.the-variants.{Whole, First}
+use Rattle.programs.specs.{Openings.placeOf, Openings.known, Openings.blocksAt, declared.Program.Program}
+use Rattle.runs.specs.declared.Budget.{Budget, the-variants.Whole, the-variants.First}
 
 -- What stays as it is while a data set runs; `finish` is one past the last block, at the data length.
 pub record Job : Type 0 where

@@ -1,20 +1,10 @@
 -- How near the place is that a word leads to. Assumes nothing.
-use Prim.Native.Nat.{ℕ, _+_}
-use mathlib.Core.Bool.{true, false}
-use native.Mathlib.Omega.{arith}
+use Rattle.terms.proofs.Common.{ℕ, _+_, true, false, arith}
 use Rattle.terms.specs.Terms.{if_then_else_}
-use Rattle.lengths.specs.declared.Len.{Len}
-use Rattle.lengths.specs.Units.{_⊕_}
-use Rattle.lengths.specs.View.{Within}
-use Rattle.lengths.proofs.Laws.{sum-bal}
-use Rattle.codes.specs.declared.Distance.{Distance}
-use Rattle.codes.specs.declared.Distance.the-variants.{Absolute, Incremental}
-use Rattle.words.specs.declared.Given.{Given}
-use Rattle.lengths.specs.declared.Point.{Point}
-use Rattle.lengths.specs.Near.{Near}
-use Rattle.words.specs.declared.Values.{Values}
-use Rattle.settings.specs.Target.{base, aimed, target}
-use Rattle.settings.specs.Bounds.{Aims}
+use Rattle.lengths.{specs.declared.Len.Len, specs.Units._⊕_, specs.View.Within, specs.declared.Point.Point, specs.Near.Near, proofs.Laws.sum-bal}
+use Rattle.codes.specs.declared.Distance.{Distance, the-variants.Absolute, the-variants.Incremental}
+use Rattle.words.specs.declared.{Given.Given, Values.Values}
+use Rattle.settings.specs.{Target.base, Target.aimed, Target.target, Bounds.Aims}
 
 module _ {m : ℕ} (origin from : Len) (h : Within m (origin .v)) (k : Within m (from .v)) where
   pub base-near : (d : Distance) → Within m (base d origin from .v)

@@ -3,8 +3,7 @@ use Rattle.terms.proofs.Opened.{opened as terms-opened}
 use Rattle.lengths.proofs.Opened.{opened as lengths-opened}
 use Rattle.codes.proofs.Opened.{opened as codes-opened}
 use Rattle.words.proofs.Opened.{opened as words-opened}
-use Rattle.settings.specs.Settings.{firstModes, firstState, stateMoved, switched, orElse}
-use Rattle.settings.specs.Target.{base, aimed, target}
+use Rattle.settings.specs.{Settings.firstModes, Settings.firstState, Settings.stateMoved, Settings.switched, Settings.orElse, Target.base, Target.aimed, Target.target}
 
 unfoldable pub opened : Unit {0}
 unfolding

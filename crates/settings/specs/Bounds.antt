@@ -1,13 +1,9 @@
 -- The bounds that a run keeps in the frame of the common offset, under which every sum of this layer fits 64 bits, and what the
 -- functions on them answer.
-use mathlib.Core.Path.{_≡_}
-use Rattle.lengths.specs.declared.Len.{Len}
-use Rattle.lengths.specs.View.{Within}
+use Rattle.terms.specs.Common.{_≡_}
+use Rattle.lengths.specs.{declared.Len.Len, View.Within, declared.Point.Point, Near.Near}
 use Rattle.codes.specs.declared.Distance.{Distance}
-use Rattle.words.specs.declared.Given.{Given}
-use Rattle.words.specs.declared.Values.{Values}
-use Rattle.lengths.specs.declared.Point.{Point}
-use Rattle.lengths.specs.Near.{Near}
+use Rattle.words.specs.declared.{Given.Given, Values.Values}
 use Rattle.settings.specs.Target.{target}
 
 -- an axis' origin, the place that a word may count from, which is a point of the tool or a level that a word led to, and the word

@@ -1,19 +1,11 @@
 -- The settings of a run, and how codes and words change them.
-use mathlib.Core.Bool.{false}
+use Rattle.terms.specs.Common.{false}
 use Rattle.terms.specs.Terms.{if_then_else_}
-use Rattle.lengths.specs.declared.Len.{Len}
-use Rattle.codes.specs.declared.Motion.the-variants.{Off}
-use Rattle.codes.specs.declared.Plane.the-variants.{G17}
-use Rattle.codes.specs.declared.Unit.the-variants.{Millimetre}
-use Rattle.codes.specs.declared.Distance.the-variants.{Absolute}
-use Rattle.codes.specs.declared.Return.the-variants.{ToInitial}
-use Rattle.codes.specs.declared.Code.{Code}
+use Rattle.lengths.specs.{declared.Len.Len, declared.Point.Point, Points.moved}
+use Rattle.codes.specs.declared.{Motion.the-variants.Off, Plane.the-variants.G17, Unit.the-variants.Millimetre, Distance.the-variants.Absolute, Return.the-variants.ToInitial, Code.Code}
 use Rattle.codes.specs.declared.Code.the-variants.{GroupA, GroupB, GroupC, GroupD, GroupE, GroupF, G04, Unknown}
 use Rattle.words.specs.declared.Given.{Given}
-use Rattle.lengths.specs.declared.Point.{Point}
-use Rattle.lengths.specs.Points.{moved}
-use Rattle.settings.specs.declared.Modes.{Modes}
-use Rattle.settings.specs.declared.State.{State}
+use Rattle.settings.specs.declared.{Modes.Modes, State.State}
 
 -- "A run starts with no motion code, G17, G21, G54, G90, G98, spindle off. (H)"
 unfoldable pub firstModes : Modes

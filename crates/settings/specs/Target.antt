@@ -1,13 +1,9 @@
 -- Document 01, "G00, G01": where a word leads. "a missing axis stays. G91 adds to the current point." In the frame of the
 -- common offset a point is the selected origin plus the workpiece coordinate.
 use Rattle.terms.specs.Terms.{if_then_else_}
-use Rattle.lengths.specs.declared.Len.{Len}
-use Rattle.lengths.specs.Units.{_⊕_}
-use Rattle.codes.specs.declared.Distance.{Distance}
-use Rattle.codes.specs.declared.Distance.the-variants.{Absolute, Incremental}
-use Rattle.words.specs.declared.Given.{Given}
-use Rattle.words.specs.declared.Values.{Values}
-use Rattle.lengths.specs.declared.Point.{Point}
+use Rattle.lengths.specs.{declared.Len.Len, Units._⊕_, declared.Point.Point}
+use Rattle.codes.specs.declared.Distance.{Distance, the-variants.Absolute, the-variants.Incremental}
+use Rattle.words.specs.declared.{Given.Given, Values.Values}
 
 -- what a word counts from: its axis' origin in G90, where the axis is in G91
 unfoldable pub base : Distance → Len → Len → Len

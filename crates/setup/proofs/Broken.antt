@@ -1,27 +1,12 @@
 -- The first broken limit of lists one after the other, and of a setup that keeps them all. Assumes nothing.
-use Prim.Native.Nat.{ℕ, suc, _+_, _≤_, _<_}
-use mathlib.Core.Path.{_≡_, refl, sym, ap, ap₂, _∙_}
-use mathlib.Core.Bool.{Bool, true, false, false≢true, _&&_}
-use mathlib.Core.List.{List, [], _∷_, _++_}
-use native.Mathlib.Numerals.{add-one}
-use lib.ListN.{length, drop, getD, drop-of-length-le}
-use lib.Seq.{drop-cons}
+use Rattle.terms.proofs.Common.{ℕ, suc, _+_, _≤_, _<_, _≡_, refl, sym, ap, ap₂, _∙_, Bool, true, false, false≢true, _&&_, List, [], _∷_, _++_, add-one, length, drop, getD, drop-of-length-le, drop-cons, ℤ, leZ}
 use denote.Enum.Declared.{tagOf}
 use types.Run.{OneOf, miss}
-use lib.IntN.{ℤ}
-use lib.Signed.{leZ}
-use Rattle.terms.specs.Terms.{if_then_else_, all, between, within}
-use Rattle.terms.proofs.Laws.{both-left, both-right}
+use Rattle.terms.{specs.Terms.if_then_else_, specs.Terms.all, specs.Terms.between, specs.Terms.within, proofs.Laws.both-left, proofs.Laws.both-right}
 use Rattle.lengths.specs.declared.Point.{Point}
-use Rattle.setup.specs.declared.Axes.{Axes}
-use Rattle.setup.specs.declared.Setup.{Setup}
+use Rattle.setup.specs.{declared.Axes.Axes, declared.Setup.Setup, Frame.pointOf}
+use Rattle.setup.specs.declared.{Axis.Axis, Axis.the-variants.X, Axis.the-variants.Y, Axis.the-variants.Z, Offset.Offset, Offset.the-variants.Common, Offset.the-variants.Origin, Fault.Fault}
 use Rattle.setup.specs.Limits.{axisFits, travelLimit, travelFits, offsetLimit, axesWithin, offsetsFit, feedFits, rangeFits, speedFits, speedsFit, switchFits, validSetup}
-use Rattle.setup.specs.Frame.{pointOf}
-use Rattle.setup.specs.declared.Axis.{Axis}
-use Rattle.setup.specs.declared.Axis.the-variants.{X, Y, Z}
-use Rattle.setup.specs.declared.Offset.{Offset}
-use Rattle.setup.specs.declared.Offset.the-variants.{Common, Origin}
-use Rattle.setup.specs.declared.Fault.{Fault}
 use Rattle.setup.specs.declared.Fault.the-variants.{None, TravelOrder, TravelFar, StartOutside, OffsetFar, Feed, Speeds, Speed, Switch}
 use Rattle.setup.specs.Faults.{Limit, firstBroken, axisLimits, travelLimits, placeLimits, originLimits, numberLimits, limits, faultOf}
 use Rattle.setup.proofs.Fault.{the-type}

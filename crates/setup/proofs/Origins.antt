@@ -1,14 +1,7 @@
 -- The table of origins, turned into points one place after the other. Assumes nothing.
-use Prim.Native.Nat.{ℕ, suc, _+_, _≤_, _<_}
-use mathlib.Core.Path.{_≡_, refl, sym, _∙_}
-use mathlib.Core.List.{List, [], _∷_, _++_, map, append-assoc, append-nil}
-use native.Mathlib.Omega.{arith}
-use native.Mathlib.Numerals.{add-one}
-use lib.ListN.{length, take, drop, getD, set, length-set, drop-of-length-le}
-use lib.Seq.{take-all, take-suc-set, drop-cons}
+use Rattle.terms.proofs.Common.{ℕ, suc, _+_, _≤_, _<_, _≡_, refl, sym, _∙_, List, [], _∷_, _++_, map, append-assoc, append-nil, arith, add-one, length, take, drop, getD, set, length-set, drop-of-length-le, take-all, take-suc-set, drop-cons}
 use Rattle.lengths.specs.declared.Point.{Point}
-use Rattle.setup.specs.declared.Axes.{Axes}
-use Rattle.setup.specs.Frame.{pointOf}
+use Rattle.setup.specs.{declared.Axes.Axes, Frame.pointOf}
 
 -- the first i origins stand as points, and the rest is to come
 pub record Turned (origins : List Axes) (points : List Point) (i : ℕ) : Type 0 where

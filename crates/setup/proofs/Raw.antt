@@ -1,17 +1,8 @@
 -- A raw number of 64 bits as a length, and the tests of the limits on lengths. Assumes nothing.
-use Prim.Native.Nat.{ℕ}
-use mathlib.Core.Path.{_≡_, ap, _∙_}
-use native.Mathlib.Omega.{arith}
-use lib.Dec.{leb}
-use lib.IntN.{ℤ, pos, natAbs, _-ℤ_}
-use mir.Syntax.{w64}
-use mir.Val.{SFits, toZ, ofZ}
-use mir.Facts.{toZ-ofZ}
+use Rattle.terms.proofs.Common.{ℕ, _≡_, ap, _∙_, arith, leb, ℤ, pos, _-ℤ_}
+use mir.{Syntax.w64, Val.SFits, Val.toZ, Val.ofZ, Facts.toZ-ofZ}
 use Rattle.terms.specs.Terms.{within}
-use Rattle.lengths.specs.declared.Len.{Len}
-use Rattle.lengths.specs.Units.{len}
-use Rattle.lengths.specs.Serving.{Is, Apart, Counted}
-use Rattle.lengths.proofs.Laws.{view-eq, diff-bal}
+use Rattle.lengths.{specs.declared.Len.Len, specs.Units.len, specs.Serving.Is, specs.Serving.Apart, specs.Serving.Counted, proofs.Laws.view-eq, proofs.Laws.diff-bal}
 
 pub of-raw : (z : ℤ) (r : Len) → SFits w64 z → Is (toZ w64 (ofZ w64 z)) r → r ≡ len z
 of-raw z r f h = h .is ∙ ap len (toZ-ofZ f)

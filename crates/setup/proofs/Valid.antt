@@ -1,27 +1,12 @@
 -- What a setup that keeps the limits gives: bounds of its lengths, a fair bed, and a start inside the travel. Assumes
 -- nothing.
-use Prim.Native.Nat.{ℕ, zero, suc, _^_}
-use mathlib.Core.Path.{_≡_, _∙_}
-use mathlib.Core.Bool.{Bool, true, _&&_}
-use mathlib.Core.List.{List, [], _∷_, map}
-use native.Mathlib.Omega.{arith}
-use lib.IntN.{ℤ, pos, _+ℤ_, _-ℤ_}
-use lib.Signed.{leZ}
-use lib.ListN.{length, getD, length-map}
-use Rattle.terms.specs.Terms.{all, between, within}
-use Rattle.terms.proofs.Laws.{both-left, both-right}
-use Rattle.lengths.specs.Units.{len}
-use Rattle.lengths.specs.View.{Within}
-use Rattle.lengths.proofs.Laws.{view, sum-bal, diff-bal}
-use Rattle.lengths.proofs.Tests.{within-near}
-use Rattle.lengths.specs.declared.Point.{Point}
-use Rattle.lengths.specs.Points.{moved, movedBack, inside}
-use Rattle.lengths.specs.Near.{Near}
-use Rattle.setup.specs.declared.Axes.{Axes}
-use Rattle.setup.specs.declared.Setup.{Setup}
+use Rattle.terms.proofs.Common.{ℕ, zero, suc, _^_, _≡_, _∙_, Bool, true, _&&_, List, [], _∷_, map, arith, ℤ, pos, _+ℤ_, _-ℤ_, leZ, length, getD, length-map}
+use Rattle.terms.{specs.Terms.all, specs.Terms.between, specs.Terms.within, proofs.Laws.both-left, proofs.Laws.both-right}
+use Rattle.lengths.specs.{Units.len, View.Within, declared.Point.Point, Points.moved, Points.movedBack, Points.inside, Near.Near}
+use Rattle.lengths.proofs.{Laws.view, Laws.sum-bal, Laws.diff-bal, Tests.within-near}
+use Rattle.setup.specs.{declared.Axes.Axes, declared.Setup.Setup, Fair.Fair}
 use Rattle.setup.specs.Limits.{axisFits, travelFits, axesWithin, offsetsFit, feedFits, speedsFit, switchFits, validSetup}
 use Rattle.setup.specs.Frame.{pointOf, offset, startOf, travelOf, bedOf, originAt}
-use Rattle.setup.specs.Fair.{Fair}
 
 -- ---- one number
 

@@ -1,12 +1,7 @@
 -- Document 01, "Numbers to try": setup T. And setups at each limit of "Lengths and the setup" and one past it, each made
 -- from setup T by one change.
-use Prim.Native.Nat.{ℕ}
-use mathlib.Core.Bool.{Bool, true, false}
-use mathlib.Core.List.{List, [], _∷_, _++_}
-use lib.IntN.{ℤ, pos, negsuc, negℤ}
-use lib.ListN.{getD, set}
-use Rattle.setup.specs.declared.Axes.{Axes}
-use Rattle.setup.specs.declared.Setup.{Setup}
+use Rattle.terms.specs.Common.{ℕ, Bool, true, false, List, [], _∷_, _++_, ℤ, pos, negsuc, negℤ, getD, set}
+use Rattle.setup.specs.declared.{Axes.Axes, Setup.Setup}
 
 abbrev axes : ℤ → ℤ → ℤ → Axes
 axes x y z = record { x = x; y = y; z = z }

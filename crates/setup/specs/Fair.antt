@@ -1,12 +1,7 @@
 -- The bounds that every valid setup keeps, as linear facts, in the frame of the common offset.
-use Prim.Native.Nat.{ℕ}
-use mathlib.Core.Path.{_≡_}
-use lib.ListN.{length}
-use Rattle.lengths.specs.View.{Within}
-use Rattle.lengths.specs.Points.{moved}
-use Rattle.lengths.specs.Near.{Near}
-use Rattle.setup.specs.declared.Bed.{Bed}
-use Rattle.setup.specs.Frame.{originAt}
+use Rattle.terms.specs.Common.{ℕ, _≡_, length}
+use Rattle.lengths.specs.{View.Within, Points.moved, Near.Near}
+use Rattle.setup.specs.{declared.Bed.Bed, Frame.originAt}
 
 pub record Fair (b : Bed) : Type 0 where
   pub offset : Near 1_000_000_000 (b .offset)

@@ -1,20 +1,10 @@
 -- Which limit of document 01, "Lengths and the setup", a setup breaks first.
-use Prim.Native.Nat.{ℕ, suc}
-use mathlib.Core.Bool.{Bool}
-use mathlib.Core.List.{List, [], _∷_, _++_}
-use lib.IntN.{ℤ}
-use lib.Signed.{leZ}
+use Rattle.terms.specs.Common.{ℕ, suc, Bool, List, [], _∷_, _++_, ℤ, leZ}
 use Rattle.terms.specs.Terms.{if_then_else_, between, within}
 use Rattle.lengths.specs.declared.Point.{Point}
-use Rattle.setup.specs.declared.Axes.{Axes}
-use Rattle.setup.specs.declared.Setup.{Setup}
+use Rattle.setup.specs.{declared.Axes.Axes, declared.Setup.Setup, Frame.pointOf}
+use Rattle.setup.specs.declared.{Axis.Axis, Axis.the-variants.X, Axis.the-variants.Y, Axis.the-variants.Z, Offset.Offset, Offset.the-variants.Common, Offset.the-variants.Origin, Fault.Fault}
 use Rattle.setup.specs.Limits.{travelLimit, offsetLimit, feedFits, rangeFits, speedFits, switchFits}
-use Rattle.setup.specs.Frame.{pointOf}
-use Rattle.setup.specs.declared.Axis.{Axis}
-use Rattle.setup.specs.declared.Axis.the-variants.{X, Y, Z}
-use Rattle.setup.specs.declared.Offset.{Offset}
-use Rattle.setup.specs.declared.Offset.the-variants.{Common, Origin}
-use Rattle.setup.specs.declared.Fault.{Fault}
 use Rattle.setup.specs.declared.Fault.the-variants.{None, TravelOrder, TravelFar, StartOutside, OffsetFar, Feed, Speeds, Speed, Switch}
 
 -- a limit: whether it is kept, and what is said where it is not

@@ -1,19 +1,9 @@
 -- The frame of the common offset. "Machine point = EXOFS + selected origin + workpiece coordinate." The rules of a run
 -- speak of machine points less EXOFS, so that a point is the selected origin plus the workpiece coordinate. Only the
 -- travel and the step from a record to machine units know EXOFS.
-use Prim.Native.Nat.{ℕ}
-use mathlib.Core.Bool.{Bool}
-use mathlib.Core.List.{map}
-use lib.IntN.{pos}
-use lib.Signed.{ltZ}
-use lib.ListN.{getD}
-use Rattle.lengths.specs.Units.{len}
-use Rattle.lengths.specs.declared.Point.{Point}
-use Rattle.lengths.specs.declared.Travel.{Travel}
-use Rattle.lengths.specs.Points.{movedBack}
-use Rattle.setup.specs.declared.Axes.{Axes}
-use Rattle.setup.specs.declared.Setup.{Setup}
-use Rattle.setup.specs.declared.Bed.{Bed}
+use Rattle.terms.specs.Common.{ℕ, Bool, map, pos, ltZ, getD}
+use Rattle.lengths.specs.{Units.len, declared.Point.Point, declared.Travel.Travel, Points.movedBack}
+use Rattle.setup.specs.declared.{Axes.Axes, Setup.Setup, Bed.Bed}
 
 abbrev pub pointOf : Axes → Point
 pointOf a = record { x = len (a .x); y = len (a .y); z = len (a .z) }

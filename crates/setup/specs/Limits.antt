@@ -1,11 +1,7 @@
 -- Document 01, "Lengths and the setup": the limits that a setup keeps, or is refused with 12.
-use Prim.Native.Nat.{ℕ}
-use mathlib.Core.Bool.{Bool, _&&_}
-use lib.IntN.{ℤ, pos}
-use lib.Signed.{leZ}
+use Rattle.terms.specs.Common.{ℕ, Bool, _&&_, ℤ, pos, leZ}
 use Rattle.terms.specs.Terms.{all, between, within}
-use Rattle.setup.specs.declared.Axes.{Axes}
-use Rattle.setup.specs.declared.Setup.{Setup}
+use Rattle.setup.specs.declared.{Axes.Axes, Setup.Setup}
 
 -- "a low and high travel, low not above high, both within ±100,000,000; a start point inside the travel", of one axis
 abbrev pub travelLimit : ℕ

@@ -1,32 +1,15 @@
 -- How a setup file is read, number by number. Assumes nothing.
-use Prim.Native.Nat.{ℕ, zero, suc, _+_, _-_, _≤_, _<_}
-use mathlib.Core.Path.{_≡_, refl, sym, ap, _∙_}
-use mathlib.Core.Bool.{Bool, true, false, _&&_, _||_}
-use mathlib.Core.List.{List, [], _∷_, _++_, map, append-assoc, append-nil}
-use native.Mathlib.Omega.{arith}
-use native.Mathlib.Numerals.{add-one}
-use lib.Dec.{leb, ltb}
-use lib.ListN.{length, take, drop, getD, set, length-set, drop-of-length-le, List·getD-map}
-use lib.Seq.{slice, drop-cons, take-all, take-suc-set}
-use borrow.Author.Tests.{le-leb, lt-leb, leb-true, ltb-true, ne-eqb}
-use Rattle.terms.specs.Terms.{if_then_else_, bytes, fromTo}
-use Rattle.terms.proofs.Laws.{both-left, both-right, every-place}
+use Rattle.terms.proofs.Common.{ℕ, zero, suc, _+_, _-_, _≤_, _<_, _≡_, refl, sym, ap, _∙_, Bool, true, false, _||_, List, [], _∷_, _++_, append-assoc, append-nil, arith, add-one, leb, ltb, length, take, drop, getD, set, length-set, drop-of-length-le, List·getD-map, slice, drop-cons, take-all, take-suc-set, le-leb, lt-leb, leb-true, ltb-true, ne-eqb}
+use Rattle.terms.{specs.Terms.if_then_else_, specs.Terms.bytes, specs.Terms.fromTo, proofs.Laws.both-left, proofs.Laws.every-place}
 use Rattle.lengths.specs.declared.Len.{Len}
 use Rattle.lines.proofs.Lines.{at-place}
 use Rattle.setup.specs.declared.Setup.{Setup}
 use Rattle.words.specs.Numbers.{run, signOf, signLength}
-use Rattle.texts.specs.Texts.{next, inWord, wordAt, sameBytes, isLettered}
-use Rattle.texts.specs.Figures.{digitsIn, worthBy, worthOf}
-use Rattle.setups.specs.Setups.{names, nameOf, plan, isNamed, wrongIn, nameAt, placed, numberAt, numberBy, entryAt, Numbers, these, faulty, prepend, entryThen, ended, numbersFrom, setupOf, refused, answered, setupIn}
-use Rattle.texts.specs.declared.Wrong.{Wrong}
+use Rattle.texts.specs.{Texts.next, Texts.inWord, Texts.wordAt, Texts.sameBytes, Texts.isLettered, Figures.digitsIn, Figures.worthBy, Figures.worthOf, declared.Wrong.Wrong, declared.Worth.Worth}
+use Rattle.texts.{specs.declared.Worth.the-variants.Fit, specs.declared.Worth.the-variants.Unfit, proofs.Places.standing, proofs.Places.nothing-there, proofs.Places.same-lengths}
 use Rattle.texts.specs.declared.Wrong.the-variants.{Nothing, OtherName, TooFew, TooMuch}
-use Rattle.texts.specs.declared.Worth.{Worth}
-use Rattle.texts.specs.declared.Worth.the-variants.{Fit, Unfit}
-use Rattle.setups.specs.declared.Passed.{Passed}
-use Rattle.setups.specs.declared.Passed.the-variants.{To, Not}
-use Rattle.setups.specs.declared.Entry.the-variants.{Is, Bad}
-use Rattle.setups.specs.declared.Reading.{Reading}
-use Rattle.texts.proofs.Places.{standing, nothing-there, same-lengths}
+use Rattle.setups.specs.declared.{Passed.Passed, Passed.the-variants.To, Passed.the-variants.Not, Entry.the-variants.Is, Entry.the-variants.Bad}
+use Rattle.setups.specs.Setups.{names, nameOf, plan, isNamed, wrongIn, nameAt, placed, numberAt, numberBy, entryAt, Numbers, these, faulty, prepend, entryThen, ended, numbersFrom, setupOf, refused, answered, setupIn}
 
 -- ---- the first word
 

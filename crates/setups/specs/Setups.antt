@@ -1,28 +1,13 @@
 -- A setup file. Its words are 35 numbers in the order of the setup, and nothing else; or the same with a name before the
 -- first number of each group. A file is named where its first word begins with a small letter, and then every name stands.
-use Prim.Native.Nat.{ℕ, _+_, _-_, _/_, _%_}
-use Prim.Native.String.{String}
-use mathlib.Core.Bool.{Bool, true, false}
-use mathlib.Core.List.{List, [], _∷_, _++_, map}
-use lib.Dec.{leb, eqb}
-use lib.IntN.{ℤ, pos}
-use lib.ListN.{length, getD}
+use Rattle.terms.specs.Common.{ℕ, _+_, _-_, _/_, _%_, String, Bool, true, false, List, [], _∷_, _++_, map, leb, eqb, ℤ, pos, length, getD}
 use Rattle.terms.specs.Terms.{if_then_else_, bytes}
-use Rattle.lengths.specs.declared.Len.{Len}
-use Rattle.lengths.specs.Units.{len}
-use Rattle.setup.specs.declared.Axes.{Axes}
-use Rattle.setup.specs.declared.Setup.{Setup}
-use Rattle.texts.specs.Texts.{next, wordAt, sameBytes, isLettered}
-use Rattle.texts.specs.Figures.{worthOf}
-use Rattle.texts.specs.declared.Wrong.{Wrong}
+use Rattle.lengths.specs.{declared.Len.Len, Units.len}
+use Rattle.setup.specs.declared.{Axes.Axes, Setup.Setup}
+use Rattle.texts.specs.{Texts.next, Texts.wordAt, Texts.sameBytes, Texts.isLettered, Figures.worthOf, declared.Wrong.Wrong}
+use Rattle.texts.specs.declared.Worth.{Worth, the-variants.Fit, the-variants.Unfit}
 use Rattle.texts.specs.declared.Wrong.the-variants.{Nothing, OtherName, TooFew, TooMuch}
-use Rattle.texts.specs.declared.Worth.{Worth}
-use Rattle.texts.specs.declared.Worth.the-variants.{Fit, Unfit}
-use Rattle.setups.specs.declared.Passed.{Passed}
-use Rattle.setups.specs.declared.Passed.the-variants.{To, Not}
-use Rattle.setups.specs.declared.Entry.{Entry}
-use Rattle.setups.specs.declared.Entry.the-variants.{Is, Bad}
-use Rattle.setups.specs.declared.Reading.{Reading}
+use Rattle.setups.specs.declared.{Passed.Passed, Passed.the-variants.To, Passed.the-variants.Not, Entry.Entry, Entry.the-variants.Is, Entry.the-variants.Bad, Reading.Reading}
 
 -- ---- the order of the numbers
 

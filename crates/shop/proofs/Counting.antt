@@ -1,13 +1,6 @@
 -- The lines before a place of a text, counted byte by byte. Assumes nothing.
-use Prim.Native.Nat.{ℕ, _+_, _≤_, _<_}
-use mathlib.Core.Path.{_≡_, refl, _∙_}
-use mathlib.Core.List.{List, _∷_}
-use native.Mathlib.Omega.{arith}
-use lib.ListN.{length, take, drop, getD, drop-of-length-le, length-take}
-use lib.Seq.{getD-take}
-use borrow.Author.Tests.{eq-eqb, ne-eqb}
-use Rattle.lines.specs.Blocks.{isLf}
-use Rattle.lines.proofs.Lines.{at-place}
+use Rattle.terms.proofs.Common.{ℕ, _+_, _≤_, _<_, _≡_, refl, _∙_, List, _∷_, arith, length, take, drop, getD, drop-of-length-le, length-take, getD-take, eq-eqb, ne-eqb}
+use Rattle.lines.{specs.Blocks.isLf, proofs.Lines.at-place}
 use Rattle.words.specs.Numbers.{count}
 use Rattle.shop.specs.Knowing.{lineOf}
 

@@ -1,10 +1,8 @@
 -- What the words of a command ask for.
-use Prim.Native.Nat.{ℕ}
-use mathlib.Core.List.{List}
+use Rattle.terms.specs.Common.{ℕ, List}
 use Rattle.terms.specs.Terms.{if_then_else_, bytes}
 use Rattle.texts.specs.Texts.{sameBytes}
-use Rattle.shop.specs.declared.Asked.{Asked}
-use Rattle.shop.specs.declared.Asked.the-variants.{Run, Show, Plot, Check, Other}
+use Rattle.shop.specs.declared.Asked.{Asked, the-variants.Run, the-variants.Show, the-variants.Plot, the-variants.Check, the-variants.Other}
 
 -- the command that a first word names
 unfoldable pub askedBy : List ℕ → Asked

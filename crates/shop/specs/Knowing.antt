@@ -1,8 +1,5 @@
 -- What a setup file's text is worth to a command, and the line of a place in it.
-use Prim.Native.Nat.{ℕ, _+_}
-use mathlib.Core.Bool.{Bool, _&&_}
-use mathlib.Core.List.{List}
-use lib.ListN.{take}
+use Rattle.terms.specs.Common.{ℕ, _+_, Bool, _&&_, List, take}
 use Rattle.lines.specs.Blocks.{isLf}
 use Rattle.words.specs.Numbers.{count}
 use Rattle.texts.specs.Texts.{noneWrong}

@@ -1,14 +1,8 @@
 -- An arc that is drawn: its quarters and its extremes one by one. Assumes nothing.
-use Prim.Native.Nat.{ℕ, zero, suc, _-_, _≤_, _<_}
-use mathlib.Core.Path.{_≡_}
-use mathlib.Core.Bool.{true, false}
-use mathlib.Core.List.{List}
-use native.Mathlib.Omega.{arith}
+use Rattle.terms.proofs.Common.{ℕ, zero, suc, _-_, _≤_, _<_, _≡_, true, false, List, arith}
 use Rattle.terms.specs.Terms.{bytes}
 use Rattle.lengths.specs.declared.Flat.{Flat}
-use Rattle.svg.specs.Text.{Fills, filled}
-use Rattle.svg.specs.Turns.{quarterOn, soon}
-use Rattle.svg.specs.declared.SeenArc.{SeenArc}
+use Rattle.svg.specs.{Text.Fills, Text.filled, Turns.quarterOn, Turns.soon, declared.SeenArc.SeenArc}
 use Rattle.svg.specs.ArcText.{piece, seenOn, quarters, passes, extreme, extremes}
 use Rattle.svg.proofs.Filled.{fills-then, fills-none}
 

@@ -1,12 +1,5 @@
 -- Texts with blanks, byte by byte. Assumes nothing.
-use Prim.Native.Nat.{ℕ, suc, _+_, _≤_, _<_}
-use mathlib.Core.Path.{_≡_}
-use mathlib.Core.Logic.{_≢_}
-use mathlib.Core.List.{List, [], _∷_}
-use native.Mathlib.Numerals.{add-one}
-use borrow.Author.Tests.{eq-eqb, ne-eqb}
-use lib.ListN.{length, getD, drop, drop-of-length-le}
-use lib.Seq.{drop-cons}
+use Rattle.terms.proofs.Common.{ℕ, _+_, _≤_, _<_, _≡_, _≢_, List, [], _∷_, add-one, eq-eqb, ne-eqb, length, getD, drop, drop-of-length-le, drop-cons}
 use Rattle.lengths.specs.declared.Flat.{Flat}
 use Rattle.svg.specs.Text.{Fills, number, across, filled}
 use Rattle.svg.proofs.Filled.{fills-then, fills-none}

@@ -1,17 +1,7 @@
 -- Numbers as text, as the functions write them. Assumes nothing.
-use Prim.Native.Nat.{ℕ, zero, suc, _+_, _-_, _/_, _%_, _≤_, _<_}
-use mathlib.Core.Path.{_≡_, refl, ap}
-use mathlib.Core.Logic.{_≢_}
-use mathlib.Core.Bool.{true, false}
-use mathlib.Core.List.{List, [], _∷_, _++_}
-use native.Mathlib.Omega.{arith}
-use borrow.Author.Tests.{lt-ltb, le-ltb, ltb-true}
-use lib.IntN.{ℤ, pos, negsuc}
-use lib.Signed.{ltZ}
+use Rattle.terms.proofs.Common.{ℕ, zero, suc, _+_, _-_, _/_, _%_, _≤_, _<_, _≡_, refl, ap, _≢_, true, false, List, [], _∷_, _++_, arith, lt-ltb, le-ltb, ltb-true, ℤ, pos, negsuc, ltZ}
 use Rattle.terms.specs.Terms.{bytes}
-use Rattle.lengths.specs.declared.Len.{Len}
-use Rattle.lengths.specs.Units.{len}
-use Rattle.lengths.specs.Serving.{Apart, Counted}
+use Rattle.lengths.specs.{declared.Len.Len, Units.len, Serving.Apart, Serving.Counted}
 use Rattle.svg.specs.Text.{Fills, digits, decimal, number}
 use Rattle.svg.proofs.Filled.{fills-none}
 

@@ -1,13 +1,5 @@
 -- Laws of writing bytes over a buffer as far as it goes. Assumes nothing.
-use Prim.Native.Nat.{ℕ, suc, _+_, _-_, _≤_, _<_}
-use mathlib.Core.Path.{_≡_, refl, sym, ap, _∙_}
-use mathlib.Core.List.{List, [], _∷_, _++_, append-assoc}
-use native.Mathlib.Omega.{arith}
-use mathlib.Core.Bool.{Bool, true, false}
-use borrow.Author.Tests.{leb-true, leb-false}
-use lib.Dec.{leb}
-use lib.ListN.{length, getD, take, length-append}
-use lib.Seq.{sets, length-sets, set-out, take-suc}
+use Rattle.terms.proofs.Common.{ℕ, suc, _+_, _≤_, _<_, _≡_, refl, sym, ap, _∙_, List, [], _∷_, _++_, append-assoc, arith, Bool, true, false, leb-true, leb-false, leb, length, getD, take, length-append, sets, length-sets, set-out, take-suc}
 use Rattle.records.proofs.Written.{sets-append}
 use Rattle.svg.specs.Text.{Fills}
 

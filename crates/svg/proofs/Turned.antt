@@ -1,24 +1,11 @@
 -- What the numbers of an arc that is drawn give. Assumes nothing.
-use Prim.Native.Nat.{_-_, _≤_}
-use mathlib.Core.Path.{_≡_}
-use mathlib.Core.Bool.{Bool, true, _&&_}
-use native.Mathlib.Omega.{arith}
-use lib.IntN.{_-ℤ_}
+use Rattle.terms.proofs.Common.{_≤_, _≡_, Bool, true, _&&_, arith, _-ℤ_}
 use Rattle.terms.proofs.Laws.{both-left, both-right}
-use Rattle.lengths.specs.declared.Len.{Len}
-use Rattle.lengths.specs.Units.{fitsFour}
-use Rattle.lengths.specs.View.{Within}
-use Rattle.lengths.proofs.Laws.{diff-bal}
-use Rattle.lengths.proofs.Tests.{within-near}
-use Rattle.lengths.proofs.Four.{four-short}
-use Rattle.lengths.specs.declared.Point.{Point}
-use Rattle.lengths.specs.Points.{flat}
+use Rattle.lengths.specs.{declared.Len.Len, Units.fitsFour, View.Within, declared.Point.Point, Points.flat}
+use Rattle.lengths.proofs.{Laws.diff-bal, Tests.within-near, Four.four-short}
 use Rattle.records.specs.declared.Arc.{Arc}
-use Rattle.arcs.specs.Root.{Root, root}
-use Rattle.arcs.specs.Arcs.{centreOf, distance², radius²}
-use Rattle.arcs.specs.Bounds.{Close}
-use Rattle.arcs.proofs.Root.{root-is, square-lt}
-use Rattle.arcs.proofs.Reach.{distance-near}
+use Rattle.arcs.specs.{Root.Root, Root.root, Arcs.centreOf, Arcs.distance², Arcs.radius², Bounds.Close}
+use Rattle.arcs.proofs.{Root.root-is, Root.square-lt, Reach.distance-near}
 use Rattle.svg.specs.Turns.{radiusOf, near, drawable, Drawable}
 
 near-close : (a b : Len) → near a b ≡ true → Close 1_500_000_000 b a

@@ -1,27 +1,12 @@
 -- "Arcs as arcs": an arc as SVG text, in units, seen from above or from the side.
-use Prim.Native.Nat.{ℕ, zero, suc}
-use mathlib.Core.Bool.{Bool, true, false, not}
-use mathlib.Core.List.{List, []}
-use lib.IntN.{pos}
+use Rattle.terms.specs.Common.{ℕ, zero, suc, Bool, true, false, not, List, [], pos}
 use Rattle.terms.specs.Terms.{if_then_else_, bytes}
-use Rattle.lengths.specs.declared.Len.{Len}
-use Rattle.lengths.specs.Units.{len}
-use Rattle.lengths.specs.View.{Within}
-use Rattle.codes.specs.declared.Plane.{Plane}
-use Rattle.codes.specs.declared.Plane.the-variants.{G17, G18, G19}
-use Rattle.lengths.specs.declared.Point.{Point}
-use Rattle.lengths.specs.declared.Flat.{Flat}
-use Rattle.lengths.specs.Points.{flat}
+use Rattle.lengths.specs.{Units.len, View.Within, declared.Point.Point, declared.Flat.Flat, Points.flat}
+use Rattle.codes.specs.declared.Plane.{Plane, the-variants.G17, the-variants.G18, the-variants.G19}
 use Rattle.records.specs.declared.Arc.{Arc}
-use Rattle.arcs.specs.Turning.{direction, onLeftWay}
-use Rattle.arcs.specs.Arcs.{centreOf, towards}
-use Rattle.arcs.specs.Bounds.{Small}
-use Rattle.svg.specs.declared.View.{View}
-use Rattle.svg.specs.declared.View.the-variants.{Above, Side}
-use Rattle.svg.specs.Text.{_⧺_, filled}
-use Rattle.svg.specs.Lines.{seenFrom, line}
+use Rattle.arcs.specs.{Turning.direction, Turning.onLeftWay, Arcs.centreOf, Arcs.towards, Bounds.Small}
+use Rattle.svg.specs.{declared.View.View, declared.View.the-variants.Above, declared.View.the-variants.Side, Text._⧺_, Text.filled, Lines.seenFrom, Lines.line, declared.SeenArc.SeenArc}
 use Rattle.svg.specs.Turns.{quarterOn, soon, pointOn, radiusOf, drawable, Drawable}
-use Rattle.svg.specs.declared.SeenArc.{SeenArc}
 
 -- an arc is seen round from above in G17, and from the side in G18
 unfoldable pub isRound : View → Plane → Bool

@@ -1,12 +1,8 @@
 -- Points seen from above or from the side, and lines as SVG text, in units.
-use Prim.Native.Nat.{ℕ}
-use mathlib.Core.List.{List}
+use Rattle.terms.specs.Common.{ℕ, List}
 use Rattle.terms.specs.Terms.{bytes}
-use Rattle.lengths.specs.declared.Point.{Point}
-use Rattle.lengths.specs.declared.Flat.{Flat}
-use Rattle.svg.specs.declared.View.{View}
-use Rattle.svg.specs.declared.View.the-variants.{Above, Side}
-use Rattle.svg.specs.Text.{filled}
+use Rattle.lengths.specs.declared.{Point.Point, Flat.Flat}
+use Rattle.svg.specs.{declared.View.View, declared.View.the-variants.Above, declared.View.the-variants.Side, Text.filled}
 
 -- "the path seen from above and from the side": X to the right, and Y or Z up
 unfoldable pub seenFrom : View → Point → Flat

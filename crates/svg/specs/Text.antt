@@ -1,13 +1,6 @@
 -- Text written into a buffer that may be too short for it, and numbers as text.
-use Prim.Native.Nat.{ℕ, zero, suc, _+_, _-_, _/_, _%_}
-use mathlib.Core.Path.{_≡_}
-use mathlib.Core.List.{List, [], _∷_, _++_}
-use lib.Dec.{ltb, eqb}
-use lib.IntN.{ℤ, pos, negsuc}
-use lib.ListN.{length}
-use lib.Seq.{sets}
+use Rattle.terms.specs.Common.{ℕ, zero, suc, _+_, _-_, _/_, _%_, _≡_, List, [], _∷_, _++_, ltb, eqb, ℤ, pos, negsuc, length, sets}
 use Rattle.terms.specs.Terms.{if_then_else_, bytes}
-use Rattle.lengths.specs.declared.Len.{Len}
 use Rattle.lengths.specs.declared.Flat.{Flat}
 
 -- Bytes written over a buffer from a place on, as far as the buffer goes, every other byte as it was; and the place after

@@ -1,22 +1,10 @@
 -- The turn of an arc: quarters of it, the points where they lead, and which arcs have numbers that leave room for that.
-use Prim.Native.Nat.{ℕ}
-use mathlib.Core.Bool.{Bool, true, false, not, _&&_}
-use lib.Dec.{leb}
-use lib.IntN.{negℤ, natAbs, _-ℤ_}
+use Rattle.terms.specs.Common.{ℕ, Bool, true, false, not, _&&_, leb, negℤ, natAbs, _-ℤ_}
 use Rattle.terms.specs.Terms.{if_then_else_}
-use Rattle.lengths.specs.declared.Len.{Len}
-use Rattle.lengths.specs.Units.{len, _⊕_, fitsFour}
-use Rattle.lengths.specs.View.{Short}
-use Rattle.codes.specs.declared.Plane.{Plane}
-use Rattle.codes.specs.declared.Plane.the-variants.{G17, G18, G19}
-use Rattle.lengths.specs.declared.Point.{Point}
-use Rattle.lengths.specs.declared.Flat.{Flat}
-use Rattle.lengths.specs.Points.{flat}
+use Rattle.lengths.specs.{declared.Len.Len, Units.len, Units._⊕_, Units.fitsFour, View.Short, declared.Point.Point, declared.Flat.Flat, Points.flat}
+use Rattle.codes.specs.declared.Plane.{Plane, the-variants.G17, the-variants.G18, the-variants.G19}
 use Rattle.records.specs.declared.Arc.{Arc}
-use Rattle.arcs.specs.Root.{root}
-use Rattle.arcs.specs.Turning.{left}
-use Rattle.arcs.specs.Arcs.{centreOf, radius²}
-use Rattle.arcs.specs.Bounds.{Reach}
+use Rattle.arcs.specs.{Root.root, Turning.left, Arcs.centreOf, Arcs.radius², Bounds.Reach}
 
 -- a direction, a quarter of a turn on: to the left where `turn` is true, else to the right
 unfoldable pub quarterOn : Bool → Flat → Flat

@@ -1,11 +1,5 @@
 -- What the words of the definitions mean, at small numbers, by computation.
-use Prim.Native.Nat.{ℕ}
-use mathlib.Core.Path.{_≡_, refl}
-use mathlib.Core.Bool.{true, false}
-use mathlib.Core.Option.{none, some}
-use mathlib.Core.List.{[], _∷_, map}
-use lib.Dec.{leb}
-use lib.IntN.{pos, negsuc}
+use Rattle.terms.proofs.Common.{ℕ, _≡_, refl, true, false, none, some, [], _∷_, map, leb, pos, negsuc}
 use Rattle.terms.specs.Terms.{firstOf, when, first, any, all, stands, lookup, fromTo, between, within}
 use Rattle.terms.proofs.Opened.{opened}
 

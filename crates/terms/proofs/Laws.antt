@@ -1,14 +1,6 @@
 -- Laws of the words that definitions are written in.
-use Prim.Native.Nat.{ℕ, zero, suc, _+_, _≤_, _<_}
-use mathlib.Core.Path.{_≡_, refl, sym, _∙_, ap}
-use mathlib.Core.List.{List, [], _∷_, _++_}
-use native.Mathlib.Nat.{add-zero, zero-add}
-use native.Mathlib.Omega.{arith}
-use native.Mathlib.Numerals.{add-one}
-use lib.ListN.{length, drop, getD, drop-of-length-le}
-use lib.Seq.{drop-cons}
+use Rattle.terms.proofs.Common.{ℕ, zero, suc, _+_, _≤_, _<_, _≡_, refl, sym, _∙_, ap, List, [], _∷_, _++_, add-zero, zero-add, arith, add-one, length, drop, getD, drop-of-length-le, drop-cons, Bool, true, false, false≢true, _&&_, _||_, or-false, or-true, or-assoc}
 use Rattle.terms.specs.Terms.{any, all}
-use mathlib.Core.Bool.{Bool, true, false, false≢true, _&&_, _||_, or-false, or-true, or-assoc}
 
 -- the halves of two tests that both passed
 pub both-left : (a b : Bool) → (a && b) ≡ true → a ≡ true

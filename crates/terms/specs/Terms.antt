@@ -1,14 +1,6 @@
 -- The words that the definitions of every layer are written in.
-use Prim.Native.Nat.{ℕ}
-use Prim.Native.Char.{Char, code}
-use Prim.Native.String.{String}
+use Rattle.terms.specs.Common.{ℕ, Char, code, String, Bool, true, false, _&&_, _||_, Option, none, some, List, [], _∷_, leb, eqb, ℤ, natAbs, leZ}
 use Prim.Native.String as Text
-use mathlib.Core.Bool.{Bool, true, false, _&&_, _||_}
-use mathlib.Core.Option.{Option, none, some}
-use mathlib.Core.List.{List, [], _∷_}
-use lib.Dec.{leb, eqb}
-use lib.IntN.{ℤ, natAbs}
-use lib.Signed.{leZ}
 
 -- A choice by a test. Only the branch that is taken is looked into.
 infixr 1 if_then_else_

@@ -1,21 +1,9 @@
 -- The gaps and the words of a setup file by their places. Assumes nothing.
-use Prim.Native.Nat.{ℕ, suc, _+_, _-_, _≤_, _<_}
-use mathlib.Core.Path.{_≡_, refl, sym, ap, _∙_}
-use mathlib.Core.Bool.{Bool, true, false, _&&_}
-use mathlib.Core.List.{List, [], _∷_}
-use native.Mathlib.Omega.{arith}
-use native.Mathlib.Numerals.{add-one}
-use native.Mathlib.Decide.{decLt}
-use lib.Dec.{eqb}
-use lib.ListN.{length, take, drop, getD, drop-of-length-le, length-drop}
-use lib.Seq.{slice, slice-cons, slice-empty, length-slice, length-take-le, drop-cons, drop-length, drop-at, take-add}
-use borrow.Author.Tests.{eq-eqb, ne-eqb}
+use Rattle.terms.proofs.Common.{ℕ, suc, _+_, _-_, _≤_, _<_, _≡_, refl, sym, ap, _∙_, Bool, true, false, _&&_, List, [], _∷_, arith, add-one, decLt, eqb, length, take, drop, getD, drop-of-length-le, length-drop, slice, slice-cons, slice-empty, length-slice, length-take-le, drop-cons, drop-at, take-add, eq-eqb, ne-eqb}
 use Rattle.terms.specs.Terms.{if_then_else_}
 use Rattle.lines.proofs.Lines.{at-place}
-use Rattle.words.specs.Numbers.{run}
-use Rattle.words.proofs.Numbers.{run-short}
-use Rattle.texts.specs.Texts.{spaceOf, gapBy, gap, inWord, wordAt, sameBytes}
-use Rattle.texts.specs.declared.Space.the-variants.{Gap, Word}
+use Rattle.words.{specs.Numbers.run, proofs.Numbers.run-short}
+use Rattle.texts.specs.{Texts.spaceOf, Texts.gapBy, Texts.gap, Texts.inWord, Texts.wordAt, Texts.sameBytes, declared.Space.the-variants.Gap, declared.Space.the-variants.Word}
 
 -- ---- the gap before a word
 

@@ -1,27 +1,10 @@
 -- What a word is worth as a number, digit by digit. Assumes nothing.
-use Prim.Native.Nat.{ℕ, suc, _+_, _-_, _*_, _^_, _≤_, _<_}
-use mathlib.Core.Path.{_≡_, sym, ap, _∙_}
-use mathlib.Core.Bool.{Bool, true, false, and-false}
-use mathlib.Core.List.{List, [], _∷_}
-use native.Mathlib.Omega.{arith}
-use native.Mathlib.Nat.{pow-le-pow-right}
-use native.Mathlib.Numerals.{add-one}
-use lib.Dec.{leb}
-use lib.ListN.{length, take, getD}
-use lib.Seq.{slice, slice-cons, slice-empty, length-slice, drop-drop}
-use borrow.Author.Tests.{le-leb, lt-leb}
+use Rattle.terms.proofs.Common.{ℕ, suc, _+_, _-_, _*_, _^_, _≤_, _<_, _≡_, sym, ap, _∙_, Bool, true, false, and-false, List, [], _∷_, arith, pow-le-pow-right, add-one, leb, length, take, getD, slice, slice-cons, slice-empty, length-slice, drop-drop, le-leb, lt-leb}
 use Rattle.terms.specs.Terms.{if_then_else_, all}
-use Rattle.words.specs.Numbers.{isDigit, signOf, signLength, digitsAfter}
-use Rattle.words.specs.Values.{signed}
-use Rattle.words.proofs.Numbers.{sign-first, ten-more}
-use Rattle.words.specs.declared.Sign.{Sign}
-use Rattle.words.specs.declared.Sign.the-variants.{Plain, Plus, Minus}
+use Rattle.words.specs.{Numbers.isDigit, Numbers.signOf, Numbers.signLength, Numbers.digitsAfter, Values.signed, declared.Sign.Sign}
+use Rattle.words.{specs.declared.Sign.the-variants.Plain, specs.declared.Sign.the-variants.Plus, specs.declared.Sign.the-variants.Minus, proofs.Numbers.sign-first, proofs.Numbers.ten-more}
 use Rattle.texts.specs.Figures.{digitsIn, largest, fitted, worthBy, worthOf}
-use Rattle.texts.specs.declared.Digits.{Digits}
-use Rattle.texts.specs.declared.Digits.the-variants.{Are, Others}
-use Rattle.texts.specs.declared.Worth.{Worth}
-use Rattle.texts.specs.declared.Worth.the-variants.{Unfit}
-use Rattle.texts.specs.declared.Wrong.the-variants.{NoNumber}
+use Rattle.texts.specs.declared.{Digits.Digits, Digits.the-variants.Are, Digits.the-variants.Others, Worth.Worth, Worth.the-variants.Unfit, Wrong.the-variants.NoNumber}
 
 -- ---- digits
 

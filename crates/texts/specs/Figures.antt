@@ -1,20 +1,11 @@
 -- A number of a setup file: a sign or none and one to nineteen digits, of a value that fits 64 bits with a sign.
-use Prim.Native.Nat.{ℕ, _-_, _^_}
-use mathlib.Core.Bool.{Bool, _&&_}
-use mathlib.Core.List.{List}
-use lib.Dec.{leb}
-use lib.ListN.{length, drop}
+use Rattle.terms.specs.Common.{ℕ, _-_, _^_, _&&_, List, leb, length, drop}
 use Rattle.terms.specs.Terms.{if_then_else_, all, fromTo}
 use Rattle.lengths.specs.Units.{len}
-use Rattle.words.specs.Numbers.{isDigit, signOf, signLength, digitsAfter}
-use Rattle.words.specs.Values.{signed}
-use Rattle.words.specs.declared.Sign.{Sign}
+use Rattle.words.specs.{Numbers.isDigit, Numbers.signOf, Numbers.signLength, Numbers.digitsAfter, Values.signed, declared.Sign.Sign}
 use Rattle.words.specs.declared.Sign.the-variants.{Plain, Plus, Minus}
 use Rattle.texts.specs.declared.Wrong.the-variants.{NoNumber, TooLarge}
-use Rattle.texts.specs.declared.Digits.{Digits}
-use Rattle.texts.specs.declared.Digits.the-variants.{Are, Others}
-use Rattle.texts.specs.declared.Worth.{Worth}
-use Rattle.texts.specs.declared.Worth.the-variants.{Fit, Unfit}
+use Rattle.texts.specs.declared.{Digits.Digits, Digits.the-variants.Are, Digits.the-variants.Others, Worth.Worth, Worth.the-variants.Fit, Worth.the-variants.Unfit}
 
 -- one to nineteen digits and nothing else, as one whole number
 unfoldable pub digitsIn : List ℕ → Digits

@@ -1,15 +1,9 @@
 -- The text of a setup file: its words, and what stands between them.
-use Prim.Native.Nat.{ℕ, suc, _+_}
-use mathlib.Core.Bool.{Bool, true, false, not, _&&_, _||_}
-use mathlib.Core.List.{List, [], _∷_}
-use lib.Dec.{eqb}
-use lib.ListN.{drop}
+use Rattle.terms.specs.Common.{ℕ, suc, _+_, Bool, true, false, not, _&&_, _||_, List, [], _∷_, eqb, drop}
 use Rattle.terms.specs.Terms.{if_then_else_, byte, fromTo}
 use Rattle.words.specs.Numbers.{run}
-use Rattle.texts.specs.declared.Wrong.{Wrong}
+use Rattle.texts.specs.declared.{Wrong.Wrong, Space.Space, Space.the-variants.Gap, Space.the-variants.Word}
 use Rattle.texts.specs.declared.Wrong.the-variants.{Nothing, NoNumber, TooLarge, OtherName, TooFew, TooMuch}
-use Rattle.texts.specs.declared.Space.{Space}
-use Rattle.texts.specs.declared.Space.the-variants.{Gap, Word}
 
 abbrev pub noneWrong : Wrong → Bool
 noneWrong Nothing = true

@@ -1,10 +1,5 @@
 -- Long division by hand, one binary digit at a time.
-use Prim.Native.Nat.{ℕ, suc, _+_, _-_, _*_, _/_, _%_, _^_, _≤_, _<_}
-use mathlib.Core.Path.{_≡_, sym, ap, _∙_}
-use native.Mathlib.Nat.{pow-succ', div-add-mod', mod-lt, mul-le-mul-right}
-use native.Mathlib.Omega.{arith}
-use lib.Pow.{pow-pos}
-use lib.Arith.{digits-div, digits-mod}
+use Rattle.terms.proofs.Common.{ℕ, suc, _+_, _-_, _*_, _/_, _%_, _^_, _≤_, _<_, _≡_, sym, ap, _∙_, pow-succ', div-add-mod', mod-lt, mul-le-mul-right, arith, pow-pos, digits-div, digits-mod}
 
 -- what the word holds when k digits of n are not brought down yet: they are its upper digits, and the quotient's are the
 -- others, below `place`

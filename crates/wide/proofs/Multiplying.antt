@@ -1,8 +1,5 @@
 -- Multiplying as by hand, in digits of 32 bits.
-use Prim.Native.Nat.{ℕ, _+_, _*_, _/_, _%_, _^_, _≤_, _<_}
-use mathlib.Core.Path.{_≡_, sym, ap₂, _∙_}
-use native.Mathlib.Nat.{mul-le-mul, div-add-mod'}
-use native.Mathlib.Omega.{arith}
+use Rattle.terms.proofs.Common.{ℕ, _+_, _*_, _/_, _%_, _^_, _≤_, _<_, _≡_, sym, ap₂, _∙_, mul-le-mul, div-add-mod', arith}
 
 -- the largest digit times itself
 abbrev most : ℕ

@@ -1,8 +1,6 @@
 -- What a number of two words is worth, and what dividing it answers.
-use Prim.Native.Nat.{ℕ, _+_, _*_, _/_, _%_, _^_}
-use mathlib.Core.Path.{_≡_}
-use Rattle.wide.specs.declared.Wide.{Wide}
-use Rattle.wide.specs.declared.Division.{Division}
+use Rattle.terms.specs.Common.{ℕ, _+_, _*_, _/_, _%_, _^_, _≡_}
+use Rattle.wide.specs.declared.{Wide.Wide, Division.Division}
 
 abbrev pub worth : Wide → ℕ
 worth w = w .high * 2 ^ 64 + w .low

@@ -1,22 +1,10 @@
 -- What a value is bound by, where the rules give one.
-use Prim.Native.Nat.{ℕ}
-use mathlib.Core.Path.{_≡_, refl}
-use mathlib.Core.Bool.{Bool, true, false}
-use native.Mathlib.Omega.{arith}
-use lib.IntN.{ℤ, pos}
-use lib.Signed.{ltZ}
-use Rattle.terms.specs.Terms.{within, between}
-use Rattle.terms.proofs.Laws.{both-left, both-right}
-use Rattle.lengths.specs.Units.{len}
-use Rattle.lengths.specs.View.{Within}
-use Rattle.lengths.specs.declared.Len.{Len}
-use Rattle.lengths.proofs.Tests.{within-near}
+use Rattle.terms.proofs.Common.{ℕ, _≡_, refl, Bool, true, false, arith, ℤ, pos, ltZ}
+use Rattle.terms.{specs.Terms.within, specs.Terms.between, proofs.Laws.both-left, proofs.Laws.both-right}
+use Rattle.lengths.{specs.Units.len, specs.View.Within, specs.declared.Len.Len, proofs.Tests.within-near}
 use Rattle.codes.specs.declared.Unit.{Unit}
+use Rattle.words.specs.declared.{Number.Number, Use.the-variants.Length, Use.the-variants.Feed, Use.the-variants.Dwell, Value.the-variants.Fit}
 use Rattle.words.specs.Values.{checked, valueOf, decimalsFit, placesOf, lengthOf, isLength, longest, dwellOf, isDwell}
-use Rattle.words.specs.declared.Number.{Number}
-use Rattle.words.specs.declared.Use.the-variants.{Length, Feed, Dwell}
-use Rattle.words.specs.declared.Value.{Value}
-use Rattle.words.specs.declared.Value.the-variants.{Fit}
 
 -- a value that passed its test is the one that was tested
 pub record Tested (t : Bool) (z : ℤ) (v : Len) : Type 0 where

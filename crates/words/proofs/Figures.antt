@@ -1,20 +1,9 @@
 -- The figures of a number, byte by byte: those that were passed, by the reader's variables, make the number together with
 -- those that are left. Assumes nothing.
-use Prim.Native.Nat.{ℕ, _+_, _-_, _*_, _^_, _≤_, _<_}
-use mathlib.Core.Path.{_≡_, refl, sym, ap, _∙_}
-use mathlib.Core.Bool.{Bool, true, false, and-false}
-use mathlib.Core.List.{List, [], _∷_}
-use native.Mathlib.Numerals.{add-one}
-use native.Mathlib.Omega.{arith}
-use lib.Dec.{leb, eqb}
-use lib.ListN.{length, take, drop, getD}
-use lib.Seq.{slice, slice-cons, slice-empty, drop-drop}
-use borrow.Author.Tests.{le-leb, lt-leb, ne-eqb}
+use Rattle.terms.proofs.Common.{ℕ, _+_, _-_, _*_, _^_, _≤_, _<_, _≡_, refl, sym, ap, _∙_, Bool, true, false, and-false, List, [], _∷_, add-one, arith, leb, eqb, length, take, drop, getD, slice, slice-cons, slice-empty, drop-drop, le-leb, lt-leb, ne-eqb}
 use Rattle.terms.specs.Terms.{byte}
+use Rattle.words.specs.declared.{Sign.Sign, Numbered.Numbered, Numbered.the-variants.Is, Numbered.the-variants.Unreadable}
 use Rattle.words.specs.Numbers.{isDigit, isPoint, isFigure, signOf, signLength, run, count, digitsAfter, decimalsOf, isNumeral, numberBy, numberIn}
-use Rattle.words.specs.declared.Sign.{Sign}
-use Rattle.words.specs.declared.Numbered.{Numbered}
-use Rattle.words.specs.declared.Numbered.the-variants.{Is, Unreadable}
 use Rattle.words.proofs.Numbers.{sign-first, made, number-made, too-many-digits, too-many-points, ten-more}
 
 -- ---- the sign

@@ -1,25 +1,10 @@
 -- Laws of the rule of a number: what is known of every number that is read, and what its figures have to do with the text.
 -- Assumes nothing.
-use Prim.Native.Nat.{ℕ, _+_, _-_, _*_, _^_, _≤_, _<_}
-use mathlib.Core.Path.{_≡_, refl, sym, _∙_}
-use mathlib.Core.Bool.{Bool, true, false, _&&_, and-false}
-use mathlib.Core.List.{List, [], _∷_, _++_}
-use native.Mathlib.Nat.{add-zero, pow-suc, pow-le-pow-right}
-use native.Mathlib.Numerals.{add-one}
-use native.Mathlib.Omega.{arith}
-use lib.Dec.{leb, eqb}
-use lib.ListN.{length, drop, getD, length-drop}
-use lib.Seq.{slice, slice-cons}
-use borrow.Author.Tests.{lt-leb, leb-true, eqb-false}
-use Rattle.terms.specs.Terms.{if_then_else_, byte, fromTo}
-use Rattle.terms.proofs.Laws.{both-left, both-right}
+use Rattle.terms.proofs.Common.{ℕ, _+_, _-_, _*_, _^_, _≤_, _<_, _≡_, refl, sym, _∙_, Bool, true, false, _&&_, and-false, List, [], _∷_, _++_, add-zero, pow-suc, pow-le-pow-right, add-one, arith, leb, eqb, length, drop, getD, length-drop, slice, slice-cons, lt-leb, leb-true, eqb-false}
+use Rattle.terms.{specs.Terms.if_then_else_, specs.Terms.byte, specs.Terms.fromTo, proofs.Laws.both-left, proofs.Laws.both-right}
+use Rattle.words.specs.{Serving.Written, declared.Sign.Sign, declared.Sign.the-variants.Plain, declared.Sign.the-variants.Plus, declared.Sign.the-variants.Minus, declared.Number.Number}
+use Rattle.words.specs.declared.Numbered.{Numbered, the-variants.Is, the-variants.Unreadable}
 use Rattle.words.specs.Numbers.{isDigit, isPoint, isFigure, signOf, signLength, run, count, digitsAfter, decimalsOf, isNumeral, numberBy, numberIn}
-use Rattle.words.specs.Serving.{Written}
-use Rattle.words.specs.declared.Sign.{Sign}
-use Rattle.words.specs.declared.Sign.the-variants.{Plain, Plus, Minus}
-use Rattle.words.specs.declared.Number.{Number}
-use Rattle.words.specs.declared.Numbered.{Numbered}
-use Rattle.words.specs.declared.Numbered.the-variants.{Is, Unreadable}
 
 -- ---- what a number is made of
 

@@ -1,17 +1,8 @@
 -- A word of the reader comes out of its number again, and so do the words of two lists. Assumes nothing.
-use Prim.Native.Nat.{ℕ, zero, suc, _+_, _*_, _/_, _%_, _<_}
-use mathlib.Core.Path.{_≡_, refl, ap, _∙_}
-use mathlib.Core.Bool.{Bool, true, false}
-use mathlib.Core.List.{List, [], _∷_}
-use native.Mathlib.Omega.{arith}
-use lib.Dec.{eqb}
+use Rattle.terms.proofs.Common.{ℕ, zero, suc, _+_, _*_, _/_, _%_, _<_, _≡_, refl, ap, _∙_, Bool, true, false, List, [], _∷_, arith, eqb, length, getD, set}
 use mir.Val.{boolByte}
-use lib.ListN.{length, getD, set}
-use Rattle.words.specs.declared.Sign.{Sign}
-use Rattle.words.specs.declared.Sign.the-variants.{Plain, Plus, Minus}
-use Rattle.words.specs.declared.Word.{Word}
-use Rattle.words.specs.Serving.{Written}
-use Rattle.words.specs.Packed.{signNumber, signAt, packed, unpacked, wordsIn}
+use Rattle.words.specs.declared.Sign.{Sign, the-variants.Plain, the-variants.Plus, the-variants.Minus}
+use Rattle.words.specs.{declared.Word.Word, Serving.Written, Packed.signNumber, Packed.signAt, Packed.packed, Packed.unpacked, Packed.wordsIn}
 
 pub sign-small : (sign : Sign) → signNumber sign < 4
 unfolding signNumber

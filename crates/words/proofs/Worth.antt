@@ -1,25 +1,11 @@
 -- Laws of what a written number is worth: the value that the code computes is the rule's. Assumes nothing.
-use Prim.Native.Nat.{ℕ, zero, suc, _-_, _*_, _^_, _≤_, _<_, min}
-use mathlib.Core.Path.{_≡_, refl, sym, _∙_}
-use mathlib.Core.Bool.{Bool, true, false, _&&_}
-use native.Mathlib.Nat.{mul-le-mul, pow-le-pow-right}
-use native.Mathlib.Omega.{arith}
-use lib.Dec.{leb}
-use lib.IntN.{ℤ, pos, natAbs}
-use lib.Signed.{leZ, ltZ}
-use borrow.Author.Tests.{le-leb, lt-leb}
+use Rattle.terms.proofs.Common.{ℕ, zero, suc, _-_, _*_, _^_, _≤_, _<_, min, _≡_, refl, sym, _∙_, Bool, true, false, _&&_, mul-le-mul, pow-le-pow-right, arith, leb, ℤ, pos, natAbs, leZ, ltZ, le-leb, lt-leb}
 use Rattle.terms.specs.Terms.{if_then_else_}
-use Rattle.lengths.specs.Units.{len}
-use Rattle.lengths.specs.declared.Len.{Len}
-use Rattle.codes.specs.declared.Unit.{Unit}
-use Rattle.codes.specs.declared.Unit.the-variants.{Inch, Millimetre}
+use Rattle.lengths.specs.{Units.len, declared.Len.Len}
+use Rattle.codes.specs.declared.Unit.{Unit, the-variants.Inch, the-variants.Millimetre}
 use Rattle.words.specs.Serving.{Written, Steps}
+use Rattle.words.specs.declared.{Sign.Sign, Sign.the-variants.Plain, Sign.the-variants.Plus, Sign.the-variants.Minus, Number.Number, Value.Value, Value.the-variants.Fit, Value.the-variants.Bad}
 use Rattle.words.specs.Values.{signed, decimalsFit, stepsOf, placesOf, unitsOf, lengthOf, isLength, dwellOf, isDwell, countOf, checked}
-use Rattle.words.specs.declared.Sign.{Sign}
-use Rattle.words.specs.declared.Sign.the-variants.{Plain, Plus, Minus}
-use Rattle.words.specs.declared.Number.{Number}
-use Rattle.words.specs.declared.Value.{Value}
-use Rattle.words.specs.declared.Value.the-variants.{Fit, Bad}
 use Rattle.words.proofs.Bounds.{tested}
 
 -- ---- least steps

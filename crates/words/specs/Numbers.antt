@@ -1,15 +1,9 @@
 -- Document 01, "Data set and blocks": a number as it is written.
 -- "a number: a sign or none, digits with at most one point, one to nine digits in all."
-use Prim.Native.Nat.{ℕ, _+_, _-_, _*_}
-use mathlib.Core.Bool.{Bool, _&&_, _||_}
-use mathlib.Core.List.{List, [], _∷_}
-use lib.Dec.{leb, eqb}
-use lib.ListN.{length, drop}
+use Rattle.terms.specs.Common.{ℕ, _+_, _-_, _*_, Bool, _&&_, _||_, List, [], _∷_, leb, eqb, length, drop}
 use Rattle.terms.specs.Terms.{if_then_else_, byte, fromTo}
-use Rattle.words.specs.declared.Sign.{Sign}
-use Rattle.words.specs.declared.Sign.the-variants.{Plain, Plus, Minus}
-use Rattle.words.specs.declared.Numbered.{Numbered}
-use Rattle.words.specs.declared.Numbered.the-variants.{Is, Unreadable}
+use Rattle.words.specs.declared.Sign.{Sign, the-variants.Plain, the-variants.Plus, the-variants.Minus}
+use Rattle.words.specs.declared.Numbered.{Numbered, the-variants.Is, the-variants.Unreadable}
 
 abbrev pub isDigit : ℕ → Bool
 isDigit b = fromTo (byte "0") (byte "9") b

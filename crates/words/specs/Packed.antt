@@ -1,12 +1,8 @@
 -- What only serves the code: a word in one number, its place apart, and the words of two lists that hold them so.
-use Prim.Native.Nat.{ℕ, _+_, _*_, _/_, _%_}
-use mathlib.Core.List.{List, [], _∷_}
-use lib.Dec.{eqb}
+use Rattle.terms.specs.Common.{ℕ, _+_, _*_, _/_, _%_, List, [], _∷_, eqb}
 use mir.Val.{boolByte}
 use Rattle.terms.specs.Terms.{if_then_else_}
-use Rattle.words.specs.declared.Sign.{Sign}
-use Rattle.words.specs.declared.Sign.the-variants.{Plain, Plus, Minus}
-use Rattle.words.specs.declared.Word.{Word}
+use Rattle.words.specs.declared.{Sign.Sign, Sign.the-variants.Plain, Sign.the-variants.Plus, Sign.the-variants.Minus, Word.Word}
 
 unfoldable pub signNumber : Sign → ℕ
 signNumber Plain = 0

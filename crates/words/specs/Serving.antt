@@ -1,9 +1,6 @@
 -- What only serves proofs: what holds of every number that is read, and the steps in which a value is reckoned.
-use Prim.Native.Nat.{_≤_, _<_, ℕ}
-use mathlib.Core.Path.{_≡_}
-use mathlib.Core.Bool.{false}
-use Rattle.words.specs.declared.Number.{Number}
-use Rattle.words.specs.Values.{stepsOf}
+use Rattle.terms.specs.Common.{_≤_, _<_, ℕ, _≡_, false}
+use Rattle.words.specs.{declared.Number.Number, Values.stepsOf}
 
 -- what holds of every number that is read (numberIn-written, in proofs/)
 pub record Written (n : Number) : Type 0 where

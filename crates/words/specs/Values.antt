@@ -1,22 +1,11 @@
 -- Document 01: what a written number is worth, by what its letter means in the block.
-use Prim.Native.Nat.{ℕ, _-_, _*_, _^_, min}
-use mathlib.Core.Bool.{Bool, true, false, not, _&&_}
-use lib.Dec.{leb}
-use lib.IntN.{ℤ, pos, negℤ}
-use lib.Signed.{ltZ}
+use Rattle.terms.specs.Common.{ℕ, _-_, _*_, _^_, min, Bool, true, false, not, _&&_, leb, ℤ, pos, negℤ, ltZ}
 use Rattle.terms.specs.Terms.{if_then_else_, between, within}
 use Rattle.lengths.specs.Units.{len}
-use Rattle.codes.specs.declared.Unit.{Unit}
-use Rattle.codes.specs.declared.Unit.the-variants.{Inch, Millimetre}
-use Rattle.words.specs.declared.Sign.{Sign}
-use Rattle.words.specs.declared.Sign.the-variants.{Plain, Plus, Minus}
-use Rattle.words.specs.declared.Number.{Number}
-use Rattle.words.specs.declared.Use.{Use}
-use Rattle.words.specs.declared.Use.the-variants.{Nothing, Codes, Label, Program, Length, Feed, Speed, Dwell, Count}
-use Rattle.words.specs.declared.Given.{Given}
-use Rattle.words.specs.declared.Values.{Values}
-use Rattle.words.specs.declared.Value.{Value}
+use Rattle.codes.specs.declared.Unit.{Unit, the-variants.Inch, the-variants.Millimetre}
+use Rattle.words.specs.declared.{Sign.Sign, Sign.the-variants.Plain, Sign.the-variants.Plus, Sign.the-variants.Minus, Number.Number, Use.Use, Given.Given, Values.Values, Value.Value}
 use Rattle.words.specs.declared.Value.the-variants.{Fit, Bad}
+use Rattle.words.specs.declared.Use.the-variants.{Nothing, Codes, Label, Program, Length, Feed, Speed, Dwell, Count}
 
 unfoldable pub unsigned : Sign → Bool
 unsigned Plain = true

@@ -1,14 +1,7 @@
 -- Document 01, "Data set and blocks": the words of a block's text, with blanks and comments between them.
-use Prim.Native.Nat.{ℕ, zero, suc, _+_}
-use mathlib.Core.Bool.{Bool, _||_}
-use mathlib.Core.Option.{Option, none, some}
-use mathlib.Core.List.{List, [], _∷_}
-use lib.Dec.{eqb}
+use Rattle.terms.specs.Common.{ℕ, zero, suc, _+_, Bool, _||_, Option, none, some, List, [], _∷_, eqb}
 use Rattle.terms.specs.Terms.{if_then_else_, byte, fromTo}
-use Rattle.words.specs.Numbers.{numberIn}
-use Rattle.words.specs.declared.Numbered.{Numbered}
-use Rattle.words.specs.declared.Numbered.the-variants.{Is, Unreadable}
-use Rattle.words.specs.declared.Word.{Word}
+use Rattle.words.specs.{Numbers.numberIn, declared.Numbered.Numbered, declared.Numbered.the-variants.Is, declared.Numbered.the-variants.Unreadable, declared.Word.Word}
 
 -- "Blanks (space, tab)"
 abbrev pub isBlank : ℕ → Bool

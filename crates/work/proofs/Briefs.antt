@@ -1,28 +1,14 @@
 -- The records of the spindle and of the M code lead nowhere and are the same in machine units. Assumes nothing.
-use Prim.Native.Nat.{ℕ, _+_, _≤_}
-use mathlib.Core.Path.{_≡_, refl}
-use mathlib.Core.Bool.{true}
-use mathlib.Core.List.{List, [], _∷_, map}
-use native.Mathlib.Omega.{arith}
+use Rattle.terms.proofs.Common.{ℕ, _+_, _≤_, _≡_, refl, true, List, [], _∷_, map, arith, length}
 use denote.Enum.Declared.{tagOf}
 use types.Run.{OneOf, miss}
-use lib.ListN.{length}
-use Rattle.lengths.specs.declared.Point.{Point}
-use Rattle.lengths.specs.declared.Travel.{Travel}
-use Rattle.records.specs.declared.Record.{Record}
-use Rattle.records.specs.declared.Kind.the-variants.{SO as so}
-use Rattle.records.specs.Layout.{kindLength, listBytes, roomOf}
-use Rattle.records.specs.Path.{still, pathOf, pathEnd, endOf, pathStaysIn, recordMoved}
-use Rattle.records.specs.Serving.{Wrote}
-use Rattle.records.specs.Writing.{ListShort, movedBytes, RoomFor}
-use Rattle.arcs.specs.Arcs.{pathStays}
-use Rattle.arcs.specs.Staying.{staysIn}
-use Rattle.work.proofs.Brief.{the-type}
-use Rattle.work.specs.declared.Brief.{Brief}
+use Rattle.lengths.specs.declared.{Point.Point, Travel.Travel}
+use Rattle.records.specs.{declared.Record.Record, declared.Kind.the-variants.SO as so, Layout.kindLength, Layout.listBytes, Layout.roomOf}
+use Rattle.records.specs.{Path.still, Path.pathOf, Path.pathEnd, Path.endOf, Path.pathStaysIn, Path.recordMoved, Serving.Wrote, Writing.ListShort, Writing.movedBytes, Writing.RoomFor}
+use Rattle.arcs.specs.{Arcs.pathStays, Staying.staysIn}
+use Rattle.work.specs.{declared.Brief.Brief, declared.Extent.Extent, Work.briefRecords, Work.grown}
 use Rattle.work.specs.declared.Brief.the-variants.{Speed, SpindleOff, Pause, End, Nothing}
-use Rattle.work.specs.declared.Extent.{Extent}
-use Rattle.work.specs.Work.{briefRecords, grown}
-use Rattle.work.proofs.Extents.{grown-one}
+use Rattle.work.proofs.{Brief.the-type, Extents.grown-one}
 
 abbrev pub AllStill : List Record → Type 0
 AllStill [] = Unit

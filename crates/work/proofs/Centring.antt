@@ -1,24 +1,12 @@
 -- The centre of an arc by its radius or by its words, with what was computed. Assumes nothing.
-use Prim.Native.Nat.{_^_}
-use mathlib.Core.Path.{_≡_, sym, _∙_}
-use mathlib.Core.Bool.{Bool, true, false, not}
-use native.Mathlib.Omega.{arith}
-use lib.IntN.{ℤ}
-use borrow.Author.Tests.{not-false}
+use Rattle.terms.proofs.Common.{_^_, _≡_, sym, _∙_, Bool, true, false, not, arith, ℤ, not-false}
 use Rattle.words.specs.declared.Values.{Values}
-use Rattle.lengths.specs.declared.Point.{Point}
-use Rattle.lengths.specs.declared.Flat.{Flat}
-use Rattle.lengths.specs.Points.{moved, flat}
-use Rattle.lengths.specs.Near.{Near}
-use Rattle.lengths.proofs.Near.{flat-near}
+use Rattle.lengths.{specs.declared.Point.Point, specs.declared.Flat.Flat, specs.Points.moved, specs.Points.flat, specs.Near.Near, proofs.Near.flat-near}
 use Rattle.settings.specs.declared.State.{State}
 use Rattle.records.specs.declared.Arc.{Arc}
-use Rattle.arcs.specs.Arcs.{centreOf}
-use Rattle.arcs.specs.Bounds.{Reach}
-use Rattle.centres.specs.Centres.{radiusHolds, centreBy}
-use Rattle.centres.specs.Bounds.{Chord, Spanned}
-use Rattle.blocks.specs.Motions.{centreWords, centreFor, radiusFits, arcTo}
-use Rattle.blocks.proofs.Nearness.{centre-beside}
+use Rattle.arcs.specs.{Arcs.centreOf, Bounds.Reach}
+use Rattle.centres.specs.{Centres.radiusHolds, Centres.centreBy, Bounds.Chord, Bounds.Spanned}
+use Rattle.blocks.{specs.Motions.centreWords, specs.Motions.centreFor, specs.Motions.radiusFits, specs.Motions.arcTo, proofs.Nearness.centre-beside}
 use Rattle.work.specs.Needs.{Poised, Aiming, Fitting}
 
 module _ (s : State) (v : Values) (end : Point) where

@@ -1,36 +1,12 @@
 -- Where records lead and what they come to, one after the other. Assumes nothing.
-use Prim.Native.Nat.{ℕ, zero, suc, _+_, _*_, _-_, _≤_, _<_}
-use mathlib.Core.Path.{_≡_, refl, sym, _∙_, ap}
-use mathlib.Core.Bool.{Bool, true, false, _&&_}
-use mathlib.Core.List.{List, [], _∷_, _++_}
-use native.Mathlib.Omega.{arith}
-use lib.ListN.{length, drop, length-append, length-drop}
-use Rattle.terms.specs.Terms.{if_then_else_}
-use Rattle.lengths.specs.declared.Len.{Len}
-use Rattle.lengths.specs.declared.Point.{Point}
-use Rattle.lengths.specs.declared.Travel.{Travel}
-use Rattle.lengths.specs.Points.{inside}
-use Rattle.records.specs.declared.Record.{Record}
-use Rattle.records.specs.Layout.{kindOf, kindLength, roomOf}
-use Rattle.records.specs.Path.{pathOf, pathEnd, endOf, pathStaysIn}
-use Rattle.records.proofs.Moved.{room-append, room-few, kind-few}
-use Rattle.settings.specs.Bounds.{Aims}
-use Rattle.arcs.specs.Arcs.{pathStays}
-use Rattle.arcs.specs.Bounds.{PathBounds}
-use Rattle.arcs.specs.Staying.{staysIn}
-use Rattle.arcs.proofs.Paths.{end-append, stays-append, stays-inside, inside-near}
-use Rattle.cycles.specs.Cycles.{passTo}
-use Rattle.cycles.specs.Bounds.{Stands}
-use Rattle.work.specs.declared.Pass.{Pass}
-use Rattle.work.specs.declared.Pass.the-variants.{One, Drill}
-use Rattle.work.specs.declared.Work.{Work}
-use Rattle.work.specs.declared.Aim.{Aim}
-use Rattle.work.specs.declared.Extent.{Extent}
-use Rattle.work.specs.declared.Way.{Way}
-use Rattle.work.specs.declared.Way.the-variants.{Ends, Leaves}
-use Rattle.work.specs.Work.{rowsOf, passesOf, leads, workRecords, grown, wayOf}
-use Rattle.work.specs.Needs.{PassReady, Once, Leading, Testable, Little}
-use Rattle.cycles.proofs.Rows.{pass-few}
+use Rattle.terms.proofs.Common.{ℕ, zero, suc, _+_, _*_, _≤_, _<_, _≡_, refl, sym, _∙_, ap, Bool, true, false, _&&_, List, [], _∷_, _++_, arith, length, drop, length-append}
+use Rattle.lengths.specs.declared.{Len.Len, Point.Point, Travel.Travel}
+use Rattle.records.specs.{declared.Record.Record, Layout.kindOf, Layout.kindLength, Layout.roomOf, Path.pathOf, Path.pathEnd, Path.endOf, Path.pathStaysIn}
+use Rattle.records.proofs.Moved.{room-append, kind-few}
+use Rattle.arcs.{specs.Arcs.pathStays, specs.Bounds.PathBounds, specs.Staying.staysIn, proofs.Paths.end-append, proofs.Paths.stays-append}
+use Rattle.cycles.{specs.Cycles.passTo, specs.Bounds.Stands, proofs.Rows.pass-few}
+use Rattle.work.specs.declared.{Pass.Pass, Pass.the-variants.One, Pass.the-variants.Drill, Extent.Extent, Way.the-variants.Ends, Way.the-variants.Leaves}
+use Rattle.work.specs.{Work.rowsOf, Work.grown, Work.wayOf, Needs.PassReady}
 use Rattle.work.proofs.Plain.{plain-at, pass-plain}
 
 -- ---- what records come to

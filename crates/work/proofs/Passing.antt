@@ -1,30 +1,13 @@
 -- Pass after pass: what holds between two of them, while they are tested and while they are written. Assumes nothing.
-use Prim.Native.Nat.{ℕ, zero, suc, _+_, _*_, _-_, _≤_, _<_}
-use mathlib.Core.Path.{_≡_, refl, sym, _∙_, ap}
-use mathlib.Core.Bool.{true, false}
-use mathlib.Core.List.{List, [], _∷_, _++_}
-use native.Mathlib.Omega.{arith}
-use lib.ListN.{length}
-use Rattle.lengths.specs.declared.Point.{Point}
-use Rattle.lengths.specs.declared.Travel.{Travel}
-use Rattle.lengths.specs.Points.{inside}
-use Rattle.records.specs.declared.Record.{Record}
-use Rattle.records.specs.Layout.{roomOf}
-use Rattle.records.specs.Path.{endOf}
-use Rattle.records.specs.Serving.{Wrote}
-use Rattle.records.specs.Writing.{movedBytes, RoomFor}
+use Rattle.terms.proofs.Common.{ℕ, zero, suc, _+_, _*_, _-_, _≤_, _<_, _≡_, refl, sym, _∙_, true, List, [], _++_, arith, length}
+use Rattle.lengths.specs.{declared.Point.Point, declared.Travel.Travel, Points.inside}
+use Rattle.records.specs.{declared.Record.Record, Path.endOf, Serving.Wrote, Writing.movedBytes, Writing.RoomFor}
 use Rattle.records.proofs.Moved.{room-few, put-as, put-none, put-then, ready-as, ready-left, ready-right}
 use Rattle.settings.specs.Bounds.{Aims}
-use Rattle.arcs.specs.Staying.{staysIn}
-use Rattle.arcs.proofs.Paths.{stays-both, stays-inside, inside-near}
-use Rattle.work.specs.declared.Pass.{Pass}
-use Rattle.work.specs.declared.Pass.the-variants.{One, Drill}
-use Rattle.work.specs.declared.Work.{Work}
-use Rattle.work.specs.declared.Aim.{Aim}
-use Rattle.work.specs.declared.Extent.{Extent}
-use Rattle.work.specs.declared.Way.the-variants.{Ends, Leaves}
-use Rattle.work.specs.Work.{rowsOf, passesOf, leads, workRecords, grown, wayOf}
+use Rattle.arcs.{specs.Staying.staysIn, proofs.Paths.stays-both, proofs.Paths.stays-inside, proofs.Paths.inside-near}
+use Rattle.work.specs.declared.{Pass.Pass, Pass.the-variants.One, Pass.the-variants.Drill, Work.Work, Aim.Aim, Extent.Extent, Way.the-variants.Ends, Way.the-variants.Leaves}
 use Rattle.work.specs.Needs.{PassReady, Once, Leading, Testable, Little}
+use Rattle.work.specs.Work.{rowsOf, passesOf, leads, workRecords, grown, wayOf}
 use Rattle.work.proofs.Extents.{way-none, way-on, way-stops, way-ends, way-leaves}
 
 -- the passes that are left, by one more of them

@@ -1,26 +1,13 @@
 -- The records of a hole are straight moves and dwells, of which nothing is asked before their path is tested. Assumes nothing.
-use Prim.Native.Nat.{ℕ, zero, suc, _+_}
-use mathlib.Core.Path.{_≡_, refl}
-use mathlib.Core.Bool.{Bool, true, false}
-use mathlib.Core.List.{List, [], _∷_, _++_}
-use native.Mathlib.Omega.{arith}
+use Rattle.terms.proofs.Common.{ℕ, zero, suc, _+_, _≡_, refl, Bool, true, false, List, [], _∷_, _++_, arith}
 use Rattle.terms.specs.Terms.{if_then_else_}
-use Rattle.lengths.specs.declared.Len.{Len}
-use Rattle.codes.specs.declared.Cycle.{Cycle}
-use Rattle.codes.specs.declared.Cycle.the-variants.{G81, G82, G85, G89}
-use Rattle.codes.specs.declared.Return.{Return}
-use Rattle.codes.specs.declared.Return.the-variants.{ToInitial, ToR}
+use Rattle.lengths.specs.declared.{Len.Len, Point.Point, Travel.Travel}
+use Rattle.codes.specs.declared.Cycle.{Cycle, the-variants.G81, the-variants.G82, the-variants.G85, the-variants.G89}
+use Rattle.codes.specs.declared.Return.{Return, the-variants.ToInitial, the-variants.ToR}
 use Rattle.words.specs.declared.Given.{Given}
-use Rattle.lengths.specs.declared.Point.{Point}
-use Rattle.lengths.specs.declared.Travel.{Travel}
-use Rattle.records.specs.declared.Record.{Record}
-use Rattle.records.specs.declared.Record.the-variants.{RP, LN, DW}
-use Rattle.records.specs.Path.{pathOf}
+use Rattle.records.specs.{declared.Record.Record, declared.Record.the-variants.DW, Path.pathOf}
 use Rattle.arcs.specs.Bounds.{PathBounds}
-use Rattle.cycles.specs.declared.Hole.{Hole}
-use Rattle.cycles.specs.Cycles.{dwelling, upUnder, leaving, passTo}
-use Rattle.cycles.specs.Bounds.{Stands}
-use Rattle.cycles.proofs.Passes.{with-z, without-z}
+use Rattle.cycles.{specs.declared.Hole.Hole, specs.Cycles.dwelling, specs.Cycles.upUnder, specs.Cycles.leaving, specs.Cycles.passTo, specs.Bounds.Stands, proofs.Passes.with-z, proofs.Passes.without-z}
 
 abbrev pub AllPlain : List Record → Type 0
 AllPlain [] = Unit {0}

@@ -1,39 +1,22 @@
 -- What the code plans stands for the motion that the rules give. Assumes nothing.
-use Prim.Native.Nat.{ℕ, zero, suc, _≤_}
-use mathlib.Core.Path.{_≡_, refl, sym, _∙_, ap, ap₂}
-use mathlib.Core.Bool.{Bool, true, false, false≢true, not, _||_}
+use Rattle.terms.proofs.Common.{ℕ, zero, suc, _≡_, refl, sym, _∙_, ap, ap₂, Bool, true, false, false≢true, not, _||_, [], _∷_, _++_, arith, not-true, not-false}
 use denote.Enum.Declared.{tagOf}
 use types.Run.{OneOf, miss}
-use Rattle.codes.proofs.Motion.{the-type as motion-type}
-use Rattle.codes.specs.declared.Motion.{Motion}
-use Rattle.letters.specs.Letters.{turns}
-use mathlib.Core.List.{List, [], _∷_, _++_}
-use native.Mathlib.Omega.{arith}
-use borrow.Author.Tests.{not-true, not-false}
-use Rattle.terms.specs.Terms.{if_then_else_}
-use Rattle.lengths.specs.declared.Len.{Len}
-use Rattle.codes.specs.declared.Cycle.{Cycle}
-use Rattle.codes.specs.declared.Distance.{Distance}
+use Rattle.codes.{specs.declared.Motion.Motion, specs.declared.Cycle.Cycle, specs.declared.Distance.Distance, proofs.Motion.the-type as motion-type}
 use Rattle.codes.specs.declared.Motion.the-variants.{Off, G00, G01, G02, G03, Drilling}
+use Rattle.letters.specs.Letters.{turns}
+use Rattle.terms.specs.Terms.{if_then_else_}
+use Rattle.lengths.specs.{declared.Len.Len, declared.Point.Point, Points.atHeight}
 use Rattle.words.specs.declared.Values.{Values}
-use Rattle.lengths.specs.declared.Point.{Point}
-use Rattle.lengths.specs.Points.{atHeight}
-use Rattle.records.specs.declared.Arc.{Arc}
-use Rattle.records.specs.declared.Record.{Record}
-use Rattle.records.specs.declared.Record.the-variants.{RP, LN, AR, AL, DW, PA}
-use Rattle.records.specs.Path.{endOf}
-use Rattle.settings.specs.declared.State.{State}
-use Rattle.settings.specs.Target.{target}
+use Rattle.records.specs.{declared.Arc.Arc, declared.Record.Record, Path.endOf}
+use Rattle.records.specs.declared.Record.the-variants.{RP, LN, AR, AL}
+use Rattle.settings.specs.{declared.State.State, Target.target}
 use Rattle.arcs.specs.Arcs.{arcHolds}
-use Rattle.cycles.specs.declared.Hole.{Hole}
+use Rattle.cycles.{specs.declared.Hole.Hole, specs.Bounds.Counts, proofs.Passes.without-z, proofs.Passes.lastLevel, proofs.Passes.ends-at, proofs.Passes.same-place}
 use Rattle.cycles.specs.Cycles.{holeOf, levelsHold, returnLevel, passTo, passesAt, passCount, passes}
-use Rattle.cycles.specs.Bounds.{Counts}
-use Rattle.cycles.proofs.Passes.{without-z, lastLevel, ends-at, same-place}
-use Rattle.blocks.specs.Motions.{Moves, noMoves, one, impossible, endStands, centreGiven, arcStands, arcTo, radiusFits, arcMoves, cycleDone, cycleMoves, motionOf}
-use Rattle.work.specs.declared.Work.{Work}
-use Rattle.work.specs.declared.Pass.the-variants.{One, Drill}
-use Rattle.work.specs.Work.{rowsOf, passesOf, workRecords, leads, aimOf, noWork, oneWork, straightRecord, arcRecord, isClockwise, liesLeft}
-use Rattle.work.specs.Needs.{ArcFrom, RecordFrom, Makes}
+use Rattle.blocks.specs.Motions.{Moves, noMoves, one, endStands, centreGiven, arcStands, arcTo, radiusFits, arcMoves, cycleDone, cycleMoves, motionOf}
+use Rattle.work.specs.{declared.Work.Work, declared.Pass.the-variants.Drill, Needs.ArcFrom, Needs.RecordFrom, Needs.Makes}
+use Rattle.work.specs.Work.{rowsOf, passesOf, workRecords, noWork, oneWork, straightRecord, arcRecord, isClockwise, liesLeft}
 
 -- ---- no record, and one
 

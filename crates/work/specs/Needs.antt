@@ -1,37 +1,17 @@
 -- What the functions on a block's work count on.
-use Prim.Native.Nat.{ℕ, _≤_}
-use mathlib.Core.Path.{_≡_}
-use mathlib.Core.Bool.{Bool, true}
-use Rattle.lengths.specs.View.{Within}
-use Rattle.codes.specs.declared.Cycle.{Cycle}
-use Rattle.codes.specs.declared.Motion.the-variants.{Drilling}
+use Rattle.terms.specs.Common.{ℕ, _≤_, _≡_, Bool, true}
+use Rattle.lengths.specs.{View.Within, declared.Point.Point, declared.Travel.Travel, Points.inside, Near.Near}
+use Rattle.codes.specs.declared.{Cycle.Cycle, Motion.the-variants.Drilling}
 use Rattle.words.specs.declared.Values.{Values}
-use Rattle.lengths.specs.declared.Point.{Point}
-use Rattle.lengths.specs.declared.Travel.{Travel}
-use Rattle.lengths.specs.Points.{inside}
-use Rattle.lengths.specs.Near.{Near}
-use Rattle.records.specs.declared.Arc.{Arc}
-use Rattle.records.specs.declared.Record.{Record}
+use Rattle.records.specs.{declared.Arc.Arc, declared.Record.Record, Path.pathOf, Displacing.Loose}
 use Rattle.records.specs.declared.Record.the-variants.{RP, LN, AR, AL, DW, SP, SO, PA, EN}
-use Rattle.records.specs.Path.{pathOf}
-use Rattle.records.specs.Displacing.{Loose}
-use Rattle.settings.specs.declared.State.{State}
-use Rattle.settings.specs.Bounds.{Aims}
-use Rattle.settings.specs.Target.{target}
-use Rattle.letters.specs.declared.BlockCode.{BlockCode}
-use Rattle.letters.specs.declared.BlockCode.the-variants.{Moving}
-use Rattle.arcs.specs.Arcs.{arcHolds}
-use Rattle.arcs.specs.Bounds as Arcs
-use Rattle.arcs.specs.Staying.{staysIn}
-use Rattle.cycles.specs.declared.Hole.{Hole}
-use Rattle.cycles.specs.Cycles.{holeOf}
+use Rattle.settings.specs.{declared.State.State, Bounds.Aims, Target.target}
+use Rattle.letters.specs.declared.BlockCode.{BlockCode, the-variants.Moving}
+use Rattle.arcs.specs.{Arcs.arcHolds, Staying.staysIn}
 use Rattle.blocks.specs.Motions.{Moves, centreWords, radiusFits, arcTo}
-use Rattle.work.specs.declared.Pass.{Pass}
-use Rattle.work.specs.declared.Pass.the-variants.{One, Drill}
-use Rattle.work.specs.declared.Work.{Work}
-use Rattle.work.specs.declared.Aim.{Aim}
-use Rattle.work.specs.declared.Extent.{Extent}
+use Rattle.work.specs.declared.{Pass.Pass, Pass.the-variants.One, Pass.the-variants.Drill, Work.Work, Aim.Aim, Extent.Extent}
 use Rattle.work.specs.Work.{workRecords, aimOf}
+use Rattle.arcs.specs.Bounds as Arcs
 
 -- ---- planning
 

@@ -1,35 +1,18 @@
 -- How the code holds what a block makes: so many passes of the same few records, and what they come to.
-use Prim.Native.Nat.{ℕ, zero, suc, _+_}
-use mathlib.Core.Bool.{Bool, true, false, not}
-use mathlib.Core.List.{List, [], _∷_, _++_}
-use lib.ListN.{length}
+use Rattle.terms.specs.Common.{ℕ, zero, suc, _+_, Bool, true, false, not, List, [], _∷_, _++_, length}
 use Rattle.terms.specs.Terms.{if_then_else_}
-use Rattle.lengths.specs.declared.Len.{Len}
-use Rattle.lengths.specs.declared.Point.{Point}
-use Rattle.lengths.specs.declared.Travel.{Travel}
+use Rattle.lengths.specs.declared.{Len.Len, Point.Point, Travel.Travel}
 use Rattle.words.specs.declared.Values.{Values}
-use Rattle.records.specs.declared.Arc.{Arc}
-use Rattle.records.specs.declared.Record.{Record}
+use Rattle.records.specs.{declared.Arc.Arc, declared.Record.Record, Layout.roomOf, Path.pathOf, Path.endOf, Path.recordMoved}
 use Rattle.records.specs.declared.Record.the-variants.{RP, LN, AR, AL, SP, SO, PA, EN}
-use Rattle.records.specs.Layout.{roomOf}
-use Rattle.records.specs.Path.{pathOf, endOf, recordMoved}
-use Rattle.settings.specs.declared.State.{State}
-use Rattle.settings.specs.Target.{target}
-use Rattle.arcs.specs.Arcs.{centreFits}
-use Rattle.arcs.specs.Staying.{staysIn}
+use Rattle.settings.specs.{declared.State.State, Target.target}
+use Rattle.arcs.specs.{Arcs.centreFits, Staying.staysIn}
 use Rattle.cycles.specs.Cycles.{passTo}
 use Rattle.blocks.specs.Motions.{isLarger}
-use Rattle.codes.specs.declared.Motion.{Motion}
-use Rattle.codes.specs.declared.Motion.the-variants.{Off, G00, G01, G02, G03, Drilling}
-use Rattle.work.specs.declared.Pass.{Pass}
-use Rattle.work.specs.declared.Pass.the-variants.{One, Drill}
-use Rattle.work.specs.declared.Work.{Work}
-use Rattle.work.specs.declared.Brief.{Brief}
-use Rattle.work.specs.declared.Brief.the-variants.{Speed, SpindleOff, Pause, End, Nothing}
-use Rattle.work.specs.declared.Aim.{Aim}
-use Rattle.work.specs.declared.Extent.{Extent}
-use Rattle.work.specs.declared.Way.{Way}
+use Rattle.codes.specs.declared.Motion.{Motion, the-variants.Off, the-variants.G00, the-variants.G01, the-variants.G02, the-variants.G03, the-variants.Drilling}
+use Rattle.work.specs.declared.{Pass.Pass, Pass.the-variants.One, Pass.the-variants.Drill, Work.Work, Brief.Brief, Aim.Aim, Extent.Extent, Way.Way}
 use Rattle.work.specs.declared.Way.the-variants.{Ends, Leaves}
+use Rattle.work.specs.declared.Brief.the-variants.{Speed, SpindleOff, Pause, End, Nothing}
 
 -- the records of one pass, which comes at a level and goes to X, Y of a point
 unfoldable pub rowsOf : Pass → Len → Point → List Record

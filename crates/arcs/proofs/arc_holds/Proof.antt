@@ -1,13 +1,8 @@
 -- `arcs::arc_holds` meets its contract: an end that is too far on one axis is too far, and any other is near enough for the
 -- squares to fit. Assumes nothing.
-use Prim.Native.Nat.{_≤_}
-use mathlib.Core.Path.{_≡_, sym, ap, _∙_}
-use native.Mathlib.Omega.{arith}
-use borrow.Author.Needs.{needs}
-use Rattle.arcs.specs.Root.{root}
-use Rattle.arcs.specs.Arcs.{radius², arcHolds}
-use Rattle.arcs.proofs.Reach.{root-near, first-refused, second-refused}
-use Rattle.arcs.proofs.arc_holds.Statement.{statement}
+use Rattle.terms.proofs.Common.{_≤_, _≡_, sym, ap, _∙_, arith, needs}
+use Rattle.arcs.specs.{Root.root, Arcs.radius², Arcs.arcHolds}
+use Rattle.arcs.proofs.{Reach.root-near, Reach.first-refused, Reach.second-refused, arc_holds.Statement.statement}
 use Rattle.arcs.proofs.arc_holds.Tie as tie
 
 -- the root, once it is computed

@@ -1,15 +1,10 @@
 -- `arcs::centre_fits` meets its contract, mark by mark. Assumes nothing.
-use mathlib.Core.Path.{_≡_, refl, sym, _∙_}
-use mathlib.Core.Bool.{true}
-use mathlib.Core.List.{[], _∷_}
+use Rattle.terms.proofs.Common.{_≡_, refl, sym, _∙_, true, [], _∷_, needs}
 use denote.Enum.Declared.{tagOf}
 use types.Run.{OneOf, miss}
-use borrow.Author.Needs.{needs}
 use Rattle.lengths.specs.declared.Point.{Point}
-use Rattle.records.proofs.Record.{the-type}
-use Rattle.records.specs.declared.Record.{Record}
+use Rattle.records.{specs.declared.Record.Record, specs.Path.pathOf, specs.Path.recordMoved, proofs.Record.the-type}
 use Rattle.records.specs.declared.Record.the-variants.{RP, LN, AR, AL, DW, SP, SO, PA, EN}
-use Rattle.records.specs.Path.{pathOf, recordMoved}
 use Rattle.arcs.specs.Arcs.{centreFits}
 use Rattle.arcs.proofs.centre_fits.Statement.{statement}
 use Rattle.arcs.proofs.centre_fits.Tie as tie

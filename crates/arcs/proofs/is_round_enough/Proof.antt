@@ -1,6 +1,5 @@
 -- `arcs::is_round_enough` meets its contract. Assumes nothing.
-use borrow.Author.Tests.{le-leb, lt-leb}
-use borrow.Author.Needs.{needs}
+use Rattle.terms.proofs.Common.{le-leb, lt-leb, needs}
 use Rattle.arcs.specs.Arcs.{roundEnough}
 use Rattle.arcs.proofs.is_round_enough.Statement.{statement}
 use Rattle.arcs.proofs.is_round_enough.Tie as tie

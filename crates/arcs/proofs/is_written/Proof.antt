@@ -1,5 +1,5 @@
 -- `arcs::is_written` meets its contract. Assumes nothing.
-use borrow.Author.Needs.{needs}
+use Rattle.terms.proofs.Common.{needs}
 use Rattle.arcs.proofs.is_written.Statement.{statement}
 use Rattle.arcs.proofs.is_written.Tie as tie
 

@@ -1,12 +1,7 @@
 -- `arcs::root_of` meets its contract. At each turn r is the root of the digits of q that are brought down, and `rest` what they are
 -- above its square. Assumes nothing.
-use Prim.Native.Nat.{ℕ, _-_, _*_, _/_, _^_, _≤_, _<_}
-use mathlib.Core.Path.{_≡_}
-use native.Mathlib.Nat.{div-eq-of-lt, div-one, div-le-self}
-use native.Mathlib.Omega.{arith}
-use borrow.Author.Needs.{needs}
-use Rattle.arcs.proofs.Root.{Brought, quarter, digit-one, digit-zero, root-one, root-is}
-use Rattle.arcs.proofs.root_of.Statement.{statement}
+use Rattle.terms.proofs.Common.{ℕ, _-_, _*_, _/_, _^_, _≤_, _<_, _≡_, div-eq-of-lt, div-one, div-le-self, arith, needs}
+use Rattle.arcs.proofs.{Root.Brought, Root.quarter, Root.digit-one, Root.digit-zero, Root.root-one, Root.root-is, root_of.Statement.statement}
 use Rattle.arcs.proofs.root_of.Tie as tie
 
 -- `pairs` pairs of digits are not brought down yet

@@ -1,7 +1,5 @@
 -- `arcs::squared` meets its contract. Assumes nothing.
-use native.Mathlib.Nat.{mul-le-mul}
-use native.Mathlib.Omega.{arith}
-use borrow.Author.Needs.{needs}
+use Rattle.terms.proofs.Common.{mul-le-mul, arith, needs}
 use Rattle.arcs.proofs.squared.Statement.{statement}
 use Rattle.arcs.proofs.squared.Tie as tie
 

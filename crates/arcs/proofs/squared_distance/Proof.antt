@@ -1,11 +1,7 @@
 -- `arcs::squared_distance` meets its contract: two squares of at most 3,000,000,000 fit. Assumes nothing.
-use Prim.Native.Nat.{_+_}
-use mathlib.Core.Path.{_≡_}
-use native.Mathlib.Omega.{arith}
-use borrow.Author.Needs.{needs}
+use Rattle.terms.proofs.Common.{_+_, _≡_, arith, needs}
 use Rattle.arcs.specs.Arcs.{distance²}
-use Rattle.arcs.proofs.Reach.{distance-near}
-use Rattle.arcs.proofs.squared_distance.Statement.{statement}
+use Rattle.arcs.proofs.{Reach.distance-near, squared_distance.Statement.statement}
 use Rattle.arcs.proofs.squared_distance.Tie as tie
 
 is :

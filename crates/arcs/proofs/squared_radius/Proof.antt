@@ -1,6 +1,5 @@
 -- `arcs::squared_radius` meets its contract. Assumes nothing.
-use native.Mathlib.Omega.{arith}
-use borrow.Author.Needs.{needs}
+use Rattle.terms.proofs.Common.{arith, needs}
 use Rattle.arcs.specs.Arcs.{radius²}
 use Rattle.arcs.proofs.squared_radius.Statement.{statement}
 use Rattle.arcs.proofs.squared_radius.Tie as tie

@@ -1,8 +1,5 @@
 -- `bench::enough` meets its contract: the number doubles until it is at its bound. Assumes nothing.
-use Prim.Native.Nat.{_≤_, _<_, _-_}
-use mathlib.Core.Path.{_≡_}
-use lib.ListN.{length}
-use borrow.Author.Needs.{needs}
+use Rattle.terms.proofs.Common.{_≤_, _<_, _-_, _≡_, length, needs}
 use Rattle.bench.proofs.enough.Statement.{statement}
 use Rattle.bench.proofs.enough.Tie as tie
 

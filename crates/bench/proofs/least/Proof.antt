@@ -1,8 +1,5 @@
 -- `bench::least` meets its contract: the two numbers draw nearer to each other. Assumes nothing.
-use Prim.Native.Nat.{_≤_, _<_, _-_}
-use mathlib.Core.Path.{_≡_}
-use lib.ListN.{length}
-use borrow.Author.Needs.{needs}
+use Rattle.terms.proofs.Common.{_≤_, _-_, _≡_, length, needs}
 use Rattle.bench.proofs.least.Statement.{statement}
 use Rattle.bench.proofs.least.Tie as tie
 

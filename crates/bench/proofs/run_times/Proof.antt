@@ -1,8 +1,5 @@
 -- `bench::run_times` meets its contract: a run less is left after each. Assumes nothing.
-use Prim.Native.Nat.{_≤_, _<_, _-_}
-use mathlib.Core.Path.{_≡_}
-use lib.ListN.{length}
-use borrow.Author.Needs.{needs}
+use Rattle.terms.proofs.Common.{_≡_, length, needs}
 use Rattle.bench.proofs.run_times.Statement.{statement}
 use Rattle.bench.proofs.run_times.Tie as tie
 

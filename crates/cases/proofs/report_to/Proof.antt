@@ -1,6 +1,6 @@
 -- `cases::report_to` meets its contract: so many blocks, or the whole run. Assumes nothing.
+use Rattle.terms.proofs.Common.{needs}
 use Rattle.cases.specs.Budgets.{budgetBy}
-use borrow.Author.Needs.{needs}
 use Rattle.cases.proofs.report_to.Statement.{statement}
 use Rattle.cases.proofs.report_to.Tie as tie
 

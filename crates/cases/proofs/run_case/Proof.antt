@@ -1,8 +1,5 @@
 -- `cases::run_case` meets its contract: the room is in the list. Assumes nothing.
-use mathlib.Core.Path.{sym}
-use native.Mathlib.Omega.{arith}
-use lib.Seq.{length-take-le}
-use borrow.Author.Needs.{needs}
+use Rattle.terms.proofs.Common.{sym, arith, length-take-le, needs}
 use Rattle.cases.proofs.run_case.Statement.{statement}
 use Rattle.cases.proofs.run_case.Tie as tie
 

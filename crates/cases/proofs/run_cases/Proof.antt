@@ -1,12 +1,6 @@
 -- `cases::run_cases` meets its contract: each case brings the place nearer to the end of the input, and the list keeps its length. Assumes nothing.
-use Prim.Native.Nat.{_≤_, _-_}
-use mathlib.Core.Path.{_≡_}
-use lib.ListN.{length}
-use native.Mathlib.Omega.{arith}
-use Rattle.cases.proofs.Laws.{Inside, case-inside}
-use borrow.Author.Needs.{needs}
-use borrow.Author.Tests.{not-false}
-use Rattle.cases.proofs.run_cases.Statement.{statement}
+use Rattle.terms.proofs.Common.{_≤_, _-_, _≡_, length, arith, needs, not-false}
+use Rattle.cases.proofs.{Laws.Inside, Laws.case-inside, run_cases.Statement.statement}
 use Rattle.cases.proofs.run_cases.Tie as tie
 
 abbrev Inv-loop : tie.InvT-loop

@@ -1,5 +1,5 @@
 -- `centres::across` meets its contract. Assumes nothing.
-use borrow.Author.Needs.{needs}
+use Rattle.terms.proofs.Common.{needs}
 use Rattle.centres.specs.Centres.{across}
 use Rattle.centres.proofs.across.Statement.{statement}
 use Rattle.centres.proofs.across.Tie as tie

@@ -1,16 +1,11 @@
 -- `centres::centre_by` meets its contract: a radius that is accepted makes every number of the computation fit. Assumes nothing.
-use Prim.Native.Nat.{_-_, _*_}
-use mathlib.Core.Path.{_≡_, ap, _∙_}
-use native.Mathlib.Omega.{arith}
-use borrow.Author.Needs.{needs}
+use Rattle.terms.proofs.Common.{_-_, _*_, _≡_, ap, _∙_, arith, needs}
 use Rattle.lengths.specs.Units.{sq}
 use Rattle.wide.specs.Wide.{worth}
 use Rattle.arcs.specs.Turning.{direction}
-use Rattle.centres.specs.Centres.{across, spare, centreBy}
-use Rattle.centres.specs.Bounds.{Shares}
-use Rattle.centres.proofs.Accepted.{chord-most}
+use Rattle.centres.specs.{Centres.across, Centres.spare, Centres.centreBy, Bounds.Shares}
+use Rattle.centres.proofs.{Accepted.chord-most, centre_by.Statement.statement}
 use Rattle.centres.proofs.Computing.{radius-most, chord-reach, divides, share-most, share-part, other-shares, Split, chord-split}
-use Rattle.centres.proofs.centre_by.Statement.{statement}
 use Rattle.centres.proofs.centre_by.Tie as tie
 
 q-is :

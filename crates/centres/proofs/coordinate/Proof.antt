@@ -1,5 +1,5 @@
 -- `centres::coordinate` meets its contract. Assumes nothing.
-use borrow.Author.Needs.{needs}
+use Rattle.terms.proofs.Common.{needs}
 use Rattle.centres.specs.Centres.{coordinate}
 use Rattle.centres.proofs.coordinate.Statement.{statement}
 use Rattle.centres.proofs.coordinate.Tie as tie

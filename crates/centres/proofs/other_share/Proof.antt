@@ -1,8 +1,6 @@
 -- `centres::other_share` meets its contract. Assumes nothing.
-use native.Mathlib.Omega.{arith}
-use borrow.Author.Needs.{needs}
-use Rattle.centres.proofs.Computing.{part-most, part-less, parted-exact, parted-rest}
-use Rattle.centres.proofs.other_share.Statement.{statement}
+use Rattle.terms.proofs.Common.{arith, needs}
+use Rattle.centres.proofs.{Computing.part-most, Computing.part-less, Computing.parted-exact, Computing.parted-rest, other_share.Statement.statement}
 use Rattle.centres.proofs.other_share.Tie as tie
 
 sub-left : tie.Need-sub-left

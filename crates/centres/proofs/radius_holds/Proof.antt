@@ -1,14 +1,9 @@
 -- `centres::radius_holds` meets its contract: an end that is too far on one axis is too far, and any other is near enough for the
 -- squares to fit. Assumes nothing.
-use mathlib.Core.Path.{_≡_, sym}
-use native.Mathlib.Omega.{arith}
-use borrow.Author.Needs.{needs}
-use borrow.Author.Tests.{le-leb}
-use lib.IntN.{natAbs}
+use Rattle.terms.proofs.Common.{_≡_, sym, arith, needs, le-leb, natAbs}
 use Rattle.lengths.proofs.Laws.{abs-sum, sq-near}
 use Rattle.centres.specs.Centres.{radiusHolds}
-use Rattle.centres.proofs.Computing.{small-refused, first-refused, second-refused}
-use Rattle.centres.proofs.radius_holds.Statement.{statement}
+use Rattle.centres.proofs.{Computing.small-refused, Computing.first-refused, Computing.second-refused, radius_holds.Statement.statement}
 use Rattle.centres.proofs.radius_holds.Tie as tie
 
 size-is : (c : tie.After-apart) → c .apart .result ≡ natAbs (c .before .before .args .r .v)

@@ -1,14 +1,7 @@
 -- `centres::scaled_root` meets its contract: the root of the share, with the sign of q. Assumes nothing.
-use Prim.Native.Nat.{_≤_}
-use mathlib.Core.Path.{_≡_, sym, ap, _∙_}
-use native.Mathlib.Nat.{mul-le-mul}
-use native.Mathlib.Omega.{arith}
-use borrow.Author.Needs.{needs}
-use lib.IntN.{pos}
-use lib.Signed.{leZ}
+use Rattle.terms.proofs.Common.{_≤_, _≡_, sym, ap, _∙_, mul-le-mul, arith, needs, pos, leZ}
 use Rattle.lengths.specs.Units.{len}
-use Rattle.centres.proofs.Computing.{root-small, root-up, root-exact, root-down}
-use Rattle.centres.proofs.scaled_root.Statement.{statement}
+use Rattle.centres.proofs.{Computing.root-small, Computing.root-up, Computing.root-exact, Computing.root-down, scaled_root.Statement.statement}
 use Rattle.centres.proofs.scaled_root.Tie as tie
 
 small : (c : tie.After-root-of) → c .root-of .result ≤ 2_000_000_000

@@ -2,8 +2,8 @@
 -- that it does not have, below, between and above the ranges. Assumes nothing.
 use Rattle.terms.specs.Terms.{lookup}
 use Rattle.codes.specs.Codes.{codeOf}
-use Rattle.codes.proofs.Tables.{code-at, plane-there, plane-of, place-of, code-none, below-ranges, between-ranges, above-ranges}
 use Rattle.codes.proofs.code_of.Statement.{statement}
+use Rattle.codes.proofs.Tables.{code-at, plane-there, plane-of, place-of, code-none, below-ranges, between-ranges, above-ranges}
 use Rattle.codes.proofs.code_of.Tie as tie
 
 pub code-of-spec : {M : Type 1} → statement M

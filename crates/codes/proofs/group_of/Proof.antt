@@ -1,5 +1,5 @@
 -- `codes::group_of` meets its contract: arm by arm, the variant's number. Assumes nothing.
-use borrow.Author.Needs.{needs}
+use Rattle.terms.proofs.Common.{needs}
 use Rattle.codes.specs.Codes.{groupOf}
 use Rattle.codes.proofs.group_of.Statement.{statement}
 use Rattle.codes.proofs.group_of.Tie as tie

@@ -1,5 +1,5 @@
 -- `codes::misc_number` meets its contract: arm by arm, the variant's number. Assumes nothing.
-use borrow.Author.Needs.{needs}
+use Rattle.terms.proofs.Common.{needs}
 use Rattle.codes.specs.Codes.{miscNumber}
 use Rattle.codes.proofs.misc_number.Statement.{statement}
 use Rattle.codes.proofs.misc_number.Tie as tie

@@ -2,8 +2,7 @@
 -- Assumes nothing.
 use Rattle.terms.specs.Terms.{lookup}
 use Rattle.codes.specs.Codes.{miscOf}
-use Rattle.codes.proofs.Tables.{misc-at, misc-none}
-use Rattle.codes.proofs.misc_of.Statement.{statement}
+use Rattle.codes.proofs.{Tables.misc-at, Tables.misc-none, misc_of.Statement.statement}
 use Rattle.codes.proofs.misc_of.Tie as tie
 
 pub misc-of-spec : {M : Type 1} → statement M

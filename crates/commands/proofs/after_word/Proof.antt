@@ -1,8 +1,6 @@
 -- `commands::after_word` meets its contract: the word, and its end where it has one. Assumes nothing.
-use borrow.Author.Needs.{needs}
-use native.Mathlib.Omega.{arith}
-use Rattle.commands.proofs.Parting.{past-word, past-last}
-use Rattle.commands.proofs.after_word.Statement.{statement}
+use Rattle.terms.proofs.Common.{needs, arith}
+use Rattle.commands.proofs.{Parting.past-word, Parting.past-last, after_word.Statement.statement}
 use Rattle.commands.proofs.after_word.Tie as tie
 
 returns : tie.Need-returns

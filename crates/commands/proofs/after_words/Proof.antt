@@ -1,12 +1,7 @@
 -- `commands::after_words` meets its contract. What is left gives the same. Assumes nothing.
-use borrow.Author.Needs.{needs}
-use Prim.Native.Nat.{ℕ, _≤_, _-_}
-use mathlib.Core.Path.{_≡_, refl, sym, ap, _∙_}
-use native.Mathlib.Omega.{arith}
-use lib.ListN.{length, drop}
+use Rattle.terms.proofs.Common.{needs, ℕ, _≤_, _-_, _≡_, refl, sym, ap, _∙_, arith, length, drop}
 use Rattle.commands.specs.Words.{afterWords}
-use Rattle.commands.proofs.Parting.{one-less, none-left}
-use Rattle.commands.proofs.after_words.Statement.{statement}
+use Rattle.commands.proofs.{Parting.one-less, Parting.none-left, after_words.Statement.statement}
 use Rattle.commands.proofs.after_words.Tie as tie
 
 abbrev Inv-loop : tie.InvT-loop

@@ -1,13 +1,7 @@
 -- `commands::count_of` meets its contract. What is left gives the same. Assumes nothing.
-use borrow.Author.Needs.{needs}
-use Prim.Native.Nat.{_≤_, _-_, _+_}
-use mathlib.Core.Path.{_≡_}
-use mathlib.Core.Logic.{⊎-elim}
-use native.Mathlib.Omega.{arith}
-use lib.ListN.{length, drop}
+use Rattle.terms.proofs.Common.{needs, _≤_, _-_, _+_, _≡_, ⊎-elim, arith, length, drop}
 use Rattle.commands.specs.Words.{countIn}
-use Rattle.commands.proofs.Parting.{count-end, count-one, count-none}
-use Rattle.commands.proofs.count_of.Statement.{statement}
+use Rattle.commands.proofs.{Parting.count-end, Parting.count-one, Parting.count-none, count_of.Statement.statement}
 use Rattle.commands.proofs.count_of.Tie as tie
 
 abbrev Inv-loop : tie.InvT-loop

@@ -1,9 +1,5 @@
 -- `commands::is` meets its contract: all of the bytes are compared. Assumes nothing.
-use borrow.Author.Needs.{needs}
-use mathlib.Core.Path.{ap, _∙_}
-use Prim.Native.Nat.{ℕ}
-use mathlib.Core.List.{List}
-use lib.Seq.{take-length}
+use Rattle.terms.proofs.Common.{needs, ap, _∙_, ℕ, List, take-length}
 use Rattle.texts.specs.Texts.{sameBytes}
 use Rattle.commands.proofs.is.Statement.{statement}
 use Rattle.commands.proofs.is.Tie as tie

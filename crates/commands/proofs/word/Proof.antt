@@ -1,10 +1,7 @@
 -- `commands::word` meets its contract: the bytes from a place to another are the word there. Assumes nothing.
-use borrow.Author.Needs.{needs}
-use mathlib.Core.Path.{ap, _∙_}
-use native.Mathlib.Omega.{arith}
+use Rattle.terms.proofs.Common.{needs, ap, _∙_, arith}
 use Rattle.commands.specs.Words.{wordIn, wordOf}
-use Rattle.commands.proofs.Parting.{word-inside, is-word}
-use Rattle.commands.proofs.word.Statement.{statement}
+use Rattle.commands.proofs.{Parting.word-inside, Parting.is-word, word.Statement.statement}
 use Rattle.commands.proofs.word.Tie as tie
 
 part-result-end : tie.Need-part-result-end

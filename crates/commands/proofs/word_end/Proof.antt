@@ -1,12 +1,7 @@
 -- `commands::word_end` meets its contract. What is left gives the same. Assumes nothing.
-use borrow.Author.Needs.{needs}
-use Prim.Native.Nat.{_≤_, _-_, _+_}
-use mathlib.Core.Path.{_≡_}
-use native.Mathlib.Omega.{arith}
-use lib.ListN.{length, drop}
+use Rattle.terms.proofs.Common.{needs, _≤_, _-_, _+_, _≡_, arith, length, drop}
 use Rattle.commands.specs.Words.{wordIn}
-use Rattle.commands.proofs.Parting.{word-none, word-over, word-more}
-use Rattle.commands.proofs.word_end.Statement.{statement}
+use Rattle.commands.proofs.{Parting.word-none, Parting.word-over, Parting.word-more, word_end.Statement.statement}
 use Rattle.commands.proofs.word_end.Tie as tie
 
 abbrev Inv-loop : tie.InvT-loop

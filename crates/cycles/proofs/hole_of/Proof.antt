@@ -1,6 +1,5 @@
 -- `cycles::hole_of` meets its contract: the level of R is near enough for Z to lead on from it. Assumes nothing.
-use native.Mathlib.Omega.{arith}
-use borrow.Author.Needs.{needs}
+use Rattle.terms.proofs.Common.{arith, needs}
 use Rattle.lengths.specs.View.{Within}
 use Rattle.settings.proofs.Near.{aimed-near}
 use Rattle.cycles.specs.Cycles.{holeOf, levelR, levelZ}

@@ -1,5 +1,5 @@
 -- `cycles::levels_hold` meets its contract. Assumes nothing.
-use borrow.Author.Needs.{needs}
+use Rattle.terms.proofs.Common.{needs}
 use Rattle.cycles.specs.Cycles.{levelsHold}
 use Rattle.cycles.proofs.levels_hold.Statement.{statement}
 use Rattle.cycles.proofs.levels_hold.Tie as tie

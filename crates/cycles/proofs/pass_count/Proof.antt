@@ -1,8 +1,5 @@
 -- `cycles::pass_count` meets its contract. Assumes nothing.
-use mathlib.Core.Path.{_≡_}
-use native.Mathlib.Omega.{arith}
-use borrow.Author.Needs.{needs}
-use lib.IntN.{natAbs}
+use Rattle.terms.proofs.Common.{_≡_, arith, needs, natAbs}
 use Rattle.lengths.proofs.Laws.{abs-sum}
 use Rattle.cycles.specs.Cycles.{passCount}
 use Rattle.cycles.proofs.pass_count.Statement.{statement}

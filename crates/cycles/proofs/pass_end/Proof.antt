@@ -1,9 +1,7 @@
 -- `cycles::pass_end` meets its contract, with Z and without. Assumes nothing.
-use mathlib.Core.Path.{sym, _∙_, ap}
-use borrow.Author.Needs.{needs}
+use Rattle.terms.proofs.Common.{sym, _∙_, ap, needs}
 use Rattle.lengths.specs.Points.{atHeight}
-use Rattle.cycles.proofs.Passes.{ends-with-z, ends-without-z}
-use Rattle.cycles.proofs.pass_end.Statement.{statement}
+use Rattle.cycles.proofs.{Passes.ends-with-z, Passes.ends-without-z, pass_end.Statement.statement}
 use Rattle.cycles.proofs.pass_end.Tie as tie
 
 returns : tie.Need-returns

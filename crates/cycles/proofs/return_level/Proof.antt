@@ -1,6 +1,5 @@
 -- `cycles::return_level` meets its contract, code by code. Assumes nothing.
-use mathlib.Core.Path.{sym, ap}
-use borrow.Author.Needs.{needs}
+use Rattle.terms.proofs.Common.{sym, ap, needs}
 use Rattle.codes.specs.declared.Return.{Return}
 use Rattle.cycles.specs.Cycles.{levelFor, returnLevel}
 use Rattle.cycles.proofs.return_level.Statement.{statement}

@@ -1,8 +1,6 @@
 -- `cycles::row_after_cut` meets its contract: by whether a P stands, and by the place. Assumes nothing.
-use borrow.Author.Needs.{needs}
-use borrow.Author.Tests.{not-true, not-false}
-use Rattle.cycles.proofs.Rows.{up-there, after-up, after-dwell, up-left, after-rest}
-use Rattle.cycles.proofs.row_after_cut.Statement.{statement}
+use Rattle.terms.proofs.Common.{needs, not-true, not-false}
+use Rattle.cycles.proofs.{Rows.up-there, Rows.after-up, Rows.after-dwell, Rows.up-left, Rows.after-rest, row_after_cut.Statement.statement}
 use Rattle.cycles.proofs.row_after_cut.Tie as tie
 
 row-up-requires : tie.Need-row-up-requires

@@ -1,10 +1,6 @@
 -- `cycles::row_at` meets its contract: by whether a Z stands, and by the place. Assumes nothing.
-use borrow.Author.Needs.{needs}
-use native.Mathlib.Omega.{arith}
-use Prim.Native.Nat.{_<_}
-use borrow.Author.Tests.{not-true, not-false}
-use Rattle.cycles.proofs.Rows.{row-flat, row-first, row-second, row-third, row-left, row-rest}
-use Rattle.cycles.proofs.row_at.Statement.{statement}
+use Rattle.terms.proofs.Common.{needs, arith, not-true, not-false}
+use Rattle.cycles.proofs.{Rows.row-flat, Rows.row-first, Rows.row-second, Rows.row-third, Rows.row-left, Rows.row-rest, row_at.Statement.statement}
 use Rattle.cycles.proofs.row_at.Tie as tie
 
 returns : tie.Need-returns

@@ -1,8 +1,6 @@
 -- `cycles::row_count` meets its contract: by whether a Z and a P stand. Assumes nothing.
-use borrow.Author.Needs.{needs}
-use borrow.Author.Tests.{not-true, not-false}
-use Rattle.cycles.proofs.Rows.{length-flat, length-dwell, length-deep}
-use Rattle.cycles.proofs.row_count.Statement.{statement}
+use Rattle.terms.proofs.Common.{needs, not-true, not-false}
+use Rattle.cycles.proofs.{Rows.length-flat, Rows.length-dwell, Rows.length-deep, row_count.Statement.statement}
 use Rattle.cycles.proofs.row_count.Tie as tie
 
 returns : tie.Need-returns

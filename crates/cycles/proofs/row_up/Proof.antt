@@ -1,7 +1,6 @@
 -- `cycles::row_up` meets its contract: by the place, and then by the code that is on. Assumes nothing.
-use borrow.Author.Needs.{needs}
-use Rattle.cycles.proofs.Rows.{up-second, up-first, begins-81, begins-82, begins-85, begins-89}
-use Rattle.cycles.proofs.row_up.Statement.{statement}
+use Rattle.terms.proofs.Common.{needs}
+use Rattle.cycles.proofs.{Rows.up-second, Rows.up-first, Rows.begins-81, Rows.begins-82, Rows.begins-85, Rows.begins-89, row_up.Statement.statement}
 use Rattle.cycles.proofs.row_up.Tie as tie
 
 returns : tie.Need-returns

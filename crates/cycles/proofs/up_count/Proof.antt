@@ -1,7 +1,6 @@
 -- `cycles::up_count` meets its contract: by the code that is on, and for G85 and G89 by the level to return to. Assumes nothing.
-use borrow.Author.Needs.{needs}
-use Rattle.cycles.proofs.Rows.{length-81, length-82, length-initial, length-r}
-use Rattle.cycles.proofs.up_count.Statement.{statement}
+use Rattle.terms.proofs.Common.{needs}
+use Rattle.cycles.proofs.{Rows.length-81, Rows.length-82, Rows.length-initial, Rows.length-r, up_count.Statement.statement}
 use Rattle.cycles.proofs.up_count.Tie as tie
 
 returns : tie.Need-returns

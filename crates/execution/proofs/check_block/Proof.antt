@@ -1,14 +1,9 @@
 -- `execution::check_block` meets its contract: 3, then 4 for a cycle, then its path. Assumes nothing.
-use borrow.Author.Needs.{needs}
-use native.Mathlib.Omega.{arith}
-use mathlib.Core.Path.{_≡_, refl, sym, _∙_, ap}
+use Rattle.terms.proofs.Common.{needs, refl, _∙_}
 use Rattle.refusals.specs.declared.Refusal.the-variants.{ParameterUndefined, CannotExecute}
-use Rattle.blocks.specs.Machine.{machineOf}
-use Rattle.blocks.specs.Exec.{callTo, controlOf}
-use Rattle.blocks.specs.Calling.{freely}
-use Rattle.blocks.proofs.Calling.{free-known, free-level}
-use Rattle.execution.proofs.Verdicts.{does-refused, does-as, lacks-past, lacks-stops, calls-past, drill-past, drill-stops}
+use Rattle.blocks.{specs.Machine.machineOf, specs.Exec.callTo, specs.Exec.controlOf, specs.Calling.freely, proofs.Calling.free-known, proofs.Calling.free-level}
 use Rattle.execution.proofs.check_block.Statement.{statement}
+use Rattle.execution.proofs.Verdicts.{does-refused, does-as, lacks-past, lacks-stops, calls-past, drill-past, drill-stops}
 use Rattle.execution.proofs.check_block.Tie as tie
 
 returns : tie.Need-returns

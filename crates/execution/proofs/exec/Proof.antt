@@ -1,10 +1,7 @@
 -- `execution::exec` meets its contract: what is heard of the block is refused, or check-blocked. Assumes nothing.
-use borrow.Author.Needs.{needs}
-use native.Mathlib.Omega.{arith}
-use mathlib.Core.Path.{sym, _∙_, ap}
-use Rattle.execution.specs.Hearing.{Hears, HeardAs}
-use Rattle.execution.proofs.Verdicts.{does-refused, does-as}
-use Rattle.execution.proofs.exec.Statement.{statement}
+use Rattle.terms.proofs.Common.{needs, _∙_}
+use Rattle.execution.specs.Hearing.{Hears}
+use Rattle.execution.proofs.{Verdicts.does-refused, Verdicts.does-as, exec.Statement.statement}
 use Rattle.execution.proofs.exec.Tie as tie
 
 -- what the block says

@@ -1,8 +1,7 @@
 -- `interpreter::run` meets its contract. Assumes nothing.
-use borrow.Author.Needs.{needs}
+use Rattle.terms.proofs.Common.{needs}
 use Rattle.runs.specs.declared.Budget.the-variants.{Whole}
-use Rattle.interpreter.proofs.Starting.{owed}
-use Rattle.interpreter.proofs.run.Statement.{statement}
+use Rattle.interpreter.proofs.{Starting.owed, run.Statement.statement}
 use Rattle.interpreter.proofs.run.Tie as tie
 
 returns : tie.Need-returns

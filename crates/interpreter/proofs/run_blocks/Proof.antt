@@ -1,8 +1,7 @@
 -- `interpreter::run_blocks` meets its contract. Assumes nothing.
-use borrow.Author.Needs.{needs}
+use Rattle.terms.proofs.Common.{needs}
 use Rattle.runs.specs.declared.Budget.the-variants.{First}
-use Rattle.interpreter.proofs.Starting.{owed}
-use Rattle.interpreter.proofs.run_blocks.Statement.{statement}
+use Rattle.interpreter.proofs.{Starting.owed, run_blocks.Statement.statement}
 use Rattle.interpreter.proofs.run_blocks.Tie as tie
 
 returns : tie.Need-returns

@@ -1,15 +1,8 @@
 -- `interpreter::run_main` meets its contract. Assumes nothing.
-use mathlib.Core.Path.{_≡_, refl, sym, _∙_, ap}
-use borrow.Author.Needs.{needs}
-use lib.ListN.{length, length-map}
-use Rattle.setup.specs.declared.Bed.{Bed}
-use Rattle.setup.specs.Frame.{offset, bedOf}
-use Rattle.setup.specs.Fair.{Fair}
-use Rattle.setup.proofs.Valid.{fair}
-use Rattle.interpreter.specs.Progressing.{goingOf, outcomeBy}
-use Rattle.interpreter.specs.Serving.{reportBy}
-use Rattle.interpreter.proofs.Starting.{first-fits, main-begins, task-sound, main-walk, main-sums, main-gives}
-use Rattle.interpreter.proofs.run_main.Statement.{statement}
+use Rattle.terms.proofs.Common.{_≡_, refl, sym, _∙_, ap, needs, length, length-map}
+use Rattle.setup.{specs.declared.Bed.Bed, specs.Frame.offset, specs.Frame.bedOf, specs.Fair.Fair, proofs.Valid.fair}
+use Rattle.interpreter.specs.{Progressing.goingOf, Progressing.outcomeBy, Serving.reportBy}
+use Rattle.interpreter.proofs.{Starting.first-fits, Starting.main-begins, Starting.task-sound, Starting.main-walk, Starting.main-sums, Starting.main-gives, run_main.Statement.statement}
 use Rattle.interpreter.proofs.run_main.Tie as tie
 
 bed-fair : (c : tie.After-bed-of) → Fair (c .bed-of .result)

@@ -1,23 +1,9 @@
 -- `interpreter::run_within` meets its contract, in the order of document 01. Assumes nothing.
-use Prim.Native.Nat.{_≤_}
-use mathlib.Core.Path.{_≡_, sym, _∙_}
-use mathlib.Core.Bool.{true}
-use native.Mathlib.Omega.{arith}
-use borrow.Author.Needs.{needs}
-use borrow.Author.Tests.{not-true, not-false}
-use lib.ListN.{length, drop}
+use Rattle.terms.proofs.Common.{_≤_, _≡_, sym, _∙_, true, arith, needs, not-true, not-false, length, drop}
 use Rattle.lines.specs.Blocks.{isPercent, textFrom}
 use Rattle.setup.specs.Limits.{validSetup}
-use Rattle.interpreter.proofs.Starting.{
-  some-byte,
-  gives-too-long,
-  gives-bad-setup,
-  gives-first-block,
-  gives-opening,
-  programs-opened,
-  gives-main,
-}
 use Rattle.interpreter.proofs.run_within.Statement.{statement}
+use Rattle.interpreter.proofs.Starting.{some-byte, gives-too-long, gives-bad-setup, gives-first-block, gives-opening, programs-opened, gives-main}
 use Rattle.interpreter.proofs.run_within.Tie as tie
 
 returns : tie.Need-returns

@@ -1,9 +1,5 @@
 -- `iswenaid::gather` meets its contract: each argument stays in the buffer. Assumes nothing.
-use borrow.Author.Needs.{needs}
-use Prim.Native.Nat.{_≤_, _-_}
-use mathlib.Core.Path.{_≡_}
-use native.Mathlib.Omega.{arith}
-use lib.ListN.{length}
+use Rattle.terms.proofs.Common.{needs, _≤_, _-_, _≡_, arith, length}
 use Rattle.io.proofs.Counting.{counts}
 use Rattle.iswenaid.proofs.gather.Statement.{statement}
 use Rattle.iswenaid.proofs.gather.Tie as tie

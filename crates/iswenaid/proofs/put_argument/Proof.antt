@@ -1,7 +1,5 @@
 -- `iswenaid::put_argument` meets its contract: the end is written inside the buffer. Assumes nothing.
-use borrow.Author.Needs.{needs}
-use native.Mathlib.Omega.{arith}
-use lib.ListN.{length-set}
+use Rattle.terms.proofs.Common.{needs, arith, length-set}
 use Rattle.iswenaid.proofs.put_argument.Statement.{statement}
 use Rattle.iswenaid.proofs.put_argument.Tie as tie
 

@@ -1,12 +1,9 @@
 -- `letters::arc_use` meets its contract: the radius, and the letters after it in the table. Assumes nothing.
-use borrow.Author.Needs.{needs}
-use mathlib.Core.Path.{refl}
-use mathlib.Core.List.{[], _∷_, _++_}
+use Rattle.terms.proofs.Common.{needs, refl, [], _∷_, _++_}
 use Rattle.terms.specs.Terms.{byte, bytes, any, all, lookup}
 use Rattle.words.specs.declared.Use.the-variants.{Length}
 use Rattle.letters.specs.Letters.{each, endLetters, centreLetters, arcLetters}
-use Rattle.letters.proofs.Uses.{used-at, used-past}
-use Rattle.letters.proofs.arc_use.Statement.{statement}
+use Rattle.letters.proofs.{Uses.used-at, Uses.used-past, arc_use.Statement.statement}
 use Rattle.letters.proofs.arc_use.Tie as tie
 
 returns-plane : tie.Need-returns-2

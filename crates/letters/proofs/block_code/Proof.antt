@@ -1,6 +1,5 @@
 -- `letters::block_code` meets its contract: the tests are those of the rule, on the number of the M code. Assumes nothing.
-use borrow.Author.Needs.{needs}
-use borrow.Author.Tests.{eq-eqb, ne-eqb}
+use Rattle.terms.proofs.Common.{needs, eq-eqb, ne-eqb}
 use Rattle.codes.specs.Codes.{isM}
 use Rattle.letters.specs.Letters.{codeUnder}
 use Rattle.letters.proofs.block_code.Statement.{statement}

@@ -1,10 +1,8 @@
 -- `letters::call_use` meets its contract: the letter of the table, and every other. Assumes nothing.
-use mathlib.Core.Path.{refl}
-use mathlib.Core.List.{[]}
+use Rattle.terms.proofs.Common.{refl, []}
 use Rattle.terms.specs.Terms.{byte, bytes, any, all, lookup}
 use Rattle.letters.specs.Letters.{callLetters}
-use Rattle.letters.proofs.Uses.{used-at, used-past}
-use Rattle.letters.proofs.call_use.Statement.{statement}
+use Rattle.letters.proofs.{Uses.used-at, Uses.used-past, call_use.Statement.statement}
 use Rattle.letters.proofs.call_use.Tie as tie
 
 pub call-use-spec : {M : Type 1} → statement M

@@ -1,12 +1,9 @@
 -- `letters::cycle_use` meets its contract: the count, and the letters after it in the table. Assumes nothing.
-use borrow.Author.Needs.{needs}
-use mathlib.Core.Path.{refl}
-use mathlib.Core.List.{[], _∷_}
+use Rattle.terms.proofs.Common.{needs, refl, [], _∷_}
 use Rattle.terms.specs.Terms.{byte, bytes, any, all, lookup}
 use Rattle.words.specs.declared.Use.the-variants.{Length, Count}
 use Rattle.letters.specs.Letters.{each, cycleLetters}
-use Rattle.letters.proofs.Uses.{used-at, used-past}
-use Rattle.letters.proofs.cycle_use.Statement.{statement}
+use Rattle.letters.proofs.{Uses.used-at, Uses.used-past, cycle_use.Statement.statement}
 use Rattle.letters.proofs.cycle_use.Tie as tie
 
 returns-length : tie.Need-returns-2

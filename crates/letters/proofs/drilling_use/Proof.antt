@@ -1,5 +1,5 @@
 -- `letters::drilling_use` meets its contract, cycle by cycle. Assumes nothing.
-use borrow.Author.Needs.{needs}
+use Rattle.terms.proofs.Common.{needs}
 use Rattle.letters.specs.Letters.{drillingLetters}
 use Rattle.letters.proofs.drilling_use.Statement.{statement}
 use Rattle.letters.proofs.drilling_use.Tie as tie

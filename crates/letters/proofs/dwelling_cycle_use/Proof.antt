@@ -1,12 +1,9 @@
 -- `letters::dwelling_cycle_use` meets its contract: the dwell, and the letters of any cycle after it. Assumes nothing.
-use borrow.Author.Needs.{needs}
-use mathlib.Core.Path.{refl}
-use mathlib.Core.List.{[], _∷_}
+use Rattle.terms.proofs.Common.{needs, refl, [], _∷_}
 use Rattle.terms.specs.Terms.{byte, bytes, any, all, lookup}
 use Rattle.words.specs.declared.Use.the-variants.{Dwell}
 use Rattle.letters.specs.Letters.{cycleLetters, dwellingCycleLetters}
-use Rattle.letters.proofs.Uses.{used-at, used-past}
-use Rattle.letters.proofs.dwelling_cycle_use.Statement.{statement}
+use Rattle.letters.proofs.{Uses.used-at, Uses.used-past, dwelling_cycle_use.Statement.statement}
 use Rattle.letters.proofs.dwelling_cycle_use.Tie as tie
 
 returns-cycle : tie.Need-returns-2

@@ -1,5 +1,5 @@
 -- `letters::has_centre` meets its contract. Assumes nothing.
-use borrow.Author.Needs.{needs}
+use Rattle.terms.proofs.Common.{needs}
 use Rattle.letters.specs.Letters.{hasCentre}
 use Rattle.letters.proofs.has_centre.Statement.{statement}
 use Rattle.letters.proofs.has_centre.Tie as tie

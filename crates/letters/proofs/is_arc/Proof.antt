@@ -1,9 +1,7 @@
 -- `letters::is_arc` meets its contract. Assumes nothing.
-use mathlib.Core.Path.{sym}
-use borrow.Author.Needs.{needs}
+use Rattle.terms.proofs.Common.{sym, needs}
 use Rattle.letters.specs.Letters.{isArc}
-use Rattle.letters.proofs.Centred.{other-codes}
-use Rattle.letters.proofs.is_arc.Statement.{statement}
+use Rattle.letters.proofs.{Centred.other-codes, is_arc.Statement.statement}
 use Rattle.letters.proofs.is_arc.Tie as tie
 
 pub is-arc-spec : {M : Type 1} → statement M

@@ -1,5 +1,5 @@
 -- `letters::length_among` meets its contract: the table is gone through letter by letter. Assumes nothing.
-use borrow.Author.Tests.{eq-eqb, ne-eqb}
+use Rattle.terms.proofs.Common.{eq-eqb, ne-eqb}
 use Rattle.terms.specs.Terms.{lookup}
 use Rattle.letters.proofs.length_among.Statement.{statement}
 use Rattle.letters.proofs.length_among.Tie as tie

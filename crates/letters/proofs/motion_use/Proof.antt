@@ -1,5 +1,5 @@
 -- `letters::motion_use` meets its contract, motion by motion. Assumes nothing.
-use borrow.Author.Needs.{needs}
+use Rattle.terms.proofs.Common.{needs}
 use Rattle.terms.specs.Terms.{lookup}
 use Rattle.letters.specs.Letters.{motionLetters}
 use Rattle.letters.proofs.motion_use.Statement.{statement}

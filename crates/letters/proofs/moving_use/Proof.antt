@@ -1,11 +1,8 @@
 -- `letters::moving_use` meets its contract: F and S, and the letters of the motion after them in the table. Assumes nothing.
-use borrow.Author.Needs.{needs}
-use mathlib.Core.Path.{refl}
-use mathlib.Core.List.{_++_}
+use Rattle.terms.proofs.Common.{needs, refl, _++_}
 use Rattle.terms.specs.Terms.{byte, bytes, any, all, lookup}
 use Rattle.letters.specs.Letters.{feedAndSpeed, motionLetters}
-use Rattle.letters.proofs.Uses.{used-at, used-past}
-use Rattle.letters.proofs.moving_use.Statement.{statement}
+use Rattle.letters.proofs.{Uses.used-at, Uses.used-past, moving_use.Statement.statement}
 use Rattle.letters.proofs.moving_use.Tie as tie
 
 returns-motion : tie.Need-returns-3

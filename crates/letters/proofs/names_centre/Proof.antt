@@ -1,9 +1,8 @@
 -- `letters::names_centre` meets its contract, plane by plane. Assumes nothing.
-use borrow.Author.Needs.{needs}
+use Rattle.terms.proofs.Common.{needs}
 use Rattle.terms.specs.Terms.{byte}
 use Rattle.letters.specs.Letters.{centreLetters, namesCentre}
-use Rattle.letters.proofs.Centred.{two-seen}
-use Rattle.letters.proofs.names_centre.Statement.{statement}
+use Rattle.letters.proofs.{Centred.two-seen, names_centre.Statement.statement}
 use Rattle.letters.proofs.names_centre.Tie as tie
 
 pub names-centre-spec : {M : Type 1} → statement M

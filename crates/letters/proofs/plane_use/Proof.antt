@@ -1,5 +1,5 @@
 -- `letters::plane_use` meets its contract, plane by plane. Assumes nothing.
-use borrow.Author.Needs.{needs}
+use Rattle.terms.proofs.Common.{needs}
 use Rattle.letters.specs.Letters.{endLetters, centreLetters}
 use Rattle.letters.proofs.plane_use.Statement.{statement}
 use Rattle.letters.proofs.plane_use.Tie as tie

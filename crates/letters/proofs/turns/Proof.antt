@@ -1,9 +1,7 @@
 -- `letters::turns` meets its contract, code by code. Assumes nothing.
-use mathlib.Core.Path.{sym}
-use borrow.Author.Needs.{needs}
+use Rattle.terms.proofs.Common.{sym, needs}
 use Rattle.letters.specs.Letters.{turns}
-use Rattle.letters.proofs.Centred.{other-motions}
-use Rattle.letters.proofs.turns.Statement.{statement}
+use Rattle.letters.proofs.{Centred.other-motions, turns.Statement.statement}
 use Rattle.letters.proofs.turns.Tie as tie
 
 pub turns-spec : {M : Type 1} → statement M

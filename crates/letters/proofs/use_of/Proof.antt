@@ -1,9 +1,8 @@
 -- `letters::use_of` meets its contract: N, G and M, and the letters of the code after them in the table. Assumes nothing.
-use borrow.Author.Needs.{needs}
+use Rattle.terms.proofs.Common.{needs}
 use Rattle.terms.specs.Terms.{byte, lookup}
 use Rattle.letters.specs.Letters.{lettersOf, useOf}
-use Rattle.letters.proofs.Uses.{use-at, use-past}
-use Rattle.letters.proofs.use_of.Statement.{statement}
+use Rattle.letters.proofs.{Uses.use-at, Uses.use-past, use_of.Statement.statement}
 use Rattle.letters.proofs.use_of.Tie as tie
 
 returns-call : tie.Need-returns-4

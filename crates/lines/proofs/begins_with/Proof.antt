@@ -1,8 +1,5 @@
-use mathlib.Core.Path.{sym}
-use native.Mathlib.Omega.{arith}
-use borrow.Author.Needs.{needs}
-use Rattle.lines.proofs.Lines.{text-begins-end, text-begins-at}
-use Rattle.lines.proofs.begins_with.Statement.{statement}
+use Rattle.terms.proofs.Common.{sym, arith, needs}
+use Rattle.lines.proofs.{Lines.text-begins-end, Lines.text-begins-at, begins_with.Statement.statement}
 use Rattle.lines.proofs.begins_with.Tie as tie
 
 returns : tie.Need-returns

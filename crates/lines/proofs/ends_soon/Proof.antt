@@ -1,9 +1,6 @@
 -- `lines::ends_soon` meets its contract: byte after byte, none is an LF. Assumes nothing.
-use borrow.Author.Needs.{needs}
-use native.Mathlib.Omega.{arith}
-use borrow.Author.Tests.{eqb-false}
-use Rattle.lines.proofs.Lines.{length-at-more, length-past}
-use Rattle.lines.proofs.ends_soon.Statement.{statement}
+use Rattle.terms.proofs.Common.{needs, arith, eqb-false}
+use Rattle.lines.proofs.{Lines.length-at-more, Lines.length-past, ends_soon.Statement.statement}
 use Rattle.lines.proofs.ends_soon.Tie as tie
 
 returns : tie.Need-returns

@@ -1,8 +1,5 @@
-use mathlib.Core.Path.{sym, _∙_}
-use native.Mathlib.Omega.{arith}
-use borrow.Author.Needs.{needs}
-use Rattle.lines.proofs.Lines.{percent-end, percent-not, percent-at}
-use Rattle.lines.proofs.is_percent.Statement.{statement}
+use Rattle.terms.proofs.Common.{sym, _∙_, arith, needs}
+use Rattle.lines.proofs.{Lines.percent-end, Lines.percent-not, Lines.percent-at, is_percent.Statement.statement}
 use Rattle.lines.proofs.is_percent.Tie as tie
 
 returns : tie.Need-returns

@@ -1,8 +1,5 @@
 -- `lines::near_end` meets its contract: from each place reached the block ends where it did. Assumes nothing.
-use Prim.Native.Nat.{_+_, _-_, _≤_}
-use mathlib.Core.Path.{_≡_}
-use native.Mathlib.Omega.{arith}
-use lib.ListN.{length, drop}
+use Rattle.terms.proofs.Common.{_+_, _-_, _≤_, _≡_, arith, length, drop}
 use Rattle.lines.specs.Blocks.{lengthFrom}
 use Rattle.lines.proofs.near_end.Statement.{statement}
 use Rattle.lines.proofs.near_end.Tie as tie

@@ -1,11 +1,7 @@
 -- `lines::next_block` meets its contract: from each place reached the block ends where it did. Assumes nothing.
-use Prim.Native.Nat.{_+_, _-_, _≤_}
-use mathlib.Core.Path.{_≡_}
-use native.Mathlib.Omega.{arith}
-use lib.ListN.{length, drop}
+use Rattle.terms.proofs.Common.{_+_, _-_, _≤_, _≡_, arith, length, drop}
 use Rattle.lines.specs.Blocks.{lengthFrom}
-use Rattle.lines.proofs.Lines.{length-at-lf, length-at-more, length-at-end}
-use Rattle.lines.proofs.next_block.Statement.{statement}
+use Rattle.lines.proofs.{Lines.length-at-lf, Lines.length-at-more, Lines.length-at-end, next_block.Statement.statement}
 use Rattle.lines.proofs.next_block.Tie as tie
 
 abbrev Inv-loop : tie.InvT-loop

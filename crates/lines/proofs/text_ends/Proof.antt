@@ -1,9 +1,5 @@
-use Prim.Native.Nat.{_+_}
-use mathlib.Core.Path.{sym, _∙_}
-use native.Mathlib.Omega.{arith}
-use borrow.Author.Needs.{needs}
-use Rattle.lines.proofs.Lines.{no-text-end, no-text-lf, no-text-other, no-text-cr, begins-end, begins-at}
-use Rattle.lines.proofs.text_ends.Statement.{statement}
+use Rattle.terms.proofs.Common.{_+_, sym, _∙_, arith, needs}
+use Rattle.lines.proofs.{Lines.no-text-end, Lines.no-text-lf, Lines.no-text-other, Lines.no-text-cr, Lines.begins-end, Lines.begins-at, text_ends.Statement.statement}
 use Rattle.lines.proofs.text_ends.Tie as tie
 
 returns : tie.Need-returns

@@ -1,5 +1,5 @@
 -- `lists::is_written` meets its contract. Assumes nothing.
-use borrow.Author.Needs.{needs}
+use Rattle.terms.proofs.Common.{needs}
 use Rattle.lists.specs.Lists.{isWritten}
 use Rattle.lists.proofs.is_written.Statement.{statement}
 use Rattle.lists.proofs.is_written.Tie as tie

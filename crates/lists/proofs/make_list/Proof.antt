@@ -1,10 +1,6 @@
 -- `lists::make_list` meets its contract: a part of the buffer is the run's room. Assumes nothing.
-use borrow.Author.Needs.{needs}
-use mathlib.Core.Path.{_≡_, sym, _∙_}
-use lib.ListN.{length, length-map}
-use lib.Seq.{length-take-le}
-use Rattle.lists.proofs.Listing.{made}
-use Rattle.lists.proofs.make_list.Statement.{statement}
+use Rattle.terms.proofs.Common.{needs, _≡_, sym, _∙_, length, length-map, length-take-le}
+use Rattle.lists.proofs.{Listing.made, make_list.Statement.statement}
 use Rattle.lists.proofs.make_list.Tie as tie
 
 slice-aggregate-report-in : tie.Need-slice-aggregate-report-in

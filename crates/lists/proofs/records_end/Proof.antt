@@ -1,11 +1,7 @@
 -- `lists::records_end` meets its contract. What is left gives the same. Assumes nothing.
-use borrow.Author.Needs.{needs}
-use mathlib.Core.Path.{_≡_, refl, sym, _∙_, ap}
-use native.Mathlib.Omega.{arith}
-use Prim.Native.Nat.{ℕ}
+use Rattle.terms.proofs.Common.{needs, _≡_, refl, sym, _∙_, ap, arith, ℕ}
 use Rattle.lists.specs.Lists.{endAfter}
-use Rattle.lists.proofs.Listing.{end-none, end-next, end-over, end-faulty}
-use Rattle.lists.proofs.records_end.Statement.{statement}
+use Rattle.lists.proofs.{Listing.end-none, Listing.end-next, Listing.end-over, Listing.end-faulty, records_end.Statement.statement}
 use Rattle.lists.proofs.records_end.Tie as tie
 
 abbrev Inv-loop : tie.InvT-loop

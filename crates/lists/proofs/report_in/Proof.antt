@@ -1,7 +1,6 @@
 -- `lists::report_in` meets its contract: each entry point runs one kind of budget. Assumes nothing.
-use borrow.Author.Needs.{needs}
-use Rattle.lists.proofs.Listing.{budget-whole, budget-first}
-use Rattle.lists.proofs.report_in.Statement.{statement}
+use Rattle.terms.proofs.Common.{needs}
+use Rattle.lists.proofs.{Listing.budget-whole, Listing.budget-first, report_in.Statement.statement}
 use Rattle.lists.proofs.report_in.Tie as tie
 
 returns : tie.Need-returns

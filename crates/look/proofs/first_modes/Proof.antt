@@ -1,8 +1,6 @@
 -- `look::first_modes` meets its contract: a run's first state has the first modes, wherever it starts. Assumes nothing.
-use mathlib.Core.Path.{ap}
-use Rattle.settings.specs.Settings.{firstState}
-use Rattle.settings.specs.declared.State.{State}
-use borrow.Author.Needs.{needs}
+use Rattle.terms.proofs.Common.{ap, needs}
+use Rattle.settings.specs.{Settings.firstState, declared.State.State}
 use Rattle.look.proofs.first_modes.Statement.{statement}
 use Rattle.look.proofs.first_modes.Tie as tie
 

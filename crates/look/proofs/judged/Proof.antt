@@ -1,6 +1,5 @@
 -- `look::judged` meets its contract: the judgement under the block's code. Assumes nothing.
-use mathlib.Core.Path.{_∙_}
-use borrow.Author.Needs.{needs}
+use Rattle.terms.proofs.Common.{_∙_, needs}
 use Rattle.look.proofs.judged.Statement.{statement}
 use Rattle.look.proofs.judged.Tie as tie
 

@@ -1,9 +1,7 @@
 -- `look::show_block` meets its contract: the words of a block that is read as fine can be judged. Assumes nothing.
-use mathlib.Core.Bool.{true}
+use Rattle.terms.proofs.Common.{true, needs}
 use Rattle.words.specs.Packed.{wordsIn}
-use Rattle.look.proofs.Fine.{read-stored}
-use borrow.Author.Needs.{needs}
-use Rattle.look.proofs.show_block.Statement.{statement}
+use Rattle.look.proofs.{Fine.read-stored, show_block.Statement.statement}
 use Rattle.look.proofs.show_block.Tie as tie
 
 judged-requires : tie.Need-judged-requires

@@ -1,13 +1,7 @@
 -- `look::show_blocks` meets its contract: each block brings the place nearer to the data's end, and there are no more
 -- blocks than bytes, so that their number fits. Assumes nothing.
-use Prim.Native.Nat.{ℕ, _+_, _-_, _≤_}
-use mathlib.Core.Path.{_≡_}
-use mathlib.Core.List.{List}
-use native.Mathlib.Omega.{arith}
-use borrow.Author.Needs.{needs}
-use lib.ListN.{length, drop, length-drop}
-use Rattle.lines.specs.Blocks.{lengthFrom}
-use Rattle.lines.proofs.Lines.{length-bound, length-some}
+use Rattle.terms.proofs.Common.{ℕ, _+_, _-_, _≤_, _≡_, List, arith, needs, length, drop, length-drop}
+use Rattle.lines.{specs.Blocks.lengthFrom, proofs.Lines.length-bound, proofs.Lines.length-some}
 use Rattle.look.proofs.show_blocks.Statement.{statement}
 use Rattle.look.proofs.show_blocks.Tie as tie
 

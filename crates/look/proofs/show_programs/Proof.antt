@@ -1,6 +1,5 @@
 -- `look::show_programs` meets its contract: the place in the table is at most ten. Assumes nothing.
-use Prim.Native.Nat.{_≤_, _-_}
-use borrow.Author.Needs.{needs}
+use Rattle.terms.proofs.Common.{_≤_, _-_, needs}
 use Rattle.look.proofs.show_programs.Statement.{statement}
 use Rattle.look.proofs.show_programs.Tie as tie
 

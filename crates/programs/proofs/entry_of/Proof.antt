@@ -1,8 +1,6 @@
-use mathlib.Core.Path.{sym, _∙_}
+use Rattle.terms.proofs.Common.{sym, _∙_, needs}
 use Rattle.programs.specs.Openings.{entryOf}
-use Rattle.programs.proofs.Entries.{entry-taken, entry-full, entry-new}
-use borrow.Author.Needs.{needs}
-use Rattle.programs.proofs.entry_of.Statement.{statement}
+use Rattle.programs.proofs.{Entries.entry-taken, Entries.entry-full, Entries.entry-new, entry_of.Statement.statement}
 use Rattle.programs.proofs.entry_of.Tie as tie
 
 returns : tie.Need-returns

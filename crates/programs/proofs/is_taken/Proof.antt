@@ -1,9 +1,7 @@
+use Rattle.terms.proofs.Common.{_-_, _≤_, sym, _∙_, arith}
 use Rattle.programs.specs.Found.{subsOf}
-use Prim.Native.Nat.{_-_, _≤_}
-use mathlib.Core.Path.{sym, _∙_}
-use native.Mathlib.Omega.{arith}
-use Rattle.programs.proofs.Entries.{taken-main, taken-rest, Search, search-start, search-done, search-found, search-past}
 use Rattle.programs.proofs.is_taken.Statement.{statement}
+use Rattle.programs.proofs.Entries.{taken-main, taken-rest, Search, search-start, search-done, search-found, search-past}
 use Rattle.programs.proofs.is_taken.Tie as tie
 
 abbrev Inv-loop : tie.InvT-loop

@@ -1,8 +1,6 @@
-use Prim.Native.Nat.{_-_}
-use native.Mathlib.Omega.{arith}
-use lib.ListN.{length}
-use Rattle.programs.proofs.Figures.{Passed, none-passed, one-passed, nine-passed, ended-other, ended-end, all-passed, digit-low, digit-high, at-most-eight}
+use Rattle.terms.proofs.Common.{_-_, arith, length}
 use Rattle.programs.proofs.read_digits.Statement.{statement}
+use Rattle.programs.proofs.Figures.{Passed, none-passed, one-passed, nine-passed, ended-other, ended-end, all-passed, digit-low, digit-high, at-most-eight}
 use Rattle.programs.proofs.read_digits.Tie as tie
 
 abbrev Inv-loop : tie.InvT-loop

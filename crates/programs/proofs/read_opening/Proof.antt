@@ -1,9 +1,7 @@
-use mathlib.Core.Path.{sym, _∙_, ap}
-use native.Mathlib.Omega.{arith}
+use Rattle.terms.proofs.Common.{sym, _∙_, ap, arith, needs}
 use Rattle.lines.specs.Gaps.{onlyGaps}
-use Rattle.programs.proofs.Numbers.{opening-few, opening-many, opening-zero, opening-large, opening-more, opening-number, digits-inside, after-digits}
-use borrow.Author.Needs.{needs}
 use Rattle.programs.proofs.read_opening.Statement.{statement}
+use Rattle.programs.proofs.Numbers.{opening-few, opening-many, opening-zero, opening-large, opening-more, opening-number, digits-inside, after-digits}
 use Rattle.programs.proofs.read_opening.Tie as tie
 
 returns : tie.Need-returns

@@ -1,8 +1,6 @@
-use mathlib.Core.Path.{_∙_, ap}
-use borrow.Author.Needs.{needs}
+use Rattle.terms.proofs.Common.{_∙_, ap, needs}
 use Rattle.codes.specs.declared.Code.{Code}
-use Rattle.reading.proofs.Seeing.{toldG, tells-code}
-use Rattle.reading.proofs.code_role.Statement.{statement}
+use Rattle.reading.proofs.{Seeing.toldG, Seeing.tells-code, code_role.Statement.statement}
 use Rattle.reading.proofs.code_role.Tie as tie
 
 returns : tie.Need-returns

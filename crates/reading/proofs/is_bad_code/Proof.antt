@@ -1,10 +1,5 @@
-use Prim.Native.Nat.{ℕ}
-use mathlib.Core.Path.{sym, _∙_, ap}
-use mathlib.Core.Bool.{false}
-use lib.ListN.{getD}
-use Rattle.reading.proofs.Seeing.{group-most, told-unknown, told-group, told-one, told-seven, told-rest}
-use borrow.Author.Needs.{needs}
-use Rattle.reading.proofs.is_bad_code.Statement.{statement}
+use Rattle.terms.proofs.Common.{ℕ, sym, _∙_, ap, false, getD, needs}
+use Rattle.reading.proofs.{Seeing.group-most, Seeing.told-unknown, Seeing.told-group, Seeing.told-one, Seeing.told-seven, Seeing.told-rest, is_bad_code.Statement.statement}
 use Rattle.reading.proofs.is_bad_code.Tie as tie
 
 returns : tie.Need-returns

@@ -1,5 +1,5 @@
+use Rattle.terms.proofs.Common.{needs}
 use Rattle.codes.specs.Codes.{isM}
-use borrow.Author.Needs.{needs}
 use Rattle.reading.proofs.is_bad_misc.Statement.{statement}
 use Rattle.reading.proofs.is_bad_misc.Tie as tie
 

@@ -1,9 +1,8 @@
 -- `reading::is_known` meets its contract: each arm is a known letter, and the last is every other byte. Assumes nothing.
-use mathlib.Core.Path.{refl}
+use Rattle.terms.proofs.Common.{refl}
 use Rattle.terms.specs.Terms.{any}
 use Rattle.letters.specs.Letters.{isKnown}
-use Rattle.reading.proofs.Letters.{known-at, known-none}
-use Rattle.reading.proofs.is_known.Statement.{statement}
+use Rattle.reading.proofs.{Letters.known-at, Letters.known-none, is_known.Statement.statement}
 use Rattle.reading.proofs.is_known.Tie as tie
 
 pub is-known-spec : {M : Type 1} → statement M

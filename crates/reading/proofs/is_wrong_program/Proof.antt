@@ -1,10 +1,6 @@
-use mathlib.Core.Path.{ap}
-use mathlib.Core.Bool.{_||_}
-use Prim.Native.Nat.{ℕ}
-use lib.Dec.{eqb}
+use Rattle.terms.proofs.Common.{ap, _||_, ℕ, eqb, needs}
 use Rattle.codes.specs.Codes.{isM}
 use Rattle.letters.specs.Letters.{wrongProgram}
-use borrow.Author.Needs.{needs}
 use Rattle.reading.proofs.is_wrong_program.Statement.{statement}
 use Rattle.reading.proofs.is_wrong_program.Tie as tie
 

@@ -1,9 +1,7 @@
-use mathlib.Core.Path.{sym, _∙_}
-use native.Mathlib.Omega.{arith}
+use Rattle.terms.proofs.Common.{sym, _∙_, arith, needs}
 use Rattle.lines.proofs.Laws.{blank-space, blank-tab, blank-not}
-use Rattle.reading.proofs.Items.{placed-blank, placed-open, placed-comment, placed-other, placed-none, placed-word, capital-is, capital-low, capital-high, from-place, taken-inside}
-use borrow.Author.Needs.{needs}
 use Rattle.reading.proofs.item_at.Statement.{statement}
+use Rattle.reading.proofs.Items.{placed-blank, placed-open, placed-comment, placed-other, placed-none, placed-word, capital-is, capital-low, capital-high, from-place, taken-inside}
 use Rattle.reading.proofs.item_at.Tie as tie
 
 returns : tie.Need-returns

@@ -1,6 +1,5 @@
-use borrow.Author.Needs.{needs}
-use Rattle.reading.proofs.Letters.{from-a}
-use Rattle.reading.proofs.letter_place.Statement.{statement}
+use Rattle.terms.proofs.Common.{needs}
+use Rattle.reading.proofs.{Letters.from-a, letter_place.Statement.statement}
 use Rattle.reading.proofs.letter_place.Tie as tie
 
 sub-result : tie.Need-sub-result

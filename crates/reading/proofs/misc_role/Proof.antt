@@ -1,9 +1,7 @@
-use mathlib.Core.Path.{_∙_, ap}
-use borrow.Author.Needs.{needs}
+use Rattle.terms.proofs.Common.{_∙_, ap, needs}
 use Rattle.codes.specs.declared.Misc.{Misc}
 use Rattle.reading.specs.Seen.{badMisc}
-use Rattle.reading.proofs.Seeing.{tells-misc-code}
-use Rattle.reading.proofs.misc_role.Statement.{statement}
+use Rattle.reading.proofs.{Seeing.tells-misc-code, misc_role.Statement.statement}
 use Rattle.reading.proofs.misc_role.Tie as tie
 
 returns : tie.Need-returns

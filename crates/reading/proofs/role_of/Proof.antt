@@ -1,11 +1,6 @@
-use mathlib.Core.Path.{_≡_, sym, _∙_, ap}
-use mathlib.Core.Bool.{Bool, true, false, not, _||_}
-use borrow.Author.Tests.{eq-eqb, ne-eqb}
-use borrow.Author.Needs.{needs}
+use Rattle.terms.proofs.Common.{sym, _∙_, ap, Bool, not, _||_, eq-eqb, ne-eqb, needs}
 use Rattle.terms.proofs.Laws.{either-left}
-use Rattle.letters.specs.Letters.{isKnown}
-use Rattle.reading.proofs.Seeing.{tells-wrong, tells-other}
-use Rattle.reading.proofs.role_of.Statement.{statement}
+use Rattle.reading.proofs.{Seeing.tells-wrong, Seeing.tells-other, role_of.Statement.statement}
 use Rattle.reading.proofs.role_of.Tie as tie
 
 code-role-requires : tie.Need-code-role-requires

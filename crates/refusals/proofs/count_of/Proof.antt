@@ -1,5 +1,5 @@
 -- `refusals::count_of` meets its contract. Assumes nothing.
-use borrow.Author.Needs.{needs}
+use Rattle.terms.proofs.Common.{needs}
 use Rattle.refusals.proofs.count_of.Statement.{statement}
 use Rattle.refusals.proofs.count_of.Tie as tie
 

@@ -1,9 +1,7 @@
 -- `settings::aimed` meets its contract: what the word counts from leaves the sum room. Assumes nothing.
-use native.Mathlib.Omega.{arith}
-use borrow.Author.Needs.{needs}
+use Rattle.terms.proofs.Common.{arith, needs}
 use Rattle.settings.specs.Target.{aimed}
-use Rattle.settings.proofs.Near.{base-near}
-use Rattle.settings.proofs.aimed.Statement.{statement}
+use Rattle.settings.proofs.{Near.base-near, aimed.Statement.statement}
 use Rattle.settings.proofs.aimed.Tie as tie
 
 plus-requires : tie.Need-plus-requires

@@ -1,5 +1,5 @@
 -- `settings::base` meets its contract, code by code. Assumes nothing.
-use borrow.Author.Needs.{needs}
+use Rattle.terms.proofs.Common.{needs}
 use Rattle.settings.specs.Target.{base}
 use Rattle.settings.proofs.base.Statement.{statement}
 use Rattle.settings.proofs.base.Tie as tie

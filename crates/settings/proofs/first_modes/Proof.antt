@@ -1,5 +1,5 @@
 -- `settings::first_modes` meets its contract. Assumes nothing.
-use mathlib.Core.Path.{refl}
+use Rattle.terms.proofs.Common.{refl}
 use Rattle.settings.specs.Settings.{firstModes}
 use Rattle.settings.proofs.first_modes.Statement.{statement}
 use Rattle.settings.proofs.first_modes.Tie as tie

@@ -1,5 +1,5 @@
 -- `settings::first_state` meets its contract. Assumes nothing.
-use borrow.Author.Needs.{needs}
+use Rattle.terms.proofs.Common.{needs}
 use Rattle.settings.specs.Settings.{firstState}
 use Rattle.settings.proofs.first_state.Statement.{statement}
 use Rattle.settings.proofs.first_state.Tie as tie

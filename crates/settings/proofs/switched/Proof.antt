@@ -1,5 +1,5 @@
 -- `settings::switched` meets its contract, group by group. Assumes nothing.
-use borrow.Author.Needs.{needs}
+use Rattle.terms.proofs.Common.{needs}
 use Rattle.settings.specs.Settings.{switched}
 use Rattle.settings.proofs.switched.Statement.{statement}
 use Rattle.settings.proofs.switched.Tie as tie

@@ -1,8 +1,7 @@
 -- `settings::target_point` meets its contract, axis by axis. Assumes nothing.
-use borrow.Author.Needs.{needs}
+use Rattle.terms.proofs.Common.{needs}
 use Rattle.settings.specs.Target.{target}
-use Rattle.settings.proofs.Near.{target-near}
-use Rattle.settings.proofs.target_point.Statement.{statement}
+use Rattle.settings.proofs.{Near.target-near, target_point.Statement.statement}
 use Rattle.settings.proofs.target_point.Tie as tie
 
 returns : tie.Need-returns

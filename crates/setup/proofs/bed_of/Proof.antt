@@ -1,6 +1,6 @@
 -- `setup::bed_of` meets its contract: each part by its own function. Assumes nothing.
+use Rattle.terms.proofs.Common.{needs}
 use Rattle.setup.specs.Frame.{offset, bedOf}
-use borrow.Author.Needs.{needs}
 use Rattle.setup.proofs.bed_of.Statement.{statement}
 use Rattle.setup.proofs.bed_of.Tie as tie
 

@@ -1,7 +1,6 @@
 -- `setup::feed_fits` meets its contract: one test. Assumes nothing.
-use mathlib.Core.Path.{_∙_}
+use Rattle.terms.proofs.Common.{_∙_, needs}
 use Rattle.setup.specs.Limits.{feedFits}
-use borrow.Author.Needs.{needs}
 use Rattle.setup.proofs.feed_fits.Statement.{statement}
 use Rattle.setup.proofs.feed_fits.Tie as tie
 

@@ -1,5 +1,5 @@
 -- `setup::is_between` meets its contract: its two tests are the definition's. Assumes nothing.
-use borrow.Author.Needs.{needs}
+use Rattle.terms.proofs.Common.{needs}
 use Rattle.setup.proofs.is_between.Statement.{statement}
 use Rattle.setup.proofs.is_between.Tie as tie
 

@@ -1,8 +1,6 @@
 -- `setup::is_valid` meets its contract: no limit is broken. Assumes nothing.
-use mathlib.Core.Path.{sym, _∙_}
-use borrow.Author.Needs.{needs}
-use Rattle.setup.proofs.Broken.{fault-none, fault-some}
-use Rattle.setup.proofs.is_valid.Statement.{statement}
+use Rattle.terms.proofs.Common.{sym, _∙_, needs}
+use Rattle.setup.proofs.{Broken.fault-none, Broken.fault-some, is_valid.Statement.statement}
 use Rattle.setup.proofs.is_valid.Tie as tie
 
 returns : tie.Need-returns

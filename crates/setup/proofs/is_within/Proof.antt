@@ -1,7 +1,6 @@
 -- `setup::is_within` meets its contract: the distance from 0 is the number's magnitude. Assumes nothing.
-use Rattle.setup.proofs.Raw.{from-zero}
-use borrow.Author.Needs.{needs}
-use Rattle.setup.proofs.is_within.Statement.{statement}
+use Rattle.terms.proofs.Common.{needs}
+use Rattle.setup.proofs.{Raw.from-zero, is_within.Statement.statement}
 use Rattle.setup.proofs.is_within.Tie as tie
 
 returns : tie.Need-returns

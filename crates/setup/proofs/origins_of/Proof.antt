@@ -1,10 +1,6 @@
 -- `setup::origins_of` meets its contract: the origins before the place stand as points. Assumes nothing.
-use mathlib.Core.Path.{refl}
-use Prim.Native.Nat.{_-_}
-use native.Mathlib.Omega.{arith}
-use borrow.Author.Needs.{needs}
-use Rattle.setup.proofs.Origins.{Turned, none-turned, one-turned, all-turned}
-use Rattle.setup.proofs.origins_of.Statement.{statement}
+use Rattle.terms.proofs.Common.{refl, _-_, arith, needs}
+use Rattle.setup.proofs.{Origins.Turned, Origins.none-turned, Origins.one-turned, Origins.all-turned, origins_of.Statement.statement}
 use Rattle.setup.proofs.origins_of.Tie as tie
 
 abbrev Inv-loop : tie.InvT-loop

@@ -1,7 +1,6 @@
 -- `setup::point_of` meets its contract: each axis is the number that the i64 holds. Assumes nothing.
-use Rattle.setup.proofs.Raw.{of-raw}
-use borrow.Author.Needs.{needs}
-use Rattle.setup.proofs.point_of.Statement.{statement}
+use Rattle.terms.proofs.Common.{needs}
+use Rattle.setup.proofs.{Raw.of-raw, point_of.Statement.statement}
 use Rattle.setup.proofs.point_of.Tie as tie
 
 returns : tie.Need-returns

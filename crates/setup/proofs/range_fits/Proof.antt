@@ -1,5 +1,5 @@
 -- `setup::range_fits` meets its contract: its three tests are the definition's, in order. Assumes nothing.
-use borrow.Author.Needs.{needs}
+use Rattle.terms.proofs.Common.{needs}
 use Rattle.setup.proofs.range_fits.Statement.{statement}
 use Rattle.setup.proofs.range_fits.Tie as tie
 

@@ -1,7 +1,6 @@
 -- `setup::skips` meets its contract: one test. Assumes nothing.
-use mathlib.Core.Path.{_∙_}
+use Rattle.terms.proofs.Common.{_∙_, needs}
 use Rattle.setup.specs.Frame.{switchOn}
-use borrow.Author.Needs.{needs}
 use Rattle.setup.proofs.skips.Statement.{statement}
 use Rattle.setup.proofs.skips.Tie as tie
 

@@ -1,5 +1,5 @@
 -- `setup::speed_fits` meets its contract: one test of three of the setup's numbers. Assumes nothing.
-use borrow.Author.Needs.{needs}
+use Rattle.terms.proofs.Common.{needs}
 use Rattle.setup.proofs.speed_fits.Statement.{statement}
 use Rattle.setup.proofs.speed_fits.Tie as tie
 

@@ -1,9 +1,7 @@
 -- `setup::start_of` meets its contract: a valid setup leaves the difference room. Assumes nothing.
-use mathlib.Core.Path.{_∙_}
+use Rattle.terms.proofs.Common.{_∙_, needs}
 use Rattle.setup.specs.Frame.{offset, startOf}
-use Rattle.setup.proofs.Valid.{moves, valid-offset, valid-start}
-use borrow.Author.Needs.{needs}
-use Rattle.setup.proofs.start_of.Statement.{statement}
+use Rattle.setup.proofs.{Valid.moves, Valid.valid-offset, Valid.valid-start, start_of.Statement.statement}
 use Rattle.setup.proofs.start_of.Tie as tie
 
 moved-back-requires : tie.Need-moved-back-requires

@@ -1,7 +1,6 @@
 -- `setup::switch_fits` meets its contract: one test. Assumes nothing.
-use mathlib.Core.Path.{_∙_}
+use Rattle.terms.proofs.Common.{_∙_, needs}
 use Rattle.setup.specs.Limits.{switchFits}
-use borrow.Author.Needs.{needs}
 use Rattle.setup.proofs.switch_fits.Statement.{statement}
 use Rattle.setup.proofs.switch_fits.Tie as tie
 

@@ -1,8 +1,7 @@
 -- `setup::travel_of` meets its contract: a valid setup leaves both differences room. Assumes nothing.
+use Rattle.terms.proofs.Common.{needs}
 use Rattle.setup.specs.Frame.{offset, travelOf}
-use Rattle.setup.proofs.Valid.{moves, valid-offset, valid-low, valid-high}
-use borrow.Author.Needs.{needs}
-use Rattle.setup.proofs.travel_of.Statement.{statement}
+use Rattle.setup.proofs.{Valid.moves, Valid.valid-offset, Valid.valid-low, Valid.valid-high, travel_of.Statement.statement}
 use Rattle.setup.proofs.travel_of.Tie as tie
 
 moved-back-requires : tie.Need-moved-back-requires

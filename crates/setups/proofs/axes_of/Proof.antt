@@ -1,12 +1,6 @@
 -- `setups::axes_of` meets its contract: each number is the one that the i64 holds. Assumes nothing.
-use borrow.Author.Needs.{needs}
-use mathlib.Core.Path.{_≡_, refl, sym, ap, _∙_}
-use lib.IntN.{pos}
-use lib.ListN.{getD}
-use mir.Syntax.{w64}
-use mir.Val.{SFits}
-use mir.Facts.{toZ-ofZ}
-use Prim.Native.Nat.{_+_}
+use Rattle.terms.proofs.Common.{needs, _+_}
+use mir.{Syntax.w64, Val.SFits, Facts.toZ-ofZ}
 use Rattle.setups.specs.Setups.{axesOf, figureAt}
 use Rattle.setups.proofs.axes_of.Statement.{statement}
 use Rattle.setups.proofs.axes_of.Tie as tie

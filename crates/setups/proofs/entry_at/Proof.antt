@@ -1,9 +1,6 @@
 -- `setups::entry_at` meets its contract: the name where there is one, and the number. Assumes nothing.
-use borrow.Author.Needs.{needs}
-use mathlib.Core.Path.{_≡_, refl, sym, ap, _∙_}
-use borrow.Author.Tests.{not-true, not-false}
-use Rattle.setups.proofs.Filling.{entry-plain, entry-named, by-passed, by-not}
-use Rattle.setups.proofs.entry_at.Statement.{statement}
+use Rattle.terms.proofs.Common.{needs, sym, _∙_, not-true, not-false}
+use Rattle.setups.proofs.{Filling.entry-plain, Filling.entry-named, Filling.by-passed, Filling.by-not, entry_at.Statement.statement}
 use Rattle.setups.proofs.entry_at.Tie as tie
 
 returns : tie.Need-returns

@@ -1,8 +1,6 @@
 -- `setups::finished` meets its contract: the place of the next word is the text's end, or something stands there. Assumes nothing.
-use mathlib.Core.Path.{_∙_}
-use borrow.Author.Needs.{needs}
-use Rattle.setups.proofs.Filling.{more-left, nothing-left}
-use Rattle.setups.proofs.finished.Statement.{statement}
+use Rattle.terms.proofs.Common.{_∙_, needs}
+use Rattle.setups.proofs.{Filling.more-left, Filling.nothing-left, finished.Statement.statement}
 use Rattle.setups.proofs.finished.Tie as tie
 
 returns : tie.Need-returns

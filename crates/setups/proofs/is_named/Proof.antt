@@ -1,9 +1,6 @@
 -- `setups::is_named` meets its contract: the first byte that is no gap. Assumes nothing.
-use borrow.Author.Needs.{needs}
-use mathlib.Core.Path.{_≡_, refl, sym, ap, _∙_}
-use native.Mathlib.Omega.{arith}
-use Rattle.setups.proofs.Filling.{no-first, first-letter}
-use Rattle.setups.proofs.is_named.Statement.{statement}
+use Rattle.terms.proofs.Common.{needs, arith}
+use Rattle.setups.proofs.{Filling.no-first, Filling.first-letter, is_named.Statement.statement}
 use Rattle.setups.proofs.is_named.Tie as tie
 
 returns : tie.Need-returns

@@ -1,10 +1,6 @@
 -- `setups::name_before` meets its contract: the row of names has a part for each. Assumes nothing.
-use Prim.Native.Nat.{_+_, _<_}
-use native.Mathlib.Omega.{arith}
-use borrow.Author.Needs.{needs}
-use lib.ListN.{length-take, length-drop}
-use Rattle.setups.proofs.Filling.{begins-order, begins-inside, name-of, no-name}
-use Rattle.setups.proofs.name_before.Statement.{statement}
+use Rattle.terms.proofs.Common.{_+_, _<_, arith, needs, length-take, length-drop}
+use Rattle.setups.proofs.{Filling.begins-order, Filling.begins-inside, Filling.name-of, Filling.no-name, name_before.Statement.statement}
 use Rattle.setups.proofs.name_before.Tie as tie
 
 returns : tie.Need-returns

@@ -1,8 +1,5 @@
 -- `setups::name_of` meets its contract: its tests are those of the definition. Assumes nothing.
-use Prim.Native.Nat.{_%_}
-use native.Mathlib.Omega.{arith}
-use borrow.Author.Needs.{needs}
-use borrow.Author.Tests.{le-leb, lt-leb, eq-eqb, ne-eqb}
+use Rattle.terms.proofs.Common.{_%_, arith, needs, le-leb, lt-leb, eq-eqb, ne-eqb}
 use Rattle.setups.specs.Setups.{nameOf}
 use Rattle.setups.proofs.name_of.Statement.{statement}
 use Rattle.setups.proofs.name_of.Tie as tie

@@ -1,10 +1,7 @@
 -- `setups::pass_name` meets its contract: the next word, and whether it is the name. Assumes nothing.
-use borrow.Author.Needs.{needs}
-use mathlib.Core.Path.{_≡_, refl, sym, ap, _∙_}
-use native.Mathlib.Omega.{arith}
+use Rattle.terms.proofs.Common.{needs, sym, _∙_, arith}
 use Rattle.texts.proofs.Places.{standing}
-use Rattle.setups.proofs.Filling.{name-missing, name-passed, name-other}
-use Rattle.setups.proofs.pass_name.Statement.{statement}
+use Rattle.setups.proofs.{Filling.name-missing, Filling.name-passed, Filling.name-other, pass_name.Statement.statement}
 use Rattle.setups.proofs.pass_name.Tie as tie
 
 returns : tie.Need-returns

@@ -1,12 +1,8 @@
 -- `setups::read_setup` meets its contract: the numbers read stand in their places, and the rest of the text gives the rest.
 -- Assumes nothing.
-use Prim.Native.Nat.{_-_}
-use mathlib.Core.Path.{refl, sym, ap, _∙_}
-use native.Mathlib.Omega.{arith}
-use borrow.Author.Needs.{needs}
+use Rattle.terms.proofs.Common.{_-_, refl, sym, ap, _∙_, arith, needs}
 use Rattle.setups.specs.Setups.{plan, answered}
-use Rattle.setups.proofs.Filling.{plan-length, Filled, none-filled, one-filled, stopped, all-filled, setup-in}
-use Rattle.setups.proofs.read_setup.Statement.{statement}
+use Rattle.setups.proofs.{Filling.plan-length, Filling.Filled, Filling.none-filled, Filling.one-filled, Filling.stopped, Filling.all-filled, Filling.setup-in, read_setup.Statement.statement}
 use Rattle.setups.proofs.read_setup.Tie as tie
 
 abbrev Inv-loop : tie.InvT-loop

@@ -1,5 +1,5 @@
 -- `setups::refused` meets its contract: 35 zeros are the setup of no number. Assumes nothing.
-use borrow.Author.Needs.{needs}
+use Rattle.terms.proofs.Common.{needs}
 use Rattle.setups.specs.Setups.{axesOf, setupOf, refused}
 use Rattle.setups.proofs.refused.Statement.{statement}
 use Rattle.setups.proofs.refused.Tie as tie

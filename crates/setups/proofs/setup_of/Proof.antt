@@ -1,9 +1,6 @@
 -- `setups::setup_of` meets its contract: three numbers for each point, and five more. Assumes nothing.
-use borrow.Author.Needs.{needs}
-use mathlib.Core.Path.{_≡_, refl, sym, ap, _∙_}
-use mir.Syntax.{w64}
-use mir.Val.{SFits}
-use mir.Facts.{toZ-ofZ}
+use Rattle.terms.proofs.Common.{needs}
+use mir.{Syntax.w64, Val.SFits, Facts.toZ-ofZ}
 use Rattle.setups.specs.Setups.{figureAt, setupOf}
 use Rattle.setups.proofs.setup_of.Statement.{statement}
 use Rattle.setups.proofs.setup_of.Tie as tie

@@ -1,6 +1,5 @@
 -- `shop::asked_by` meets its contract: the words are tried one after the other. Assumes nothing.
-use borrow.Author.Needs.{needs}
-use mathlib.Core.Path.{sym, _∙_}
+use Rattle.terms.proofs.Common.{needs, sym, _∙_}
 use Rattle.shop.specs.Asking.{askedBy}
 use Rattle.shop.proofs.asked_by.Statement.{statement}
 use Rattle.shop.proofs.asked_by.Tie as tie

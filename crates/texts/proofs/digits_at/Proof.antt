@@ -1,9 +1,7 @@
 -- `texts::digits_at` meets its contract: the digits passed are counted, and the rest gives the same. Assumes nothing.
-use borrow.Author.Needs.{needs}
-use Prim.Native.Nat.{_-_}
-use native.Mathlib.Omega.{arith}
-use Rattle.texts.proofs.Worths.{Counting, no-digits, many-digits, none-counted, small, digit-counted, low-byte, high-byte, all-counted}
+use Rattle.terms.proofs.Common.{needs, _-_, arith}
 use Rattle.texts.proofs.digits_at.Statement.{statement}
+use Rattle.texts.proofs.Worths.{Counting, no-digits, many-digits, none-counted, small, digit-counted, low-byte, high-byte, all-counted}
 use Rattle.texts.proofs.digits_at.Tie as tie
 
 abbrev Inv-loop : tie.InvT-loop

@@ -1,5 +1,5 @@
 -- `texts::in_word` meets its contract. Assumes nothing.
-use borrow.Author.Needs.{needs}
+use Rattle.terms.proofs.Common.{needs}
 use Rattle.texts.proofs.in_word.Statement.{statement}
 use Rattle.texts.proofs.in_word.Tie as tie
 

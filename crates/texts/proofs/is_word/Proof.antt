@@ -1,14 +1,7 @@
 -- `texts::is_word` meets its contract. What is left gives the same. Assumes nothing.
-use borrow.Author.Needs.{needs}
-use Prim.Native.Nat.{_+_, _-_, _≤_}
-use mathlib.Core.Path.{_≡_, refl, sym, ap, _∙_}
-use native.Mathlib.Omega.{arith}
-use native.Mathlib.Nat.{add-zero}
-use lib.ListN.{length, drop}
-use lib.Seq.{slice}
+use Rattle.terms.proofs.Common.{needs, _+_, _-_, _≤_, _≡_, sym, _∙_, arith, add-zero, length, drop, slice}
 use Rattle.texts.specs.Texts.{sameBytes}
-use Rattle.texts.proofs.Places.{other-length, same-differ, same-more, same-all}
-use Rattle.texts.proofs.is_word.Statement.{statement}
+use Rattle.texts.proofs.{Places.other-length, Places.same-differ, Places.same-more, Places.same-all, is_word.Statement.statement}
 use Rattle.texts.proofs.is_word.Tie as tie
 
 abbrev Inv-loop : tie.InvT-loop

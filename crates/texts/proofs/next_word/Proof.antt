@@ -1,12 +1,7 @@
 -- `texts::next_word` meets its contract. What is left gives the same: the place and the gap there. Assumes nothing.
-use borrow.Author.Needs.{needs}
-use Prim.Native.Nat.{_+_, _-_}
-use mathlib.Core.Path.{_≡_, refl, sym, ap, _∙_}
-use native.Mathlib.Omega.{arith}
-use lib.ListN.{length, drop}
+use Rattle.terms.proofs.Common.{needs, _+_, _-_, _≡_, refl, sym, _∙_, arith, length, drop}
 use Rattle.texts.specs.Texts.{gap, next}
-use Rattle.texts.proofs.Places.{gap-end, gap-more, gap-over}
-use Rattle.texts.proofs.next_word.Statement.{statement}
+use Rattle.texts.proofs.{Places.gap-end, Places.gap-more, Places.gap-over, next_word.Statement.statement}
 use Rattle.texts.proofs.next_word.Tie as tie
 
 abbrev Inv-loop : tie.InvT-loop

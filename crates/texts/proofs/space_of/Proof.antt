@@ -1,7 +1,5 @@
 -- `texts::space_of` meets its contract: the definition's tests in order. Assumes nothing.
-use mathlib.Core.Path.{_∙_, sym}
-use borrow.Author.Needs.{needs}
-use borrow.Author.Tests.{eq-eqb, ne-eqb}
+use Rattle.terms.proofs.Common.{_∙_, sym, needs, ne-eqb}
 use Rattle.texts.specs.Texts.{spaceOf}
 use Rattle.texts.proofs.space_of.Statement.{statement}
 use Rattle.texts.proofs.space_of.Tie as tie

@@ -1,14 +1,7 @@
 -- `texts::word_end` meets its contract. What is left gives the same. Assumes nothing.
-use borrow.Author.Needs.{needs}
-use Prim.Native.Nat.{_+_, _-_}
-use mathlib.Core.Path.{_≡_, refl, sym, ap, _∙_}
-use mathlib.Core.Bool.{true, false}
-use native.Mathlib.Omega.{arith}
-use lib.ListN.{length, getD}
-use borrow.Author.Tests.{not-true, not-false}
+use Rattle.terms.proofs.Common.{needs, _+_, _-_, _≡_, refl, sym, _∙_, true, false, arith, length, getD, not-true, not-false}
 use Rattle.texts.specs.Texts.{inWord, wordAt}
-use Rattle.texts.proofs.Places.{word-end, word-more, word-over}
-use Rattle.texts.proofs.word_end.Statement.{statement}
+use Rattle.texts.proofs.{Places.word-end, Places.word-more, Places.word-over, word_end.Statement.statement}
 use Rattle.texts.proofs.word_end.Tie as tie
 
 abbrev Inv-loop : tie.InvT-loop

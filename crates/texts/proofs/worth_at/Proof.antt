@@ -1,12 +1,8 @@
 -- `texts::worth_at` meets its contract: the sign, the digits after it, and the value of both. Assumes nothing.
-use mathlib.Core.Path.{_≡_, _∙_}
-use native.Mathlib.Omega.{arith}
-use borrow.Author.Needs.{needs}
-use lib.Seq.{slice}
+use Rattle.terms.proofs.Common.{_≡_, _∙_, arith, needs, slice}
 use Rattle.words.proofs.Numbers.{sign-most}
 use Rattle.texts.specs.Figures.{worthBy, worthOf}
-use Rattle.texts.proofs.Worths.{worth-is, worth-none, worth-plain, worth-plus, worth-minus}
-use Rattle.texts.proofs.worth_at.Statement.{statement}
+use Rattle.texts.proofs.{Worths.worth-is, Worths.worth-none, Worths.worth-plain, Worths.worth-plus, Worths.worth-minus, worth_at.Statement.statement}
 use Rattle.texts.proofs.worth_at.Tie as tie
 
 -- sign and digits make the worth

@@ -1,7 +1,5 @@
 -- `trials::do_lines` meets its contract: each line brings the place on. Assumes nothing.
-use borrow.Author.Needs.{needs}
-use Prim.Native.Nat.{_≤_, _+_, _-_}
-use lib.ListN.{length}
+use Rattle.terms.proofs.Common.{needs, _≤_, _+_, _-_, length}
 use Rattle.trials.proofs.do_lines.Statement.{statement}
 use Rattle.trials.proofs.do_lines.Tie as tie
 

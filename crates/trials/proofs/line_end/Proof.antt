@@ -1,7 +1,5 @@
 -- `trials::line_end` meets its contract: the place stays in the input. Assumes nothing.
-use borrow.Author.Needs.{needs}
-use Prim.Native.Nat.{_≤_, _-_}
-use lib.ListN.{length}
+use Rattle.terms.proofs.Common.{needs, _≤_, _-_, length}
 use Rattle.trials.proofs.line_end.Statement.{statement}
 use Rattle.trials.proofs.line_end.Tie as tie
 

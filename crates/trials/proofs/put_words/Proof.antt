@@ -1,9 +1,5 @@
 -- `trials::put_words` meets its contract: the line and one byte more fit. Assumes nothing.
-use borrow.Author.Needs.{needs}
-use Prim.Native.Nat.{_≤_, _+_, _-_}
-use mathlib.Core.Path.{_≡_}
-use native.Mathlib.Omega.{arith}
-use lib.ListN.{length, set, length-set}
+use Rattle.terms.proofs.Common.{needs, _≤_, _+_, _-_, _≡_, arith, length, set, length-set}
 use Rattle.io.proofs.Counting.{counts}
 use Rattle.trials.proofs.put_words.Statement.{statement}
 use Rattle.trials.proofs.put_words.Tie as tie

@@ -1,11 +1,8 @@
 -- `wide::divided` meets its contract. At each turn the quotient and the rest are those of the digits that are brought down.
 -- Assumes nothing.
-use Prim.Native.Nat.{ℕ, _+_, _*_, _^_}
-use mathlib.Core.Path.{_≡_}
-use native.Mathlib.Omega.{arith}
+use Rattle.terms.proofs.Common.{_+_, _*_, _^_, _≡_, arith}
 use Rattle.wide.specs.Wide.{worth}
-use Rattle.wide.proofs.Dividing.{Brought, none-brought, next-digit, quotient-is, rest-is}
-use Rattle.wide.proofs.divided.Statement.{statement}
+use Rattle.wide.proofs.{Dividing.Brought, Dividing.none-brought, Dividing.next-digit, Dividing.quotient-is, Dividing.rest-is, divided.Statement.statement}
 use Rattle.wide.proofs.divided.Tie as tie
 
 abbrev Inv-loop : tie.InvT-loop

@@ -1,7 +1,6 @@
 -- `wide::product` meets its contract. Assumes nothing.
-use native.Mathlib.Omega.{arith}
-use Rattle.wide.proofs.Multiplying.{Small, small, four-products}
-use Rattle.wide.proofs.product.Statement.{statement}
+use Rattle.terms.proofs.Common.{arith}
+use Rattle.wide.proofs.{Multiplying.Small, Multiplying.small, Multiplying.four-products, product.Statement.statement}
 use Rattle.wide.proofs.product.Tie as tie
 
 bounds : (c : tie.Start) → Small (c .args .a) (c .args .b)

@@ -1,8 +1,6 @@
 -- `words::count_of` meets its contract. Assumes nothing.
-use borrow.Author.Needs.{needs}
-use native.Mathlib.Omega.{arith}
-use Rattle.words.proofs.Worth.{count-is}
-use Rattle.words.proofs.count_of.Statement.{statement}
+use Rattle.terms.proofs.Common.{needs, arith}
+use Rattle.words.proofs.{Worth.count-is, count_of.Statement.statement}
 use Rattle.words.proofs.count_of.Tie as tie
 
 pub count-of-spec : {M : Type 1} → statement M

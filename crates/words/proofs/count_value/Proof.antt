@@ -1,8 +1,6 @@
 -- `words::count_value` meets its contract. Assumes nothing.
-use borrow.Author.Needs.{needs}
-use native.Mathlib.Omega.{arith}
-use Rattle.words.proofs.Worth.{count-most}
-use Rattle.words.proofs.count_value.Statement.{statement}
+use Rattle.terms.proofs.Common.{needs, arith}
+use Rattle.words.proofs.{Worth.count-most, count_value.Statement.statement}
 use Rattle.words.proofs.count_value.Tie as tie
 
 pub count-value-spec : {M : Type 1} → statement M

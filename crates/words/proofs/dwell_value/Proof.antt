@@ -1,7 +1,6 @@
 -- `words::dwell_value` meets its contract. Assumes nothing.
-use borrow.Author.Needs.{needs}
-use Rattle.words.proofs.Worth.{dwell-fine, dwell-is}
-use Rattle.words.proofs.dwell_value.Statement.{statement}
+use Rattle.terms.proofs.Common.{needs}
+use Rattle.words.proofs.{Worth.dwell-fine, Worth.dwell-is, dwell_value.Statement.statement}
 use Rattle.words.proofs.dwell_value.Tie as tie
 
 pub dwell-value-spec : {M : Type 1} → statement M

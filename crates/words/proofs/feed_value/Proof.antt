@@ -1,9 +1,6 @@
 -- `words::feed_value` meets its contract. Assumes nothing.
-use lib.IntN.{pos}
-use lib.Signed.{ltZ}
-use borrow.Author.Needs.{needs}
-use Rattle.words.proofs.Worth.{further-bad, further}
-use Rattle.words.proofs.feed_value.Statement.{statement}
+use Rattle.terms.proofs.Common.{pos, ltZ, needs}
+use Rattle.words.proofs.{Worth.further-bad, Worth.further, feed_value.Statement.statement}
 use Rattle.words.proofs.feed_value.Tie as tie
 
 pub feed-value-spec : {M : Type 1} → statement M

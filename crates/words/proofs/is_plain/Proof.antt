@@ -1,5 +1,5 @@
 -- `words::is_plain` meets its contract, sign by sign. Assumes nothing.
-use borrow.Author.Needs.{needs}
+use Rattle.terms.proofs.Common.{needs}
 use Rattle.words.specs.Values.{unsigned, isPlain}
 use Rattle.words.proofs.is_plain.Statement.{statement}
 use Rattle.words.proofs.is_plain.Tie as tie

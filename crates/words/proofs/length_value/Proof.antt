@@ -1,9 +1,6 @@
 -- `words::length_value` meets its contract. Assumes nothing.
-use mathlib.Core.Path.{_∙_}
-use native.Mathlib.Omega.{arith}
-use borrow.Author.Needs.{needs}
-use Rattle.words.proofs.Worth.{places-few, size-most, length-fine, length-is}
-use Rattle.words.proofs.length_value.Statement.{statement}
+use Rattle.terms.proofs.Common.{_∙_, arith, needs}
+use Rattle.words.proofs.{Worth.places-few, Worth.size-most, Worth.length-fine, Worth.length-is, length_value.Statement.statement}
 use Rattle.words.proofs.length_value.Tie as tie
 
 pub length-value-spec : {M : Type 1} → statement M

@@ -1,11 +1,8 @@
 -- `words::pack` meets its contract. Assumes nothing.
-use borrow.Author.Needs.{needs}
-use Prim.Native.Nat.{_<_}
-use native.Mathlib.Omega.{arith}
+use Rattle.terms.proofs.Common.{needs, _<_, arith}
 use mir.Val.{boolByte}
 use Rattle.words.specs.Packed.{packed}
-use Rattle.words.proofs.Packed.{sign-small, point-small}
-use Rattle.words.proofs.pack.Statement.{statement}
+use Rattle.words.proofs.{Packed.sign-small, Packed.point-small, pack.Statement.statement}
 use Rattle.words.proofs.pack.Tie as tie
 
 -- the sign and the point are small

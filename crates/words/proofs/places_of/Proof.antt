@@ -1,5 +1,5 @@
 -- `words::places_of` meets its contract, unit by unit. Assumes nothing.
-use borrow.Author.Needs.{needs}
+use Rattle.terms.proofs.Common.{needs}
 use Rattle.words.specs.Values.{placesOf}
 use Rattle.words.proofs.places_of.Statement.{statement}
 use Rattle.words.proofs.places_of.Tie as tie

@@ -1,6 +1,5 @@
 -- `words::power_of_ten` meets its contract, arm by arm. Assumes nothing.
-use mathlib.Core.Path.{_≡_}
-use native.Mathlib.Omega.{arith}
+use Rattle.terms.proofs.Common.{_≡_, arith}
 use Rattle.words.proofs.power_of_ten.Statement.{statement}
 use Rattle.words.proofs.power_of_ten.Tie as tie
 

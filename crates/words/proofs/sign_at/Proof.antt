@@ -1,5 +1,5 @@
 -- `words::sign_at` meets its contract, number by number. Assumes nothing.
-use borrow.Author.Tests.{ne-eqb}
+use Rattle.terms.proofs.Common.{ne-eqb}
 use Rattle.words.specs.Packed.{signAt}
 use Rattle.words.proofs.sign_at.Statement.{statement}
 use Rattle.words.proofs.sign_at.Tie as tie

@@ -1,5 +1,5 @@
 -- `words::sign_number` meets its contract, sign by sign. Assumes nothing.
-use borrow.Author.Needs.{needs}
+use Rattle.terms.proofs.Common.{needs}
 use Rattle.words.specs.Packed.{signNumber}
 use Rattle.words.proofs.sign_number.Statement.{statement}
 use Rattle.words.proofs.sign_number.Tie as tie

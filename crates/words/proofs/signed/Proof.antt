@@ -1,5 +1,5 @@
 -- `words::signed` meets its contract, sign by sign. Assumes nothing.
-use borrow.Author.Needs.{needs}
+use Rattle.terms.proofs.Common.{needs}
 use Rattle.words.specs.Values.{signed}
 use Rattle.words.proofs.signed.Statement.{statement}
 use Rattle.words.proofs.signed.Tie as tie

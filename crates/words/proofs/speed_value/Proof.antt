@@ -1,5 +1,5 @@
 -- `words::speed_value` meets its contract. Assumes nothing.
-use borrow.Author.Needs.{needs}
+use Rattle.terms.proofs.Common.{needs}
 use Rattle.words.proofs.speed_value.Statement.{statement}
 use Rattle.words.proofs.speed_value.Tie as tie
 

@@ -1,8 +1,6 @@
 -- `words::steps` meets its contract. Assumes nothing.
-use borrow.Author.Needs.{needs}
-use native.Mathlib.Omega.{arith}
-use Rattle.words.proofs.Worth.{steps-pointed, steps-whole}
-use Rattle.words.proofs.steps.Statement.{statement}
+use Rattle.terms.proofs.Common.{needs, arith}
+use Rattle.words.proofs.{Worth.steps-pointed, Worth.steps-whole, steps.Statement.statement}
 use Rattle.words.proofs.steps.Tie as tie
 
 pub steps-spec : {M : Type 1} → statement M

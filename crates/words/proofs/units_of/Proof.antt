@@ -1,5 +1,5 @@
 -- `words::units_of` meets its contract, unit by unit. Assumes nothing.
-use borrow.Author.Needs.{needs}
+use Rattle.terms.proofs.Common.{needs}
 use Rattle.words.specs.Values.{unitsOf}
 use Rattle.words.proofs.units_of.Statement.{statement}
 use Rattle.words.proofs.units_of.Tie as tie

@@ -1,5 +1,5 @@
 -- `words::unpack` meets its contract. Assumes nothing.
-use borrow.Author.Needs.{needs}
+use Rattle.terms.proofs.Common.{needs}
 use Rattle.words.specs.Packed.{unpacked}
 use Rattle.words.proofs.unpack.Statement.{statement}
 use Rattle.words.proofs.unpack.Tie as tie

@@ -1,5 +1,5 @@
 -- `words::value_of` meets its contract, use by use. Assumes nothing.
-use borrow.Author.Needs.{needs}
+use Rattle.terms.proofs.Common.{needs}
 use Rattle.words.specs.Values.{valueOf}
 use Rattle.words.proofs.value_of.Statement.{statement}
 use Rattle.words.proofs.value_of.Tie as tie

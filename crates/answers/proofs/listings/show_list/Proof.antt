@@ -1,9 +1,5 @@
 -- `answers::listings::show_list` meets its contract: the place is in the list, and each record brings it nearer to the end. Assumes nothing.
-use borrow.Author.Needs.{needs}
-use Prim.Native.Nat.{_≤_, _+_, _-_}
-use mathlib.Core.Path.{sym, _∙_}
-use native.Mathlib.Omega.{arith}
-use lib.ListN.{length}
+use Rattle.terms.proofs.Common.{needs, _≤_, _+_, _-_, sym, _∙_, arith, length}
 use Rattle.records.proofs.Again.{read-on}
 use Rattle.answers.proofs.listings.show_list.Statement.{statement}
 use Rattle.answers.proofs.listings.show_list.Tie as tie

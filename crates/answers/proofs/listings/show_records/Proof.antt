@@ -1,6 +1,5 @@
 -- `answers::listings::show_records` meets its contract: the count of records left falls. Assumes nothing.
-use borrow.Author.Needs.{needs}
-use Prim.Native.Nat.{_≤_}
+use Rattle.terms.proofs.Common.{needs, _≤_}
 use Rattle.answers.proofs.listings.show_records.Statement.{statement}
 use Rattle.answers.proofs.listings.show_records.Tie as tie
 

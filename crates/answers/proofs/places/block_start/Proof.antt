@@ -1,9 +1,6 @@
 -- `answers::places::block_start` meets its contract: no LF stands between the place and where the loop is. Assumes nothing.
-use borrow.Author.Needs.{needs}
-use Prim.Native.Nat.{_≤_, _-_}
-use native.Mathlib.Omega.{arith}
-use Rattle.answers.proofs.Lines.{Whole, none-yet, one-back, at-lf, at-start}
-use Rattle.answers.proofs.places.block_start.Statement.{statement}
+use Rattle.terms.proofs.Common.{needs, _≤_, _-_, arith}
+use Rattle.answers.proofs.{Lines.Whole, Lines.none-yet, Lines.one-back, Lines.at-lf, Lines.at-start, places.block_start.Statement.statement}
 use Rattle.answers.proofs.places.block_start.Tie as tie
 
 abbrev Inv-loop : tie.InvT-loop

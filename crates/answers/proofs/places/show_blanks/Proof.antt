@@ -1,6 +1,5 @@
 -- `answers::places::show_blanks` meets its contract: fewer are left at each turn. Assumes nothing.
-use borrow.Author.Needs.{needs}
-use Prim.Native.Nat.{_≤_}
+use Rattle.terms.proofs.Common.{needs, _≤_}
 use Rattle.answers.proofs.places.show_blanks.Statement.{statement}
 use Rattle.answers.proofs.places.show_blanks.Tie as tie
 

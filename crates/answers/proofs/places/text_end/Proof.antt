@@ -1,14 +1,7 @@
 -- `answers::places::text_end` meets its contract. What is left gives the same. Assumes nothing.
-use borrow.Author.Needs.{needs}
-use Prim.Native.Nat.{_≤_, _-_, _+_}
-use mathlib.Core.Path.{_≡_, sym, _∙_}
-use borrow.Author.Tests.{not-true, not-false}
-use native.Mathlib.Omega.{arith}
-use lib.ListN.{length, drop}
-use Rattle.lines.specs.Blocks.{textFrom}
-use Rattle.lines.proofs.Laws.{text-inside}
-use Rattle.answers.proofs.Lines.{text-over, text-more}
-use Rattle.answers.proofs.places.text_end.Statement.{statement}
+use Rattle.terms.proofs.Common.{needs, _≤_, _-_, _+_, _≡_, sym, _∙_, not-true, not-false, arith, length, drop}
+use Rattle.lines.{specs.Blocks.textFrom, proofs.Laws.text-inside}
+use Rattle.answers.proofs.{Lines.text-over, Lines.text-more, places.text_end.Statement.statement}
 use Rattle.answers.proofs.places.text_end.Tie as tie
 
 abbrev Inv-loop : tie.InvT-loop

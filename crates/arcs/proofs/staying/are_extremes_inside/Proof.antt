@@ -1,5 +1,5 @@
 -- `arcs::staying::are_extremes_inside` meets its contract, extreme by extreme. Assumes nothing.
-use borrow.Author.Needs.{needs}
+use Rattle.terms.proofs.Common.{needs}
 use Rattle.arcs.specs.Arcs.{extremesInside}
 use Rattle.arcs.proofs.staying.are_extremes_inside.Statement.{statement}
 use Rattle.arcs.proofs.staying.are_extremes_inside.Tie as tie

@@ -1,6 +1,5 @@
 -- `arcs::staying::from_centre` meets its contract, axis by axis. Assumes nothing.
-use native.Mathlib.Omega.{arith}
-use borrow.Author.Needs.{needs}
+use Rattle.terms.proofs.Common.{arith, needs}
 use Rattle.arcs.specs.Turning.{direction}
 use Rattle.arcs.proofs.staying.from_centre.Statement.{statement}
 use Rattle.arcs.proofs.staying.from_centre.Tie as tie

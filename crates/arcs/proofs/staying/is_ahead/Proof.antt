@@ -1,5 +1,5 @@
 -- `arcs::staying::is_ahead` meets its contract. Assumes nothing.
-use borrow.Author.Needs.{needs}
+use Rattle.terms.proofs.Common.{needs}
 use Rattle.arcs.specs.Turning.{dot}
 use Rattle.arcs.proofs.staying.is_ahead.Statement.{statement}
 use Rattle.arcs.proofs.staying.is_ahead.Tie as tie

@@ -1,6 +1,5 @@
 -- `arcs::staying::is_coordinate_inside` meets its contract, by the definition's three cases. Assumes nothing.
-use mathlib.Core.Path.{sym, _∙_}
-use borrow.Author.Needs.{needs}
+use Rattle.terms.proofs.Common.{sym, _∙_, needs}
 use Rattle.arcs.specs.Arcs.{coordinateInside}
 use Rattle.arcs.proofs.staying.is_coordinate_inside.Statement.{statement}
 use Rattle.arcs.proofs.staying.is_coordinate_inside.Tie as tie

@@ -1,7 +1,5 @@
 -- `arcs::staying::is_extreme_inside` meets its contract. Assumes nothing.
-use mathlib.Core.Path.{ap₂}
-use mathlib.Core.Bool.{_&&_}
-use borrow.Author.Needs.{needs}
+use Rattle.terms.proofs.Common.{ap₂, _&&_, needs}
 use Rattle.arcs.specs.Arcs.{extremeInside}
 use Rattle.arcs.proofs.staying.is_extreme_inside.Statement.{statement}
 use Rattle.arcs.proofs.staying.is_extreme_inside.Tie as tie

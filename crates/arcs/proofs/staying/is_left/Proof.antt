@@ -1,5 +1,5 @@
 -- `arcs::staying::is_left` meets its contract. Assumes nothing.
-use borrow.Author.Needs.{needs}
+use Rattle.terms.proofs.Common.{needs}
 use Rattle.arcs.specs.Turning.{left, cross}
 use Rattle.arcs.proofs.staying.is_left.Statement.{statement}
 use Rattle.arcs.proofs.staying.is_left.Tie as tie

@@ -1,7 +1,5 @@
 -- `arcs::staying::is_on_left_way` meets its contract, by the definition's three cases. Assumes nothing.
-use mathlib.Core.Path.{_≡_, refl, sym, _∙_}
-use mathlib.Core.Bool.{Bool, true, false, not, _||_}
-use borrow.Author.Needs.{needs}
+use Rattle.terms.proofs.Common.{_≡_, refl, sym, _∙_, Bool, true, false, not, _||_, needs}
 use Rattle.terms.specs.Terms.{if_then_else_}
 use Rattle.arcs.specs.Turning.{onLeftWay}
 use Rattle.arcs.proofs.staying.is_on_left_way.Statement.{statement}

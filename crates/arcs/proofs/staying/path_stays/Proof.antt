@@ -1,16 +1,10 @@
 -- `arcs::staying::path_stays` meets its contract, mark by mark. Assumes nothing.
-use mathlib.Core.Path.{_≡_, refl, sym}
-use mathlib.Core.Bool.{true}
-use mathlib.Core.List.{[], _∷_}
+use Rattle.terms.proofs.Common.{_≡_, refl, sym, true, [], _∷_, needs}
 use denote.Enum.Declared.{tagOf}
 use types.Run.{OneOf, miss}
-use borrow.Author.Needs.{needs}
-use Rattle.lengths.specs.declared.Point.{Point}
-use Rattle.lengths.specs.declared.Travel.{Travel}
-use Rattle.records.proofs.Record.{the-type}
-use Rattle.records.specs.declared.Record.{Record}
+use Rattle.lengths.specs.declared.{Point.Point, Travel.Travel}
+use Rattle.records.{specs.declared.Record.Record, specs.Path.pathOf, proofs.Record.the-type}
 use Rattle.records.specs.declared.Record.the-variants.{RP, LN, AR, AL, DW, SP, SO, PA, EN}
-use Rattle.records.specs.Path.{pathOf}
 use Rattle.arcs.specs.Arcs.{pathStays}
 use Rattle.arcs.proofs.staying.path_stays.Statement.{statement}
 use Rattle.arcs.proofs.staying.path_stays.Tie as tie

@@ -1,5 +1,5 @@
 -- `arcs::staying::root_reaches` meets its contract. Assumes nothing.
-use borrow.Author.Needs.{needs}
+use Rattle.terms.proofs.Common.{needs}
 use Rattle.arcs.specs.Arcs.{notBelow}
 use Rattle.arcs.proofs.staying.root_reaches.Statement.{statement}
 use Rattle.arcs.proofs.staying.root_reaches.Tie as tie

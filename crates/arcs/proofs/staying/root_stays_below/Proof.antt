@@ -1,5 +1,5 @@
 -- `arcs::staying::root_stays_below` meets its contract. Assumes nothing.
-use borrow.Author.Needs.{needs}
+use Rattle.terms.proofs.Common.{needs}
 use Rattle.arcs.specs.Arcs.{notAbove}
 use Rattle.arcs.proofs.staying.root_stays_below.Statement.{statement}
 use Rattle.arcs.proofs.staying.root_stays_below.Tie as tie

@@ -1,10 +1,7 @@
 -- `arcs::staying::way_stays` meets its contract. Assumes nothing.
-use mathlib.Core.Path.{ap₂}
-use mathlib.Core.Bool.{_&&_}
-use borrow.Author.Needs.{needs}
+use Rattle.terms.proofs.Common.{ap₂, _&&_, needs}
 use Rattle.arcs.specs.Arcs.{arcStays}
-use Rattle.arcs.proofs.Reach.{bounds-framed}
-use Rattle.arcs.proofs.staying.way_stays.Statement.{statement}
+use Rattle.arcs.proofs.{Reach.bounds-framed, staying.way_stays.Statement.statement}
 use Rattle.arcs.proofs.staying.way_stays.Tie as tie
 
 are-extremes-inside-requires : tie.Need-are-extremes-inside-requires

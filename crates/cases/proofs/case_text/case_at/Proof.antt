@@ -1,7 +1,6 @@
 -- `cases::case_text::case_at` meets its contract: line by line, and the three words. Assumes nothing.
-use borrow.Author.Needs.{needs}
-use Rattle.cases.proofs.Laws.{line-inside, data-inside, case-is}
-use Rattle.cases.proofs.case_text.case_at.Statement.{statement}
+use Rattle.terms.proofs.Common.{needs}
+use Rattle.cases.proofs.{Laws.line-inside, Laws.data-inside, Laws.case-is, case_text.case_at.Statement.statement}
 use Rattle.cases.proofs.case_text.case_at.Tie as tie
 
 next-block-requires-2 : tie.Need-next-block-requires-2

@@ -1,9 +1,7 @@
 -- `cases::case_text::count_at` meets its contract: the next word, and its digits. Assumes nothing.
-use native.Mathlib.Omega.{arith}
-use borrow.Author.Needs.{needs}
+use Rattle.terms.proofs.Common.{arith, needs}
 use Rattle.texts.proofs.Places.{standing}
-use Rattle.cases.proofs.Laws.{count-none, count-some}
-use Rattle.cases.proofs.case_text.count_at.Statement.{statement}
+use Rattle.cases.proofs.{Laws.count-none, Laws.count-some, case_text.count_at.Statement.statement}
 use Rattle.cases.proofs.case_text.count_at.Tie as tie
 
 returns : tie.Need-returns

@@ -1,7 +1,5 @@
 -- `cases::case_text::is_line_end` meets its contract: the byte at the place, where there is one. Assumes nothing.
-use mathlib.Core.Path.{sym}
-use borrow.Author.Needs.{needs}
-use native.Mathlib.Omega.{arith}
+use Rattle.terms.proofs.Common.{sym, needs, arith}
 use Rattle.lines.proofs.Lines.{begins-end, begins-at}
 use Rattle.cases.proofs.case_text.is_line_end.Statement.{statement}
 use Rattle.cases.proofs.case_text.is_line_end.Tie as tie

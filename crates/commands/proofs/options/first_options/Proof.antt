@@ -1,8 +1,6 @@
 -- `commands::options::first_options` meets its contract. Assumes nothing.
-use borrow.Author.Needs.{needs}
-use mathlib.Core.Path.{_∙_}
-use Rattle.commands.proofs.Choosing.{first-listed, first-unlisted}
-use Rattle.commands.proofs.options.first_options.Statement.{statement}
+use Rattle.terms.proofs.Common.{needs, _∙_}
+use Rattle.commands.proofs.{Choosing.first-listed, Choosing.first-unlisted, options.first_options.Statement.statement}
 use Rattle.commands.proofs.options.first_options.Tie as tie
 
 returns : tie.Need-returns

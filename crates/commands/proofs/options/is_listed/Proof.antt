@@ -1,9 +1,6 @@
 -- `commands::options::is_listed` meets its contract: a word of one byte is no option. Assumes nothing.
-use borrow.Author.Needs.{needs}
-use mathlib.Core.Path.{ap, _∙_}
-use mathlib.Core.Bool.{not}
-use Rattle.commands.proofs.Choosing.{few-words, short-word, long-word}
-use Rattle.commands.proofs.options.is_listed.Statement.{statement}
+use Rattle.terms.proofs.Common.{needs, ap, _∙_, not}
+use Rattle.commands.proofs.{Choosing.few-words, Choosing.short-word, Choosing.long-word, options.is_listed.Statement.statement}
 use Rattle.commands.proofs.options.is_listed.Tie as tie
 
 returns : tie.Need-returns

@@ -1,8 +1,6 @@
 -- `commands::options::options_of` meets its contract: one option after the other. Assumes nothing.
-use borrow.Author.Needs.{needs}
-use native.Mathlib.Omega.{arith}
-use Rattle.commands.proofs.Choosing.{Fits, fits-as, first-fits, next-fits, options-are}
-use Rattle.commands.proofs.options.options_of.Statement.{statement}
+use Rattle.terms.proofs.Common.{needs, arith}
+use Rattle.commands.proofs.{Choosing.fits-as, Choosing.first-fits, Choosing.next-fits, Choosing.options-are, options.options_of.Statement.statement}
 use Rattle.commands.proofs.options.options_of.Tie as tie
 
 with-next-requires : tie.Need-with-next-requires

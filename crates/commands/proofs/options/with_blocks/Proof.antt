@@ -1,9 +1,7 @@
 -- `commands::options::with_blocks` meets its contract. Assumes nothing.
-use borrow.Author.Needs.{needs}
-use mathlib.Core.Path.{sym, _∙_}
+use Rattle.terms.proofs.Common.{needs, sym, _∙_}
 use Rattle.texts.specs.Figures.{digitsIn}
-use Rattle.commands.proofs.Choosing.{digits-known, blocks-twice, blocks-none, blocks-are}
-use Rattle.commands.proofs.options.with_blocks.Statement.{statement}
+use Rattle.commands.proofs.{Choosing.digits-known, Choosing.blocks-twice, Choosing.blocks-none, Choosing.blocks-are, options.with_blocks.Statement.statement}
 use Rattle.commands.proofs.options.with_blocks.Tie as tie
 
 returns : tie.Need-returns

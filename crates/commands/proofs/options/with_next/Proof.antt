@@ -1,11 +1,7 @@
 -- `commands::options::with_next` meets its contract. Assumes nothing.
-use borrow.Author.Needs.{needs}
-use mathlib.Core.Path.{ap₂, _∙_}
-use Prim.Native.Nat.{ℕ}
-use mathlib.Core.List.{List}
+use Rattle.terms.proofs.Common.{needs, ap₂, _∙_, ℕ, List}
 use Rattle.commands.specs.Options.{withOption}
-use Rattle.commands.proofs.Choosing.{next-spoilt, next-none, next-is}
-use Rattle.commands.proofs.options.with_next.Statement.{statement}
+use Rattle.commands.proofs.{Choosing.next-spoilt, Choosing.next-none, Choosing.next-is, options.with_next.Statement.statement}
 use Rattle.commands.proofs.options.with_next.Tie as tie
 
 returns : tie.Need-returns

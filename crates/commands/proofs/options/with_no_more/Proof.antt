@@ -1,8 +1,6 @@
 -- `commands::options::with_no_more` meets its contract. Assumes nothing.
-use borrow.Author.Needs.{needs}
-use mathlib.Core.Path.{_∙_}
-use Rattle.commands.proofs.Choosing.{no-more-spoilt, no-more-left, more-left}
-use Rattle.commands.proofs.options.with_no_more.Statement.{statement}
+use Rattle.terms.proofs.Common.{needs, _∙_}
+use Rattle.commands.proofs.{Choosing.no-more-spoilt, Choosing.no-more-left, Choosing.more-left, options.with_no_more.Statement.statement}
 use Rattle.commands.proofs.options.with_no_more.Tie as tie
 
 returns : tie.Need-returns

@@ -1,8 +1,6 @@
 -- `commands::options::with_option` meets its contract: the name says which option it is. Assumes nothing.
-use borrow.Author.Needs.{needs}
-use mathlib.Core.Path.{sym, _∙_}
-use Rattle.commands.proofs.Choosing.{option-blocks, option-room, option-partial, option-other}
-use Rattle.commands.proofs.options.with_option.Statement.{statement}
+use Rattle.terms.proofs.Common.{needs, sym, _∙_}
+use Rattle.commands.proofs.{Choosing.option-blocks, Choosing.option-room, Choosing.option-partial, Choosing.option-other, options.with_option.Statement.statement}
 use Rattle.commands.proofs.options.with_option.Tie as tie
 
 returns : tie.Need-returns

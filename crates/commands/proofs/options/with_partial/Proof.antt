@@ -1,8 +1,6 @@
 -- `commands::options::with_partial` meets its contract. Assumes nothing.
-use borrow.Author.Needs.{needs}
-use mathlib.Core.Path.{_∙_}
-use Rattle.commands.proofs.Choosing.{partial-twice, partial-once}
-use Rattle.commands.proofs.options.with_partial.Statement.{statement}
+use Rattle.terms.proofs.Common.{needs, _∙_}
+use Rattle.commands.proofs.{Choosing.partial-twice, Choosing.partial-once, options.with_partial.Statement.statement}
 use Rattle.commands.proofs.options.with_partial.Tie as tie
 
 returns : tie.Need-returns

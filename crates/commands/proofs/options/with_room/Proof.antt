@@ -1,9 +1,7 @@
 -- `commands::options::with_room` meets its contract. Assumes nothing.
-use borrow.Author.Needs.{needs}
-use mathlib.Core.Path.{sym, _∙_}
+use Rattle.terms.proofs.Common.{needs, sym, _∙_}
 use Rattle.texts.specs.Figures.{digitsIn}
-use Rattle.commands.proofs.Choosing.{digits-known, room-twice, room-none, room-above, room-is}
-use Rattle.commands.proofs.options.with_room.Statement.{statement}
+use Rattle.commands.proofs.{Choosing.digits-known, Choosing.room-twice, Choosing.room-none, Choosing.room-above, Choosing.room-is, options.with_room.Statement.statement}
 use Rattle.commands.proofs.options.with_room.Tie as tie
 
 returns : tie.Need-returns

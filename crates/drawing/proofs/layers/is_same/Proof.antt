@@ -1,5 +1,5 @@
 -- `drawing::layers::is_same` meets its contract: both distances decide. Assumes nothing.
-use borrow.Author.Needs.{needs}
+use Rattle.terms.proofs.Common.{needs}
 use Rattle.drawing.specs.Shapes.{same}
 use Rattle.drawing.proofs.layers.is_same.Statement.{statement}
 use Rattle.drawing.proofs.layers.is_same.Tie as tie

@@ -1,13 +1,8 @@
 -- `drawing::layers::last_of` meets its contract: after each record, the reader says the same of the rest. Assumes nothing.
-use Prim.Native.Nat.{_-_}
-use mathlib.Core.Path.{_≡_, refl, sym, _∙_}
-use native.Mathlib.Omega.{arith}
-use borrow.Author.Needs.{needs}
-use lib.ListN.{length}
+use Rattle.terms.proofs.Common.{_-_, _≡_, refl, sym, _∙_, arith, needs, length}
 use Rattle.records.proofs.Again.{read-on}
 use Rattle.drawing.specs.Walks.{endFrom}
-use Rattle.drawing.proofs.Walking.{end-next, end-here}
-use Rattle.drawing.proofs.layers.last_of.Statement.{statement}
+use Rattle.drawing.proofs.{Walking.end-next, Walking.end-here, layers.last_of.Statement.statement}
 use Rattle.drawing.proofs.layers.last_of.Tie as tie
 
 abbrev Inv-loop : tie.InvT-loop

@@ -1,6 +1,5 @@
 -- `drawing::layers::put_cut` meets its contract: a dot or a line. Assumes nothing.
-use mathlib.Core.Path.{sym, _∙_}
-use borrow.Author.Needs.{needs}
+use Rattle.terms.proofs.Common.{sym, _∙_, needs}
 use Rattle.drawing.specs.Shapes.{cut}
 use Rattle.drawing.proofs.layers.put_cut.Statement.{statement}
 use Rattle.drawing.proofs.layers.put_cut.Tie as tie

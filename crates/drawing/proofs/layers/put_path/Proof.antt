@@ -1,17 +1,9 @@
 -- `drawing::layers::put_path` meets its contract: at each record, what is left to write gives the same. Assumes nothing.
-use Prim.Native.Nat.{ℕ, _-_}
-use mathlib.Core.List.{List}
-use mathlib.Core.Path.{_≡_, refl, sym, _∙_}
-use native.Mathlib.Omega.{arith}
-use borrow.Author.Needs.{needs}
-use lib.ListN.{length}
+use Rattle.terms.proofs.Common.{ℕ, _-_, List, _≡_, refl, sym, _∙_, arith, needs, length}
 use Rattle.records.proofs.Again.{read-on}
-use Rattle.svg.specs.Text.{Fills}
-use Rattle.drawing.specs.Shapes.{path}
-use Rattle.drawing.specs.Walks.{recordsFrom}
-use Rattle.svg.proofs.Filled.{fills-length}
-use Rattle.drawing.proofs.Walking.{path-on, path-end}
-use Rattle.drawing.proofs.layers.put_path.Statement.{statement}
+use Rattle.svg.{specs.Text.Fills, proofs.Filled.fills-length}
+use Rattle.drawing.specs.{Shapes.path, Walks.recordsFrom}
+use Rattle.drawing.proofs.{Walking.path-on, Walking.path-end, layers.put_path.Statement.statement}
 use Rattle.drawing.proofs.layers.put_path.Tie as tie
 
 abbrev Inv-loop : tie.InvT-loop

@@ -1,9 +1,6 @@
 -- `drawing::picture::draw` meets its contract: the setup, then the list, then the room. Assumes nothing.
-use mathlib.Core.Path.{sym, _∙_}
-use borrow.Author.Needs.{needs}
-use borrow.Author.Tests.{not-true, not-false}
-use Rattle.drawing.proofs.Fitting.{draws-bad, draws-faulty, draws-whole, fits-is, fits-not}
-use Rattle.drawing.proofs.picture.draw.Statement.{statement}
+use Rattle.terms.proofs.Common.{sym, _∙_, needs, not-true, not-false}
+use Rattle.drawing.proofs.{Fitting.draws-bad, Fitting.draws-faulty, Fitting.draws-whole, Fitting.fits-is, Fitting.fits-not, picture.draw.Statement.statement}
 use Rattle.drawing.proofs.picture.draw.Tie as tie
 
 returns : tie.Need-returns

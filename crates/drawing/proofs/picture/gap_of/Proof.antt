@@ -1,6 +1,5 @@
 -- `drawing::picture::gap_of` meets its contract: three distances of at most 200,000,000. Assumes nothing.
-use native.Mathlib.Omega.{arith}
-use borrow.Author.Needs.{needs}
+use Rattle.terms.proofs.Common.{arith, needs}
 use Rattle.drawing.specs.Picture.{gapOf}
 use Rattle.drawing.proofs.picture.gap_of.Statement.{statement}
 use Rattle.drawing.proofs.picture.gap_of.Tie as tie

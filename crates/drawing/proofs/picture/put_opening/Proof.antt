@@ -1,5 +1,5 @@
 -- `drawing::picture::put_opening` meets its contract: its four numbers in their places. Assumes nothing.
-use borrow.Author.Needs.{needs}
+use Rattle.terms.proofs.Common.{needs}
 use Rattle.drawing.specs.Picture.{opening}
 use Rattle.drawing.proofs.picture.put_opening.Statement.{statement}
 use Rattle.drawing.proofs.picture.put_opening.Tie as tie

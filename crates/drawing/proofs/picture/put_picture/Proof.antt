@@ -1,5 +1,5 @@
 -- `drawing::picture::put_picture` meets its contract: its parts, one after the other. Assumes nothing.
-use borrow.Author.Needs.{needs}
+use Rattle.terms.proofs.Common.{needs}
 use Rattle.svg.proofs.Filled.{fills-then}
 use Rattle.drawing.specs.Picture.{pictureOf}
 use Rattle.drawing.proofs.picture.put_picture.Statement.{statement}

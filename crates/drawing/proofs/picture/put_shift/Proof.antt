@@ -1,5 +1,5 @@
 -- `drawing::picture::put_shift` meets its contract: its numbers in their places. Assumes nothing.
-use borrow.Author.Needs.{needs}
+use Rattle.terms.proofs.Common.{needs}
 use Rattle.drawing.specs.Picture.{shift}
 use Rattle.drawing.proofs.picture.put_shift.Statement.{statement}
 use Rattle.drawing.proofs.picture.put_shift.Tie as tie

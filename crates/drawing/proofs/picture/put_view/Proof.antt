@@ -1,7 +1,7 @@
 -- `drawing::picture::put_view` meets its contract: its parts, one after the other. Assumes nothing.
-use borrow.Author.Needs.{needs}
-use Rattle.drawing.specs.Picture.{viewOf}
+use Rattle.terms.proofs.Common.{needs}
 use Rattle.svg.proofs.Filled.{fills-then}
+use Rattle.drawing.specs.Picture.{viewOf}
 use Rattle.drawing.proofs.picture.put_view.Statement.{statement}
 use Rattle.drawing.proofs.picture.put_view.Tie as tie
 

@@ -1,6 +1,5 @@
 -- `drawing::picture::sheet_of` meets its contract: the travel of a valid setup is near. Assumes nothing.
-use mathlib.Core.Path.{refl}
-use borrow.Author.Needs.{needs}
+use Rattle.terms.proofs.Common.{refl, needs}
 use Rattle.setup.proofs.Valid.{valid-low, valid-high}
 use Rattle.drawing.specs.Picture.{sheetOf}
 use Rattle.drawing.proofs.picture.sheet_of.Statement.{statement}

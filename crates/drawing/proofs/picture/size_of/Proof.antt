@@ -1,6 +1,5 @@
 -- `drawing::picture::size_of` meets its contract: sums and differences by their contracts. Assumes nothing.
-use native.Mathlib.Omega.{arith}
-use borrow.Author.Needs.{needs}
+use Rattle.terms.proofs.Common.{arith, needs}
 use Rattle.drawing.specs.Picture.{sizeOf}
 use Rattle.drawing.proofs.picture.size_of.Statement.{statement}
 use Rattle.drawing.proofs.picture.size_of.Tie as tie

@@ -1,11 +1,7 @@
 -- `execution::checking::check_motion` meets its contract: test by test. Assumes nothing.
-use borrow.Author.Needs.{needs}
-use native.Mathlib.Omega.{arith}
-use mathlib.Core.Path.{_≡_, refl, sym, _∙_, ap}
-use borrow.Author.Tests.{not-true, not-false}
-use Rattle.execution.proofs.Ready.{testable, block-loose, block-fits, block-leaves, block-comes, block-unsound, work-little}
-use Prim.Native.Nat.{ℕ}
+use Rattle.terms.proofs.Common.{needs, arith, _≡_, sym, _∙_, not-true, not-false, ℕ}
 use Rattle.execution.proofs.checking.check_motion.Statement.{statement}
+use Rattle.execution.proofs.Ready.{testable, block-loose, block-fits, block-leaves, block-comes, block-unsound, work-little}
 use Rattle.execution.proofs.checking.check_motion.Tie as tie
 
 returns : tie.Need-returns

@@ -1,11 +1,8 @@
 -- `execution::checking::plan_block` meets its contract. Assumes nothing.
-use borrow.Author.Needs.{needs}
-use native.Mathlib.Omega.{arith}
-use mathlib.Core.Path.{_≡_, refl, sym, _∙_, ap}
+use Rattle.terms.proofs.Common.{needs, arith, refl}
 use Rattle.setup.specs.Frame.{originAt}
 use Rattle.blocks.specs.Exec.{working}
-use Rattle.execution.proofs.Ready.{poised}
-use Rattle.execution.proofs.checking.plan_block.Statement.{statement}
+use Rattle.execution.proofs.{Ready.poised, checking.plan_block.Statement.statement}
 use Rattle.execution.proofs.checking.plan_block.Tie as tie
 
 mul-origin : tie.Need-mul-origin

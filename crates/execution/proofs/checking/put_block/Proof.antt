@@ -1,11 +1,8 @@
 -- `execution::checking::put_block` meets its contract: the parts are written one after the other. Assumes nothing.
-use native.Mathlib.Omega.{arith}
 use Rattle.records.proofs.Written.{wrote-length}
-use Rattle.work.specs.Work.{workRecords, briefRecords}
-use Rattle.work.proofs.Briefs.{brief-asks, brief-put}
+use Rattle.work.{specs.Work.workRecords, specs.Work.briefRecords, proofs.Briefs.brief-asks, proofs.Briefs.brief-put}
 use Rattle.execution.specs.Steps.{plannedRecords}
-use Rattle.execution.proofs.Written.{first-ready, second-ready, third-ready, three-wrote}
-use Rattle.execution.proofs.checking.put_block.Statement.{statement}
+use Rattle.execution.proofs.{Written.first-ready, Written.second-ready, Written.third-ready, Written.three-wrote, checking.put_block.Statement.statement}
 use Rattle.execution.proofs.checking.put_block.Tie as tie
 
 put-brief-requires : tie.Need-put-brief-requires

@@ -1,14 +1,8 @@
 -- `execution::checking::write_block` meets its contract: refused, or written where there is room. Assumes nothing.
-use borrow.Author.Needs.{needs}
-use native.Mathlib.Omega.{arith}
-use mathlib.Core.Path.{_≡_, refl, sym, _∙_, ap}
-use Rattle.records.specs.Writing.{movedBytes}
+use Rattle.terms.proofs.Common.{needs, arith, sym, _∙_, []}
 use Rattle.records.proofs.Moved.{put-as}
-use Rattle.execution.proofs.Verdicts.{does-refused, does-accepted}
-use Rattle.execution.proofs.Ready.{made-is}
+use Rattle.execution.proofs.{Verdicts.does-refused, Verdicts.does-accepted, Ready.made-is, checking.write_block.Statement.statement}
 use Rattle.execution.proofs.Written.{stops, no-room, accepts, settled-is, count-is, block-ready, writable}
-use mathlib.Core.List.{[]}
-use Rattle.execution.proofs.checking.write_block.Statement.{statement}
 use Rattle.execution.proofs.checking.write_block.Tie as tie
 
 returns : tie.Need-returns

@@ -1,9 +1,6 @@
 -- `execution::effects::called` meets its contract. Assumes nothing.
-use native.Mathlib.Omega.{arith}
+use Rattle.terms.proofs.Common.{arith, needs}
 use Rattle.lengths.proofs.Laws.{abs-sum}
-use mathlib.Core.Path.{_∙_, ap}
-use lib.IntN.{natAbs}
-use borrow.Author.Needs.{needs}
 use Rattle.execution.proofs.effects.called.Statement.{statement}
 use Rattle.execution.proofs.effects.called.Tie as tie
 

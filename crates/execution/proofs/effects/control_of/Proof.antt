@@ -1,8 +1,7 @@
 -- `execution::effects::control_of` meets its contract. Assumes nothing.
-use borrow.Author.Tests.{eq-eqb, ne-eqb}
+use Rattle.terms.proofs.Common.{eq-eqb, ne-eqb, needs}
 use Rattle.codes.specs.Codes.{isM}
 use Rattle.blocks.specs.Exec.{controlOf}
-use borrow.Author.Needs.{needs}
 use Rattle.execution.proofs.effects.control_of.Statement.{statement}
 use Rattle.execution.proofs.effects.control_of.Tie as tie
 

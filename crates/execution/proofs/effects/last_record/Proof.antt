@@ -1,8 +1,6 @@
 -- `execution::effects::last_record` meets its contract. Assumes nothing.
-use borrow.Author.Tests.{eq-eqb, ne-eqb}
-use Rattle.execution.proofs.Small.{last-off, last-pause, last-end, last-none}
-use borrow.Author.Needs.{needs}
-use Rattle.execution.proofs.effects.last_record.Statement.{statement}
+use Rattle.terms.proofs.Common.{eq-eqb, ne-eqb, needs}
+use Rattle.execution.proofs.{Small.last-off, Small.last-pause, Small.last-end, Small.last-none, effects.last_record.Statement.statement}
 use Rattle.execution.proofs.effects.last_record.Tie as tie
 
 returns : tie.Need-returns

@@ -1,7 +1,7 @@
 -- `execution::effects::settled` meets its contract. Assumes nothing.
+use Rattle.terms.proofs.Common.{needs}
 use Rattle.codes.specs.Codes.{isM}
 use Rattle.execution.specs.Steps.{settledAt}
-use borrow.Author.Needs.{needs}
 use Rattle.execution.proofs.effects.settled.Statement.{statement}
 use Rattle.execution.proofs.effects.settled.Tie as tie
 

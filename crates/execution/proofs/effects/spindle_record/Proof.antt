@@ -1,7 +1,6 @@
 -- `execution::effects::spindle_record` meets its contract. Assumes nothing.
-use Rattle.execution.proofs.Small.{spindle-one, spindle-none}
-use borrow.Author.Needs.{needs}
-use Rattle.execution.proofs.effects.spindle_record.Statement.{statement}
+use Rattle.terms.proofs.Common.{needs}
+use Rattle.execution.proofs.{Small.spindle-one, Small.spindle-none, effects.spindle_record.Statement.statement}
 use Rattle.execution.proofs.effects.spindle_record.Tie as tie
 
 returns : tie.Need-returns

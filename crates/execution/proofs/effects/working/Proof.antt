@@ -1,7 +1,7 @@
 -- `execution::effects::working` meets its contract. Assumes nothing.
+use Rattle.terms.proofs.Common.{needs}
 use Rattle.codes.specs.Codes.{isM}
 use Rattle.blocks.specs.Exec.{working}
-use borrow.Author.Needs.{needs}
 use Rattle.execution.proofs.effects.working.Statement.{statement}
 use Rattle.execution.proofs.effects.working.Tie as tie
 

@@ -1,16 +1,9 @@
 -- `execution::hearing::hear_block` meets its contract: refused as it is read, or judged. Assumes nothing.
-use borrow.Author.Needs.{needs}
-use native.Mathlib.Omega.{arith}
-use mathlib.Core.Path.{_≡_, sym, _∙_}
-use mathlib.Core.List.{List}
-use Rattle.words.specs.declared.Word.{Word}
-use Rattle.words.specs.Packed.{wordsIn}
-use Rattle.reading.specs.Items.{wordsAt}
-use lib.Dec.{eqb}
+use Rattle.terms.proofs.Common.{needs, _≡_, sym, _∙_, List, eqb}
+use Rattle.words.specs.{declared.Word.Word, Packed.wordsIn}
+use Rattle.reading.specs.{Items.wordsAt, Whole.statusOf, Whole.Kept}
+use Rattle.execution.proofs.{Listening.Reads, Listening.all-stand, Listening.reading-refused, Listening.heard-as, hearing.hear_block.Statement.statement}
 use Rattle.reading.specs.declared.Status.the-variants as status
-use Rattle.reading.specs.Whole.{statusOf, Kept}
-use Rattle.execution.proofs.Listening.{Reads, all-stand, reading-refused, heard-as}
-use Rattle.execution.proofs.hearing.hear_block.Statement.{statement}
 use Rattle.execution.proofs.hearing.hear_block.Tie as tie
 
 -- the words that the reader left in the arrays

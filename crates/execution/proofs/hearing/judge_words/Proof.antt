@@ -1,16 +1,9 @@
 -- `execution::hearing::judge_words` meets its contract: by the judgement of the words. Assumes nothing.
-use borrow.Author.Needs.{needs}
-use native.Mathlib.Omega.{arith}
-use Prim.Native.Nat.{ℕ}
-use mathlib.Core.Path.{refl, sym, _∙_, ap}
+use Rattle.terms.proofs.Common.{needs, refl, sym, _∙_, ap}
 use Rattle.words.specs.Packed.{wordsIn}
-use Rattle.blocks.specs.declared.Said.{Said}
-use Rattle.blocks.specs.Machine.{machineOf}
-use Rattle.blocks.specs.Calling.{freely}
+use Rattle.blocks.specs.{declared.Said.Said, Machine.machineOf, Calling.freely}
 use Rattle.execution.specs.Steps.{judgedFrom}
-use Rattle.execution.proofs.Verdicts.{values-past, unused-stops, bad-stops}
-use Rattle.execution.proofs.Judged.{judged-is, said-is, steady}
-use Rattle.execution.proofs.hearing.judge_words.Statement.{statement}
+use Rattle.execution.proofs.{Verdicts.values-past, Verdicts.unused-stops, Verdicts.bad-stops, Judged.judged-is, Judged.said-is, Judged.steady, hearing.judge_words.Statement.statement}
 use Rattle.execution.proofs.hearing.judge_words.Tie as tie
 
 returns : tie.Need-returns

@@ -1,6 +1,6 @@
 -- `execution::order::cannot_drill` meets its contract. Assumes nothing.
+use Rattle.terms.proofs.Common.{needs}
 use Rattle.blocks.specs.Exec.{cannotDrill}
-use borrow.Author.Needs.{needs}
 use Rattle.execution.proofs.order.cannot_drill.Statement.{statement}
 use Rattle.execution.proofs.order.cannot_drill.Tie as tie
 

@@ -1,8 +1,6 @@
 -- `execution::order::drills` meets its contract. Assumes nothing.
-use mathlib.Core.Path.{sym, _∙_}
-use Rattle.execution.proofs.Small.{not-moving}
-use borrow.Author.Needs.{needs}
-use Rattle.execution.proofs.order.drills.Statement.{statement}
+use Rattle.terms.proofs.Common.{sym, needs}
+use Rattle.execution.proofs.{Small.not-moving, order.drills.Statement.statement}
 use Rattle.execution.proofs.order.drills.Tie as tie
 
 returns : tie.Need-returns

@@ -1,8 +1,7 @@
 -- `execution::order::is_drilling` meets its contract. Assumes nothing.
+use Rattle.terms.proofs.Common.{needs}
 use Rattle.blocks.specs.Exec.{drills}
-use Rattle.execution.proofs.Small.{no-cycle}
-use borrow.Author.Needs.{needs}
-use Rattle.execution.proofs.order.is_drilling.Statement.{statement}
+use Rattle.execution.proofs.{Small.no-cycle, order.is_drilling.Statement.statement}
 use Rattle.execution.proofs.order.is_drilling.Tie as tie
 
 returns : tie.Need-returns

@@ -1,9 +1,7 @@
 -- `execution::order::is_g17` meets its contract. Assumes nothing.
-use mathlib.Core.Path.{sym}
+use Rattle.terms.proofs.Common.{sym, needs}
 use Rattle.blocks.specs.Exec.{isG17}
-use Rattle.execution.proofs.Small.{not-g17}
-use borrow.Author.Needs.{needs}
-use Rattle.execution.proofs.order.is_g17.Statement.{statement}
+use Rattle.execution.proofs.{Small.not-g17, order.is_g17.Statement.statement}
 use Rattle.execution.proofs.order.is_g17.Tie as tie
 
 returns : tie.Need-returns

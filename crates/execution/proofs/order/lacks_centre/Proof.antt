@@ -1,9 +1,7 @@
 -- `execution::order::lacks_centre` meets its contract. Assumes nothing.
-use mathlib.Core.Path.{sym}
+use Rattle.terms.proofs.Common.{sym, needs}
 use Rattle.blocks.specs.Exec.{lacksCentre}
-use Rattle.execution.proofs.Small.{no-centre}
-use borrow.Author.Needs.{needs}
-use Rattle.execution.proofs.order.lacks_centre.Statement.{statement}
+use Rattle.execution.proofs.{Small.no-centre, order.lacks_centre.Statement.statement}
 use Rattle.execution.proofs.order.lacks_centre.Tie as tie
 
 returns : tie.Need-returns

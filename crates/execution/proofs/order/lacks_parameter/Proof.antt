@@ -1,6 +1,6 @@
 -- `execution::order::lacks_parameter` meets its contract. Assumes nothing.
+use Rattle.terms.proofs.Common.{needs}
 use Rattle.blocks.specs.Exec.{lacksParameter}
-use borrow.Author.Needs.{needs}
 use Rattle.execution.proofs.order.lacks_parameter.Statement.{statement}
 use Rattle.execution.proofs.order.lacks_parameter.Tie as tie
 

@@ -1,14 +1,6 @@
 -- `files::messages::number_of` meets its contract: what is not below 0 is a number without a sign. Assumes nothing.
-use borrow.Author.Needs.{needs}
-use native.Mathlib.Omega.{arith}
-use mathlib.Core.Path.{_≡_}
-use mathlib.Core.Bool.{false, true≢false}
-use lib.Dec.{T}
-use lib.IntN.{ℤ, pos, negsuc, natAbs}
-use lib.Signed.{nonNeg, ltZ}
-use mir.Syntax.{w32, w64}
-use mir.Val.{Fits, SFits}
-use mir.Facts.{toZ-ofZ}
+use Rattle.terms.proofs.Common.{needs, arith, _≡_, false, true≢false, T, ℤ, pos, negsuc, natAbs, nonNeg, ltZ}
+use mir.{Syntax.w32, Syntax.w64, Val.Fits, Val.SFits, Facts.toZ-ofZ}
 use Rattle.files.proofs.messages.number_of.Statement.{statement}
 use Rattle.files.proofs.messages.number_of.Tie as tie
 

@@ -1,9 +1,5 @@
 -- `files::messages::put_shown` meets its contract: no byte is written past the buffer. Assumes nothing.
-use borrow.Author.Needs.{needs}
-use Prim.Native.Nat.{_≤_, _-_}
-use mathlib.Core.Path.{_≡_}
-use native.Mathlib.Omega.{arith}
-use lib.ListN.{length, length-set}
+use Rattle.terms.proofs.Common.{needs, _≤_, _-_, _≡_, arith, length, length-set}
 use Rattle.io.proofs.Counting.{counts}
 use Rattle.files.proofs.messages.put_shown.Statement.{statement}
 use Rattle.files.proofs.messages.put_shown.Tie as tie

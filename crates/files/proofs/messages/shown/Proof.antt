@@ -1,5 +1,5 @@
 -- `files::messages::shown` meets its contract. Assumes nothing.
-use borrow.Author.Tests.{eq-eqb, ne-eqb, lt-ltb, le-ltb}
+use Rattle.terms.proofs.Common.{eq-eqb, ne-eqb, lt-ltb, le-ltb}
 use Rattle.files.proofs.messages.shown.Statement.{statement}
 use Rattle.files.proofs.messages.shown.Tie as tie
 

@@ -1,12 +1,6 @@
 -- `files::messages::write_line` meets its contract: each line begins and ends within the text. Assumes nothing.
-use Prim.Native.Nat.{ℕ, _+_, _≤_}
-use mathlib.Core.Path.{_≡_}
-use mathlib.Core.List.{List}
-use native.Mathlib.Omega.{arith}
-use borrow.Author.Needs.{needs}
-use lib.ListN.{length, drop, length-drop}
-use Rattle.lines.specs.Blocks.{lengthFrom}
-use Rattle.lines.proofs.Lines.{length-bound}
+use Rattle.terms.proofs.Common.{ℕ, _+_, _≤_, _≡_, List, arith, needs, length, drop, length-drop}
+use Rattle.lines.{specs.Blocks.lengthFrom, proofs.Lines.length-bound}
 use Rattle.files.proofs.messages.write_line.Statement.{statement}
 use Rattle.files.proofs.messages.write_line.Tie as tie
 

@@ -1,9 +1,6 @@
 -- `files::names::fate_of` meets its contract, test by test. Assumes nothing.
-use mathlib.Core.Path.{sym, ap₂, _∙_}
-use mathlib.Core.Bool.{_||_}
-use borrow.Author.Needs.{needs}
-use Rattle.files.proofs.Fates.{is-read, is-link, is-there, is-new, is-unknown}
-use Rattle.files.proofs.names.fate_of.Statement.{statement}
+use Rattle.terms.proofs.Common.{sym, ap₂, _∙_, _||_, needs}
+use Rattle.files.proofs.{Fates.is-read, Fates.is-link, Fates.is-there, Fates.is-new, Fates.is-unknown, names.fate_of.Statement.statement}
 use Rattle.files.proofs.names.fate_of.Tie as tie
 
 returns : tie.Need-returns

@@ -1,7 +1,5 @@
 -- `files::names::kind_fate` meets its contract. Assumes nothing.
-use borrow.Author.Needs.{needs}
-use Rattle.files.proofs.Fates.{kind-locked, kind-old, kind-folder, kind-special}
-use Rattle.files.proofs.names.kind_fate.Statement.{statement}
+use Rattle.files.proofs.{Fates.kind-locked, Fates.kind-old, Fates.kind-folder, Fates.kind-special, names.kind_fate.Statement.statement}
 use Rattle.files.proofs.names.kind_fate.Tie as tie
 
 returns : tie.Need-returns

@@ -1,6 +1,5 @@
 -- `files::names::same_file` meets its contract. Assumes nothing.
-use borrow.Author.Needs.{needs}
-use mathlib.Core.Path.{refl}
+use Rattle.terms.proofs.Common.{refl}
 use Rattle.files.specs.Names.{sameFile}
 use Rattle.files.proofs.names.same_file.Statement.{statement}
 use Rattle.files.proofs.names.same_file.Tie as tie

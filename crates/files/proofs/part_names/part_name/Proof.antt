@@ -1,8 +1,6 @@
 -- `files::part_names::part_name` meets its contract: the ending fits after a path that is short enough. Assumes nothing.
-use borrow.Author.Needs.{needs}
-use native.Mathlib.Omega.{arith}
-use Rattle.files.proofs.Naming.{no-room, named}
-use Rattle.files.proofs.part_names.part_name.Statement.{statement}
+use Rattle.terms.proofs.Common.{needs, arith}
+use Rattle.files.proofs.{Naming.no-room, Naming.named, part_names.part_name.Statement.statement}
 use Rattle.files.proofs.part_names.part_name.Tie as tie
 
 returns : tie.Need-returns

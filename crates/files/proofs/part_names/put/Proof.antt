@@ -1,12 +1,6 @@
 -- `files::part_names::put` meets its contract: each turn copies one byte more. Assumes nothing.
-use borrow.Author.Needs.{needs}
-use Prim.Native.Nat.{ℕ, _≤_, _-_}
-use mathlib.Core.Path.{_≡_, ap, _∙_}
-use native.Mathlib.Omega.{arith}
-use lib.ListN.{length}
-use lib.Seq.{paste, paste-zero}
-use Rattle.files.proofs.Naming.{copied-more}
-use Rattle.files.proofs.part_names.put.Statement.{statement}
+use Rattle.terms.proofs.Common.{needs, ℕ, _≤_, _-_, _≡_, ap, _∙_, arith, length, paste, paste-zero}
+use Rattle.files.proofs.{Naming.copied-more, part_names.put.Statement.statement}
 use Rattle.files.proofs.part_names.put.Tie as tie
 
 abbrev Inv-loop : tie.InvT-loop

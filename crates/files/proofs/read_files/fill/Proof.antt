@@ -1,9 +1,5 @@
 -- `files::read_files::fill` meets its contract: each read but the last brings the place on, and none past the end. Assumes nothing.
-use borrow.Author.Needs.{needs}
-use Prim.Native.Nat.{_≤_, _-_}
-use mathlib.Core.Path.{_≡_}
-use native.Mathlib.Omega.{arith}
-use lib.ListN.{length}
+use Rattle.terms.proofs.Common.{needs, _≤_, _-_, _≡_, arith, length}
 use Rattle.io.proofs.Counting.{counts}
 use Rattle.files.proofs.read_files.fill.Statement.{statement}
 use Rattle.files.proofs.read_files.fill.Tie as tie

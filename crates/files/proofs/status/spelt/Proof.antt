@@ -1,8 +1,6 @@
 -- `files::status::spelt` meets its contract. Assumes nothing.
-use borrow.Author.Needs.{needs}
-use mathlib.Core.Path.{sym}
-use Rattle.files.proofs.Spelling.{spelt}
-use Rattle.files.proofs.status.spelt.Statement.{statement}
+use Rattle.terms.proofs.Common.{needs, sym}
+use Rattle.files.proofs.{Spelling.spelt, status.spelt.Statement.statement}
 use Rattle.files.proofs.status.spelt.Tie as tie
 
 returns : tie.Need-returns

@@ -1,12 +1,8 @@
 -- `interpreter::reporting::answer_by` meets its contract, ending by ending. Assumes nothing.
-use Prim.Native.Nat.{ℕ}
-use mathlib.Core.Path.{_≡_, sym, ap}
-use borrow.Author.Needs.{needs}
+use Rattle.terms.proofs.Common.{ℕ, _≡_, sym, ap, needs}
 use Rattle.refusals.specs.declared.Place.{Place}
-use Rattle.runs.specs.Walk.{Going}
-use Rattle.runs.specs.Run.{answerBy}
-use Rattle.interpreter.specs.Progressing.{howBy}
-use Rattle.interpreter.specs.declared.How.{How}
+use Rattle.runs.specs.{Walk.Going, Run.answerBy}
+use Rattle.interpreter.specs.{Progressing.howBy, declared.How.How}
 use Rattle.interpreter.proofs.reporting.answer_by.Statement.{statement}
 use Rattle.interpreter.proofs.reporting.answer_by.Tie as tie
 

@@ -1,6 +1,5 @@
 -- `interpreter::reporting::first_state` meets its contract. Assumes nothing.
-use mathlib.Core.Path.{_∙_}
-use borrow.Author.Needs.{needs}
+use Rattle.terms.proofs.Common.{_∙_, needs}
 use Rattle.runs.specs.Run.{firstOf}
 use Rattle.interpreter.proofs.reporting.first_state.Statement.{statement}
 use Rattle.interpreter.proofs.reporting.first_state.Tie as tie

@@ -1,16 +1,12 @@
 -- `interpreter::reporting::next_by` meets its contract, ending by ending. Assumes nothing.
-use mathlib.Core.Path.{_≡_, refl, sym, ap}
-use mathlib.Core.List.{[], _∷_}
+use Rattle.terms.proofs.Common.{_≡_, refl, sym, ap, [], _∷_, needs}
 use denote.Enum.Declared.{tagOf}
 use types.Run.{OneOf, miss}
-use borrow.Author.Needs.{needs}
 use Rattle.refusals.specs.declared.Place.{Place}
 use Rattle.runs.specs.Walk.{nowhere}
-use Rattle.interpreter.specs.Progressing.{nextBy}
-use Rattle.interpreter.specs.declared.How.{How}
+use Rattle.interpreter.specs.{Progressing.nextBy, declared.How.How}
 use Rattle.interpreter.specs.declared.How.the-variants.{Ended, Returned, Unfinished, Refused}
-use Rattle.interpreter.proofs.How.{the-type}
-use Rattle.interpreter.proofs.reporting.next_by.Statement.{statement}
+use Rattle.interpreter.proofs.{How.the-type, reporting.next_by.Statement.statement}
 use Rattle.interpreter.proofs.reporting.next_by.Tie as tie
 
 no-next : (how : How) (place : Place) → OneOf (0 ∷ 1 ∷ 3 ∷ []) (tagOf the-type how) → nowhere ≡ nextBy how place

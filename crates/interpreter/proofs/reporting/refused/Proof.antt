@@ -1,7 +1,6 @@
 -- `interpreter::reporting::refused` meets its contract. Assumes nothing.
-use borrow.Author.Needs.{needs}
-use Rattle.interpreter.proofs.Starting.{stands-at-start}
-use Rattle.interpreter.proofs.reporting.refused.Statement.{statement}
+use Rattle.terms.proofs.Common.{needs}
+use Rattle.interpreter.proofs.{Starting.stands-at-start, reporting.refused.Statement.statement}
 use Rattle.interpreter.proofs.reporting.refused.Tie as tie
 
 returns : tie.Need-returns

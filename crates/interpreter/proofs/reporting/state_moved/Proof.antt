@@ -1,5 +1,5 @@
 -- `interpreter::reporting::state_moved` meets its contract. Assumes nothing.
-use borrow.Author.Needs.{needs}
+use Rattle.terms.proofs.Common.{needs}
 use Rattle.settings.specs.Settings.{stateMoved}
 use Rattle.interpreter.proofs.reporting.state_moved.Statement.{statement}
 use Rattle.interpreter.proofs.reporting.state_moved.Tie as tie

@@ -1,6 +1,5 @@
 -- `interpreter::stepping::is_spent` meets its contract, budget by budget. Assumes nothing.
-use mathlib.Core.Path.{sym, ap}
-use borrow.Author.Needs.{needs}
+use Rattle.terms.proofs.Common.{sym, ap, needs}
 use Rattle.runs.specs.Walk.{isSpent}
 use Rattle.interpreter.proofs.stepping.is_spent.Statement.{statement}
 use Rattle.interpreter.proofs.stepping.is_spent.Tie as tie

@@ -1,8 +1,5 @@
 -- `interpreter::stepping::one_less` meets its contract, budget by budget. Assumes nothing.
-use mathlib.Core.Path.{sym, ap, _∙_}
-use native.Mathlib.Omega.{arith}
-use borrow.Author.Needs.{needs}
-use borrow.Author.Tests.{eqb-false}
+use Rattle.terms.proofs.Common.{sym, ap, _∙_, arith, needs, eqb-false}
 use Rattle.runs.specs.Walk.{isSpent, oneLess}
 use Rattle.interpreter.proofs.stepping.one_less.Statement.{statement}
 use Rattle.interpreter.proofs.stepping.one_less.Tie as tie

@@ -1,9 +1,6 @@
 -- `interpreter::stepping::program_ends` meets its contract. Assumes nothing.
-use mathlib.Core.Path.{sym, _∙_}
-use native.Mathlib.Omega.{arith}
-use borrow.Author.Needs.{needs}
-use Rattle.interpreter.proofs.Walking.{ends-past, ends-opening, ends-percent}
-use Rattle.interpreter.proofs.stepping.program_ends.Statement.{statement}
+use Rattle.terms.proofs.Common.{sym, _∙_, arith, needs}
+use Rattle.interpreter.proofs.{Walking.ends-past, Walking.ends-opening, Walking.ends-percent, stepping.program_ends.Statement.statement}
 use Rattle.interpreter.proofs.stepping.program_ends.Tie as tie
 
 returns : tie.Need-returns

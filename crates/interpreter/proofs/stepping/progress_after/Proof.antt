@@ -1,5 +1,5 @@
 -- `interpreter::stepping::progress_after` meets its contract. Assumes nothing.
-use borrow.Author.Needs.{needs}
+use Rattle.terms.proofs.Common.{needs}
 use Rattle.interpreter.specs.Progressing.{progressBy}
 use Rattle.interpreter.proofs.stepping.progress_after.Statement.{statement}
 use Rattle.interpreter.proofs.stepping.progress_after.Tie as tie

@@ -1,43 +1,19 @@
 -- `interpreter::walk::run_program` meets its contract: a program's walk calls itself for a subprogram's, with the levels left as the
 -- measure, and goes from call to call by a loop. Assumes nothing.
-use Prim.Native.Nat.{ℕ, _-_, _<_}
-use mathlib.Core.Path.{_≡_, sym, _∙_, subst}
-use mathlib.Core.List.{[], _∷_}
-use native.Mathlib.Omega.{arith}
-use lib.ListN.{length}
+use Rattle.terms.proofs.Common.{ℕ, _-_, _<_, _≡_, sym, _∙_, subst, [], _∷_, arith, length, needs}
 use denote.Enum.Declared.{tagOf}
 use types.Run.{OneOf, miss}
-use borrow.Author.Needs.{needs}
-use borrow.Fn.Kinds.{In}
-use borrow.Fn.PlainCycle.{Measures, is, falls, and}
-use Rattle.programs.specs.Openings.{known}
-use Rattle.programs.specs.Found.{subsOf}
-use Rattle.interpreter.specs.Progressing.{walkFrom, calleeBy, Goes}
-use Rattle.interpreter.specs.declared.How.{How}
-use Rattle.interpreter.specs.declared.How.the-variants.{Returned}
-use Rattle.interpreter.specs.declared.Turn.{Turn}
+use borrow.Fn.{Kinds.In, PlainCycle.Measures, PlainCycle.is, PlainCycle.falls, PlainCycle.and}
+use Rattle.programs.specs.{Openings.known, Found.subsOf}
+use Rattle.interpreter.specs.{Progressing.walkFrom, Progressing.calleeBy, Progressing.Goes, declared.How.How, declared.How.the-variants.Returned, declared.Turn.Turn}
+use Rattle.interpreter.proofs.{How.the-type, Endings.ran-length, Rounds.Walking, Rounds.walking-starts, walk.+run_program.statement, walk.+run_program.Tie.close}
+use Rattle.interpreter.proofs.Calling.{Comes, caller-kept, caller-less, call-refused, call-level, call-placed, call-kept, walking-stops, walking-back}
 use Rattle.interpreter.specs.declared.Callee.the-variants as Callee
-use Rattle.interpreter.proofs.How.{the-type}
-use Rattle.interpreter.proofs.Endings.{ran-length}
-use Rattle.interpreter.proofs.Rounds.{Walking, walking-starts}
-use Rattle.interpreter.proofs.Calling.{
-  Comes,
-  caller-kept,
-  caller-less,
-  call-refused,
-  call-level,
-  call-placed,
-  call-kept,
-  walking-stops,
-  walking-back,
-}
 use Rattle.interpreter.proofs.walk.run_program.Reads as run-program
 use Rattle.interpreter.proofs.walk.run_program.Kinds as run-program-kinds
 use Rattle.interpreter.proofs.walk.+run_program.Lts-run_program as run-program-lts
 use Rattle.interpreter.proofs.walk.find_callee.Reads as find-callee-reads
 use Rattle.interpreter.proofs.walk.run_leg.Reads as run-leg-reads
-use Rattle.interpreter.proofs.walk.+run_program.{statement}
-use Rattle.interpreter.proofs.walk.+run_program.Tie.{close}
 
 -- the levels left
 abbrev μ-run-program : Measures 2 run-program-kinds.ps ℕ

@@ -1,11 +1,7 @@
 -- `interpreter::walk::do_block` meets its contract. Assumes nothing.
-use mathlib.Core.Path.{sym, _∙_}
-use mathlib.Core.Logic.{⊎-elim}
-use native.Mathlib.Omega.{arith}
-use borrow.Author.Needs.{needs}
+use Rattle.terms.proofs.Common.{sym, _∙_, ⊎-elim, arith, needs}
 use Rattle.terms.proofs.Laws.{both-left, both-right}
-use Rattle.interpreter.proofs.Acting.{does-plain, does-slashed, does-skipped}
-use Rattle.interpreter.proofs.walk.do_block.Statement.{statement}
+use Rattle.interpreter.proofs.{Acting.does-plain, Acting.does-slashed, Acting.does-skipped, walk.do_block.Statement.statement}
 use Rattle.interpreter.proofs.walk.do_block.Tie as tie
 
 returns : tie.Need-returns

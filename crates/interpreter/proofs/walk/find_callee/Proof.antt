@@ -1,9 +1,7 @@
 -- `interpreter::walk::find_callee` meets its contract. Assumes nothing.
-use borrow.Author.Needs.{needs}
-use Rattle.programs.specs.Openings.{known}
-use Rattle.programs.specs.Found.{subsOf}
-use Rattle.interpreter.proofs.Calling.{callee-unknown, callee-deep, callee-found}
-use Rattle.interpreter.proofs.walk.find_callee.Statement.{statement}
+use Rattle.terms.proofs.Common.{needs}
+use Rattle.programs.specs.{Openings.known, Found.subsOf}
+use Rattle.interpreter.proofs.{Calling.callee-unknown, Calling.callee-deep, Calling.callee-found, walk.find_callee.Statement.statement}
 use Rattle.interpreter.proofs.walk.find_callee.Tie as tie
 
 returns : tie.Need-returns

@@ -1,31 +1,10 @@
 -- `interpreter::walk::run_leg` meets its contract: from block to block by a loop, for every table of programs. Assumes nothing.
-use Prim.Native.Nat.{_-_, _≤_}
-use mathlib.Core.Path.{_≡_, refl, sym, _∙_}
-use mathlib.Core.Bool.{false}
-use native.Mathlib.Omega.{arith}
-use borrow.Author.Needs.{needs}
-use lib.ListN.{length, drop}
+use Rattle.terms.proofs.Common.{_-_, _≤_, _≡_, refl, sym, _∙_, false, arith, needs, length, drop}
 use Rattle.programs.specs.declared.Programs.{Programs}
 use Rattle.runs.specs.Walk.{isSpent}
 use Rattle.interpreter.specs.Progressing.{taskOn, walkFrom, programEnds, progressBy}
-use Rattle.interpreter.proofs.Walking.{goes-inside}
-use Rattle.interpreter.proofs.Rounds.{
-  Walking,
-  Meets,
-  noPrograms,
-  walking-starts,
-  walking-spent,
-  walking-ends,
-  did-kept,
-  did-refused,
-  did-fits,
-  did-less,
-  did-back,
-  did-stop,
-  did-on,
-  did-call,
-}
-use Rattle.interpreter.proofs.walk.run_leg.Statement.{statement}
+use Rattle.interpreter.proofs.{Walking.goes-inside, walk.run_leg.Statement.statement}
+use Rattle.interpreter.proofs.Rounds.{Walking, Meets, noPrograms, walking-starts, walking-spent, walking-ends, did-kept, did-refused, did-fits, did-less, did-back, did-stop, did-on, did-call}
 use Rattle.interpreter.proofs.walk.run_leg.Tie as tie
 
 abbrev Inv : tie.InvT-loop

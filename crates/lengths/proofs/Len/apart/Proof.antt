@@ -1,9 +1,6 @@
 -- `lengths::Len::apart` meets its contract: the distance of two keys is that of the numbers. Assumes nothing.
-use native.Mathlib.Omega.{arith}
-use borrow.Author.Needs.{needs}
-use lib.IntN.{_-ℤ_}
-use Rattle.lengths.proofs.Laws.{abs-sum, diff-bal}
-use Rattle.lengths.proofs.Len.apart.Statement.{statement}
+use Rattle.terms.proofs.Common.{arith, needs, _-ℤ_}
+use Rattle.lengths.proofs.{Laws.abs-sum, Laws.diff-bal, Len.apart.Statement.statement}
 use Rattle.lengths.proofs.Len.apart.Tie as tie
 
 returns : tie.Need-returns

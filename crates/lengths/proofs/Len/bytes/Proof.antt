@@ -1,9 +1,7 @@
 -- `lengths::Len::bytes` meets its contract: the key ends in the word of the number. Assumes nothing.
-use mathlib.Core.Path.{ap}
-use borrow.Author.Needs.{needs}
+use Rattle.terms.proofs.Common.{ap, needs}
 use Rattle.lengths.specs.Units.{fourOf}
-use Rattle.lengths.proofs.Four.{word-key}
-use Rattle.lengths.proofs.Len.bytes.Statement.{statement}
+use Rattle.lengths.proofs.{Four.word-key, Len.bytes.Statement.statement}
 use Rattle.lengths.proofs.Len.bytes.Tie as tie
 
 returns : tie.Need-returns

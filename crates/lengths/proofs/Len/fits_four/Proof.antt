@@ -1,10 +1,7 @@
 -- `lengths::Len::fits_four` meets its contract: the two tests are the definition's one. Assumes nothing.
-use borrow.Author.Needs.{needs}
-use mir.Syntax.{w64}
-use mir.Val.{SFits}
-use mir.Facts.{toZ-ofZ}
-use Rattle.lengths.proofs.Four.{four-between}
-use Rattle.lengths.proofs.Len.fits_four.Statement.{statement}
+use Rattle.terms.proofs.Common.{needs}
+use mir.{Syntax.w64, Val.SFits, Facts.toZ-ofZ}
+use Rattle.lengths.proofs.{Four.four-between, Len.fits_four.Statement.statement}
 use Rattle.lengths.proofs.Len.fits_four.Tie as tie
 
 returns : tie.Need-returns

@@ -1,10 +1,7 @@
 -- `lengths::Len::halved` meets its contract: half of the key, less half of 2 ^ 63. Assumes nothing.
-use native.Mathlib.Omega.{arith}
-use borrow.Author.Needs.{needs}
-use Prim.Native.Nat.{_^_}
+use Rattle.terms.proofs.Common.{arith, needs}
 use Rattle.lengths.specs.Units.{len, halved}
-use Rattle.lengths.proofs.Laws.{view-len, halved-over, halved-under}
-use Rattle.lengths.proofs.Len.halved.Statement.{statement}
+use Rattle.lengths.proofs.{Laws.view-len, Laws.halved-over, Laws.halved-under, Len.halved.Statement.statement}
 use Rattle.lengths.proofs.Len.halved.Tie as tie
 
 returns : tie.Need-returns

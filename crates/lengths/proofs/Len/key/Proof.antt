@@ -1,18 +1,9 @@
 -- `lengths::Len::key` meets its contract. Below 0 the least number is taken away first, so that both casts are of numbers that are not
 -- below 0. Assumes nothing.
-use Prim.Native.Nat.{_≤_}
-use mathlib.Core.Path.{_≡_}
-use mathlib.Core.Bool.{true}
-use native.Mathlib.Omega.{arith}
-use borrow.Author.Needs.{needs}
-use lib.IntN.{ℤ, pos, negsuc, _-ℤ_}
-use lib.Signed.{ltZ}
-use mir.Syntax.{w64}
-use mir.Val.{SFits}
-use mir.Facts.{toZ-ofZ}
+use Rattle.terms.proofs.Common.{_≤_, _≡_, true, arith, needs, ℤ, pos, negsuc, _-ℤ_, ltZ}
+use mir.{Syntax.w64, Val.SFits, Facts.toZ-ofZ}
 use Rattle.lengths.specs.View.{over, under}
-use Rattle.lengths.proofs.Laws.{view, room-fits, fits-room, diff-bal, cast-asks, cast-gives}
-use Rattle.lengths.proofs.Len.key.Statement.{statement}
+use Rattle.lengths.proofs.{Laws.view, Laws.room-fits, Laws.fits-room, Laws.diff-bal, Laws.cast-asks, Laws.cast-gives, Len.key.Statement.statement}
 use Rattle.lengths.proofs.Len.key.Tie as tie
 
 abbrev least : ℤ

@@ -1,16 +1,8 @@
 -- `lengths::Len::minus` meets its contract: the difference has room, so the machine's difference is the difference. Assumes nothing.
-use native.Mathlib.Omega.{arith}
-use borrow.Author.Needs.{needs}
-use Prim.Native.Nat.{_+_}
-use mathlib.Core.Path.{ap}
-use lib.IntN.{ℤ, _-ℤ_}
-use mir.Syntax.{w64}
-use mir.Val.{SFits}
-use Rattle.lengths.specs.Units.{len}
-use Rattle.lengths.specs.View.{over, under}
-use Rattle.lengths.specs.Serving.{Room}
-use Rattle.lengths.proofs.Laws.{room-fits, diff-bal, asks, gives}
-use Rattle.lengths.proofs.Len.minus.Statement.{statement}
+use Rattle.terms.proofs.Common.{arith, needs, _+_, ap, ℤ, _-ℤ_}
+use mir.{Syntax.w64, Val.SFits}
+use Rattle.lengths.specs.{Units.len, View.over, View.under, Serving.Room}
+use Rattle.lengths.proofs.{Laws.room-fits, Laws.diff-bal, Laws.asks, Laws.gives, Len.minus.Statement.statement}
 use Rattle.lengths.proofs.Len.minus.Tie as tie
 
 room : (a b : ℤ) → Room (over a + under b) (under a + over b) → SFits w64 (a -ℤ b)

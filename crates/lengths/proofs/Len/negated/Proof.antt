@@ -1,13 +1,7 @@
 -- `lengths::Len::negated` meets its contract: the machine takes the number from 0. Assumes nothing.
-use native.Mathlib.Omega.{arith}
-use borrow.Author.Needs.{needs}
-use mathlib.Core.Path.{refl}
-use lib.IntN.{pos, negℤ, _-ℤ_, +ℤ-idl}
-use mir.Syntax.{w64}
-use mir.Val.{SFits}
-use mir.Facts.{toZ-ofZ}
-use Rattle.lengths.proofs.Laws.{room-fits, fits-room, diff-bal, neg-over, neg-under}
-use Rattle.lengths.proofs.Len.negated.Statement.{statement}
+use Rattle.terms.proofs.Common.{arith, needs, refl, pos, negℤ, _-ℤ_, +ℤ-idl}
+use mir.{Syntax.w64, Val.SFits, Facts.toZ-ofZ}
+use Rattle.lengths.proofs.{Laws.room-fits, Laws.fits-room, Laws.diff-bal, Laws.neg-over, Laws.neg-under, Len.negated.Statement.statement}
 use Rattle.lengths.proofs.Len.negated.Tie as tie
 
 sub-t2 : tie.Need-sub-t2

@@ -1,15 +1,9 @@
 -- `lengths::Len::of_bytes` meets its contract: the sum of the bytes is a word of 32 bits, and the machine reads it as the definition
 -- does. Assumes nothing.
-use native.Mathlib.Omega.{arith}
-use borrow.Author.Needs.{needs}
-use lib.IntN.{pos, _-ℤ_}
-use mir.Syntax.{w64}
-use mir.Facts.{toZ-ofZ}
-use mir.ValLaws.{toZ-pos}
+use Rattle.terms.proofs.Common.{arith, needs, pos, _-ℤ_}
+use mir.{Syntax.w64, Facts.toZ-ofZ, ValLaws.toZ-pos}
 use Rattle.lengths.specs.Units.{ofFour}
-use Rattle.lengths.proofs.Laws.{room-fits, diff-bal}
-use Rattle.lengths.proofs.Four.{word, of-low, of-high, four-read}
-use Rattle.lengths.proofs.Len.of_bytes.Statement.{statement}
+use Rattle.lengths.proofs.{Laws.room-fits, Laws.diff-bal, Four.word, Four.of-low, Four.of-high, Four.four-read, Len.of_bytes.Statement.statement}
 use Rattle.lengths.proofs.Len.of_bytes.Tie as tie
 
 sub-t19 : tie.Need-sub-t19

@@ -1,8 +1,6 @@
 -- `lengths::Len::of_count` meets its contract: below 2 ^ 63 a count's bits are the number. Assumes nothing.
-use borrow.Author.Needs.{needs}
-use mathlib.Core.Path.{refl}
-use mir.Syntax.{w64}
-use mir.ValLaws.{toZ-pos}
+use Rattle.terms.proofs.Common.{needs, refl}
+use mir.{Syntax.w64, ValLaws.toZ-pos}
 use Rattle.lengths.proofs.Len.of_count.Statement.{statement}
 use Rattle.lengths.proofs.Len.of_count.Tie as tie
 

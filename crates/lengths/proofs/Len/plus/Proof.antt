@@ -1,16 +1,8 @@
 -- `lengths::Len::plus` meets its contract: the sum has room, so the machine's sum is the sum. Assumes nothing.
-use native.Mathlib.Omega.{arith}
-use borrow.Author.Needs.{needs}
-use Prim.Native.Nat.{_+_}
-use mathlib.Core.Path.{ap}
-use lib.IntN.{ℤ, _+ℤ_}
-use mir.Syntax.{w64}
-use mir.Val.{SFits}
-use Rattle.lengths.specs.Units.{len}
-use Rattle.lengths.specs.View.{over, under}
-use Rattle.lengths.specs.Serving.{Room}
-use Rattle.lengths.proofs.Laws.{room-fits, sum-bal, asks, gives}
-use Rattle.lengths.proofs.Len.plus.Statement.{statement}
+use Rattle.terms.proofs.Common.{arith, needs, _+_, ap, ℤ, _+ℤ_}
+use mir.{Syntax.w64, Val.SFits}
+use Rattle.lengths.specs.{Units.len, View.over, View.under, Serving.Room}
+use Rattle.lengths.proofs.{Laws.room-fits, Laws.sum-bal, Laws.asks, Laws.gives, Len.plus.Statement.statement}
 use Rattle.lengths.proofs.Len.plus.Tie as tie
 
 room : (a b : ℤ) → Room (over a + over b) (under a + under b) → SFits w64 (a +ℤ b)

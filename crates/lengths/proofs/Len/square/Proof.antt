@@ -1,12 +1,6 @@
 -- `lengths::Len::square` meets its contract: the distance from 0 is at most 2 ^ 32 − 1, so its square fits. Assumes nothing.
-use Prim.Native.Nat.{_≤_}
-use mathlib.Core.Path.{_≡_}
-use native.Mathlib.Nat.{mul-le-mul}
-use native.Mathlib.Omega.{arith}
-use borrow.Author.Needs.{needs}
-use lib.IntN.{natAbs}
-use Rattle.lengths.proofs.Laws.{abs-sum}
-use Rattle.lengths.proofs.Len.square.Statement.{statement}
+use Rattle.terms.proofs.Common.{_≤_, _≡_, mul-le-mul, arith, needs, natAbs}
+use Rattle.lengths.proofs.{Laws.abs-sum, Len.square.Statement.statement}
 use Rattle.lengths.proofs.Len.square.Tie as tie
 
 mul-result : tie.Need-mul-result

@@ -1,14 +1,8 @@
 -- `lengths::Len::times` meets its contract: the product of two numbers of 31 bits has room. Assumes nothing.
-use native.Mathlib.Omega.{arith}
-use borrow.Author.Needs.{needs}
-use mathlib.Core.Path.{ap}
-use lib.IntN.{ℤ, _*ℤ_}
-use mir.Syntax.{w64}
-use mir.Val.{SFits}
-use Rattle.lengths.specs.Units.{len}
-use Rattle.lengths.specs.View.{Within}
-use Rattle.lengths.proofs.Laws.{room-fits, mul-near, asks, gives}
-use Rattle.lengths.proofs.Len.times.Statement.{statement}
+use Rattle.terms.proofs.Common.{arith, needs, ap, ℤ, _*ℤ_}
+use mir.{Syntax.w64, Val.SFits}
+use Rattle.lengths.specs.{Units.len, View.Within}
+use Rattle.lengths.proofs.{Laws.room-fits, Laws.mul-near, Laws.asks, Laws.gives, Len.times.Statement.statement}
 use Rattle.lengths.proofs.Len.times.Tie as tie
 
 room : (a b : ℤ) → (Within 2147483647 a) × (Within 2147483647 b) → SFits w64 (a *ℤ b)

@@ -1,5 +1,5 @@
 -- `lengths::points::at_height` meets its contract. Assumes nothing.
-use mathlib.Core.Path.{refl}
+use Rattle.terms.proofs.Common.{refl}
 use Rattle.lengths.specs.Points.{atHeight}
 use Rattle.lengths.proofs.points.at_height.Statement.{statement}
 use Rattle.lengths.proofs.points.at_height.Tie as tie

@@ -1,5 +1,5 @@
 -- `lengths::points::in_plane` meets its contract: an arm for each plane. Assumes nothing.
-use borrow.Author.Needs.{needs}
+use Rattle.terms.proofs.Common.{needs}
 use Rattle.lengths.specs.Points.{flat}
 use Rattle.lengths.proofs.points.in_plane.Statement.{statement}
 use Rattle.lengths.proofs.points.in_plane.Tie as tie

@@ -1,5 +1,5 @@
 -- `lengths::points::is_inside` meets its contract: its six tests are the definition's. Assumes nothing.
-use borrow.Author.Needs.{needs}
+use Rattle.terms.proofs.Common.{needs}
 use Rattle.lengths.specs.Points.{inside}
 use Rattle.lengths.proofs.points.is_inside.Statement.{statement}
 use Rattle.lengths.proofs.points.is_inside.Tie as tie

@@ -1,5 +1,5 @@
 -- `lengths::points::moved` meets its contract, axis by axis. Assumes nothing.
-use borrow.Author.Needs.{needs}
+use Rattle.terms.proofs.Common.{needs}
 use Rattle.lengths.specs.Points.{moved}
 use Rattle.lengths.proofs.points.moved.Statement.{statement}
 use Rattle.lengths.proofs.points.moved.Tie as tie

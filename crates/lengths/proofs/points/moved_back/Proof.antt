@@ -1,5 +1,5 @@
 -- `lengths::points::moved_back` meets its contract, axis by axis. Assumes nothing.
-use borrow.Author.Needs.{needs}
+use Rattle.terms.proofs.Common.{needs}
 use Rattle.lengths.specs.Points.{movedBack}
 use Rattle.lengths.proofs.points.moved_back.Statement.{statement}
 use Rattle.lengths.proofs.points.moved_back.Tie as tie

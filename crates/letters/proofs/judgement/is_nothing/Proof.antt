@@ -1,9 +1,7 @@
 -- `letters::judgement::is_nothing` meets its contract: only one use is none. Assumes nothing.
-use borrow.Author.Needs.{needs}
-use mathlib.Core.Path.{sym}
+use Rattle.terms.proofs.Common.{needs, sym}
 use Rattle.letters.specs.Letters.{isNothing}
-use Rattle.letters.proofs.Uses.{other-uses}
-use Rattle.letters.proofs.judgement.is_nothing.Statement.{statement}
+use Rattle.letters.proofs.{Uses.other-uses, judgement.is_nothing.Statement.statement}
 use Rattle.letters.proofs.judgement.is_nothing.Tie as tie
 
 pub is-nothing-spec : {M : Type 1} → statement M

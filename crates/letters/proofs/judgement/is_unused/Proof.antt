@@ -1,5 +1,5 @@
 -- `letters::judgement::is_unused` meets its contract. Assumes nothing.
-use borrow.Author.Needs.{needs}
+use Rattle.terms.proofs.Common.{needs}
 use Rattle.letters.proofs.judgement.is_unused.Statement.{statement}
 use Rattle.letters.proofs.judgement.is_unused.Tie as tie
 

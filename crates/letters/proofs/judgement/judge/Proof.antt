@@ -1,15 +1,8 @@
 -- `letters::judgement::judge` meets its contract. The invariant: what is left gives the judgement of all. Assumes nothing.
-use Prim.Native.Nat.{_-_}
-use mathlib.Core.Path.{_≡_, sym, _∙_}
-use native.Mathlib.Omega.{arith}
-use lib.ListN.{getD}
-use borrow.Author.Needs.{needs}
-use borrow.Author.Tests.{not-true, not-false}
-use Rattle.words.specs.Packed.{wordsIn}
-use Rattle.words.proofs.Packed.{word-at}
-use Rattle.letters.proofs.Judging.{judge-unused}
+use Rattle.terms.proofs.Common.{_-_, _≡_, sym, _∙_, arith, getD, needs, not-true, not-false}
+use Rattle.words.{specs.Packed.wordsIn, proofs.Packed.word-at}
+use Rattle.letters.proofs.{Judging.judge-unused, judgement.judge.Statement.statement}
 use Rattle.letters.proofs.Places.{soFar, KeptValues, kept-first, past-bad, past-bad-again, past-fit, ended-bad, ended-fine}
-use Rattle.letters.proofs.judgement.judge.Statement.{statement}
 use Rattle.letters.proofs.judgement.judge.Tie as tie
 
 abbrev Inv-loop : tie.InvT-loop

@@ -1,11 +1,8 @@
 -- `letters::judgement::value_place` meets its contract: the place of each letter, and every other. Assumes nothing.
-use mathlib.Core.Path.{refl}
-use native.Mathlib.Omega.{arith}
+use Rattle.terms.proofs.Common.{refl, arith}
 use Rattle.terms.specs.Terms.{byte}
-use Rattle.letters.specs.Letters.{withValue}
-use Rattle.letters.specs.Places.{valuesBy, IsPlace}
-use Rattle.letters.proofs.Places.{place-by, place-at, place-none}
-use Rattle.letters.proofs.judgement.value_place.Statement.{statement}
+use Rattle.letters.specs.{Letters.withValue, Places.valuesBy}
+use Rattle.letters.proofs.{Places.place-by, Places.place-at, Places.place-none, judgement.value_place.Statement.statement}
 use Rattle.letters.proofs.judgement.value_place.Tie as tie
 
 pub value-place-spec : {M : Type 1} → statement M

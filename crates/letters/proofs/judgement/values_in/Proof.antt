@@ -1,5 +1,5 @@
 -- `letters::judgement::values_in` meets its contract: each value is the one at its place. Assumes nothing.
-use borrow.Author.Needs.{needs}
+use Rattle.terms.proofs.Common.{needs}
 use Rattle.letters.specs.Places.{valuesBy}
 use Rattle.letters.proofs.judgement.values_in.Statement.{statement}
 use Rattle.letters.proofs.judgement.values_in.Tie as tie

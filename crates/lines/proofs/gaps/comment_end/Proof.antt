@@ -1,11 +1,6 @@
-use Prim.Native.Nat.{_-_, _≤_}
-use mathlib.Core.Path.{_≡_, refl, sym, _∙_}
-use native.Mathlib.Omega.{arith}
-use lib.ListN.{length, drop}
-use Rattle.lines.specs.Blocks.{textFrom}
-use Rattle.lines.specs.Closing.{commentAt}
-use Rattle.lines.proofs.Laws.{comment-end-of, comment-paren, comment-lf, comment-more}
-use Rattle.lines.proofs.gaps.comment_end.Statement.{statement}
+use Rattle.terms.proofs.Common.{_-_, _≤_, _≡_, refl, sym, _∙_, arith, length, drop}
+use Rattle.lines.specs.{Blocks.textFrom, Closing.commentAt}
+use Rattle.lines.proofs.{Laws.comment-end-of, Laws.comment-paren, Laws.comment-lf, Laws.comment-more, gaps.comment_end.Statement.statement}
 use Rattle.lines.proofs.gaps.comment_end.Tie as tie
 
 abbrev Inv-loop : tie.InvT-loop

@@ -1,14 +1,8 @@
-use Prim.Native.Nat.{_+_, _-_, _≤_}
-use mathlib.Core.Path.{_≡_, refl, sym, _∙_}
-use native.Mathlib.Omega.{arith}
-use borrow.Author.Needs.{needs}
-use lib.ListN.{length, drop, getD}
-use mathlib.Core.Bool.{true, false}
-use Rattle.lines.specs.Blocks.{noText, textFrom}
-use Rattle.lines.specs.Gaps.{onlyGaps}
-use Rattle.lines.proofs.Laws.{gaps-end, text-inside, gaps-at-blank, gaps-at-other, gaps-at-open, gaps-at-comment, comment-way, Way, blank-space, blank-tab, blank-not}
+use Rattle.terms.proofs.Common.{_+_, _-_, _≤_, _≡_, refl, sym, _∙_, arith, needs, length, drop, getD, true, false}
 use Rattle.words.specs.Words.{isBlank}
+use Rattle.lines.specs.{Blocks.noText, Blocks.textFrom, Gaps.onlyGaps}
 use Rattle.lines.proofs.gaps.only_gaps.Statement.{statement}
+use Rattle.lines.proofs.Laws.{gaps-end, text-inside, gaps-at-blank, gaps-at-other, gaps-at-open, gaps-at-comment, comment-way, Way, blank-space, blank-tab, blank-not}
 use Rattle.lines.proofs.gaps.only_gaps.Tie as tie
 
 abbrev Inv-loop : tie.InvT-loop

@@ -1,8 +1,6 @@
 -- `programs::openings::find` meets its contract: what is left of the table in use gives the same. Assumes nothing.
-use Prim.Native.Nat.{_-_, _≤_}
-use native.Mathlib.Omega.{arith}
-use Rattle.programs.proofs.Finding.{Hunt, hunt-start, hunt-done, hunt-found, hunt-past}
-use Rattle.programs.proofs.openings.find.Statement.{statement}
+use Rattle.terms.proofs.Common.{_-_, _≤_, arith}
+use Rattle.programs.proofs.{Finding.Hunt, Finding.hunt-start, Finding.hunt-done, Finding.hunt-found, Finding.hunt-past, openings.find.Statement.statement}
 use Rattle.programs.proofs.openings.find.Tie as tie
 
 abbrev Inv-loop : tie.InvT-loop

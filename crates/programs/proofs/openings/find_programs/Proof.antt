@@ -1,16 +1,8 @@
-use Prim.Native.Nat.{_<_}
-use mathlib.Core.Path.{_≡_, sym, _∙_}
-use mathlib.Core.Bool.{true}
-use lib.ListN.{length, drop, getD}
-use Rattle.lines.specs.Blocks.{beginsWith, textFrom}
-use native.Mathlib.Omega.{arith}
-use borrow.Author.Tests.{not-true, not-false}
-use Rattle.lines.proofs.Lines.{length-some}
+use Rattle.terms.proofs.Common.{_<_, _≡_, sym, _∙_, true, length, drop, getD, arith, not-true, not-false, needs}
+use Rattle.lines.{specs.Blocks.beginsWith, specs.Blocks.textFrom, proofs.Lines.length-some}
 use Rattle.programs.specs.Found.{tableBy}
-use Rattle.programs.proofs.Finding.{gives-as}
+use Rattle.programs.proofs.{Finding.gives-as, openings.find_programs.Statement.statement}
 use Rattle.programs.proofs.Scanning.{next-inside, opens-at, found-plain, found-bad, found-number}
-use borrow.Author.Needs.{needs}
-use Rattle.programs.proofs.openings.find_programs.Statement.{statement}
 use Rattle.programs.proofs.openings.find_programs.Tie as tie
 
 begins-with-requires : tie.Need-begins-with-requires

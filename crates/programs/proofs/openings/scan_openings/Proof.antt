@@ -1,15 +1,9 @@
 -- `programs::openings::scan_openings` meets its contract: what is left of the data gives the same. Assumes nothing.
-use Prim.Native.Nat.{_-_}
-use mathlib.Core.Path.{refl, sym, _∙_, ap}
-use native.Mathlib.Omega.{arith}
-use borrow.Author.Needs.{needs}
-use lib.ListN.{length}
+use Rattle.terms.proofs.Common.{_-_, sym, _∙_, ap, arith, needs, length}
 use Rattle.lines.proofs.Lines.{length-some}
+use Rattle.programs.specs.{Openings.entryOf, Found.subsOf, Found.tableBy}
+use Rattle.programs.proofs.{Entries.entry-room, openings.scan_openings.Statement.statement}
 use Rattle.programs.proofs.Scanning.{Scan, scan-start, stopped-end, stopped-percent, passed-plain, passed-opening, refused-opening}
-use Rattle.programs.proofs.Entries.{entry-room}
-use Rattle.programs.specs.Openings.{entryOf}
-use Rattle.programs.specs.Found.{subsOf, tableBy}
-use Rattle.programs.proofs.openings.scan_openings.Statement.{statement}
 use Rattle.programs.proofs.openings.scan_openings.Tie as tie
 
 abbrev Inv-loop : tie.InvT-loop

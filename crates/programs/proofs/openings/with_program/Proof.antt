@@ -1,6 +1,5 @@
-use Rattle.programs.proofs.Entries.{entered-is}
-use borrow.Author.Needs.{needs}
-use Rattle.programs.proofs.openings.with_program.Statement.{statement}
+use Rattle.terms.proofs.Common.{needs}
+use Rattle.programs.proofs.{Entries.entered-is, openings.with_program.Statement.statement}
 use Rattle.programs.proofs.openings.with_program.Tie as tie
 
 returns : tie.Need-returns

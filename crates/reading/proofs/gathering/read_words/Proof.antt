@@ -1,25 +1,9 @@
-use Prim.Native.Nat.{ℕ, _-_, _<_}
-use mathlib.Core.Path.{_≡_, refl, sym, _∙_, ap, subst}
-use mathlib.Core.Bool.{true, false}
-use native.Mathlib.Omega.{arith}
-use borrow.Author.Needs.{needs}
-use borrow.Author.Tests.{not-true, not-false}
-use lib.Dec.{lit<}
-use lib.ListN.{length, drop, getD}
-use Rattle.lines.specs.Blocks.{noText}
-use Rattle.words.specs.Words.{isCapital, withWord}
-use Rattle.words.specs.Serving.{Written}
-use Rattle.words.specs.Packed.{wordsIn}
-use Rattle.words.proofs.Packed.{words-length, word-put}
-use Rattle.reading.specs.Items.{wordsAt}
-use Rattle.reading.specs.Seen.{Plays}
-use Rattle.reading.specs.declared.Role.{Role}
-use Rattle.lines.proofs.Laws.{text-inside}
-use Rattle.reading.proofs.Items.{Gone, step-bad, step-gap, step-word}
-use Rattle.reading.proofs.Letters.{place-inside}
-use Rattle.reading.proofs.Seeing.{group-most}
+use Rattle.terms.proofs.Common.{ℕ, _-_, _<_, _≡_, sym, _∙_, ap, subst, true, false, arith, needs, not-true, not-false, lit<, length, drop, getD}
+use Rattle.lines.{specs.Blocks.noText, proofs.Laws.text-inside}
+use Rattle.words.{specs.Words.isCapital, specs.Words.withWord, specs.Serving.Written, specs.Packed.wordsIn, proofs.Packed.words-length, proofs.Packed.word-put}
+use Rattle.reading.specs.{Items.wordsAt, Seen.Plays, declared.Role.Role}
+use Rattle.reading.proofs.{Items.Gone, Items.step-bad, Items.step-gap, Items.step-word, Letters.place-inside, Seeing.group-most, gathering.read_words.Statement.statement}
 use Rattle.reading.proofs.Wording.{Sofar, Along, begins, goes-on, stops, halts, gap-along, word-halted, end-along, bad-along, letter-stood, over-code, over-misc, over-valued, room}
-use Rattle.reading.proofs.gathering.read_words.Statement.{statement}
 use Rattle.reading.proofs.gathering.read_words.Tie as tie
 
 abbrev Inv-loop : tie.InvT-loop

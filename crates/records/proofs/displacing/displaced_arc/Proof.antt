@@ -1,9 +1,6 @@
 -- `records::displacing::displaced_arc` meets its contract. Assumes nothing.
-use native.Mathlib.Omega.{arith}
-use borrow.Author.Needs.{needs}
-use Prim.Native.Nat.{_^_}
-use Rattle.lengths.specs.Near.{FlatNear}
-use Rattle.lengths.proofs.Near.{flat-near}
+use Rattle.terms.proofs.Common.{arith, needs, _^_}
+use Rattle.lengths.{specs.Near.FlatNear, proofs.Near.flat-near}
 use Rattle.records.specs.Path.{arcMoved}
 use Rattle.records.proofs.displacing.displaced_arc.Statement.{statement}
 use Rattle.records.proofs.displacing.displaced_arc.Tie as tie

@@ -1,5 +1,5 @@
 -- `records::kinds::mark_of` meets its contract: each arm is its row of the table. Assumes nothing.
-use borrow.Author.Needs.{needs}
+use Rattle.terms.proofs.Common.{needs}
 use Rattle.records.proofs.kinds.mark_of.Statement.{statement}
 use Rattle.records.proofs.kinds.mark_of.Tie as tie
 

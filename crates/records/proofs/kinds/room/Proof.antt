@@ -1,6 +1,5 @@
 -- `records::kinds::room` meets its contract: the length of the record's kind. Assumes nothing.
-use mathlib.Core.Path.{ap, _∙_}
-use borrow.Author.Needs.{needs}
+use Rattle.terms.proofs.Common.{ap, _∙_, needs}
 use Rattle.records.specs.Layout.{kindLength}
 use Rattle.records.proofs.kinds.room.Statement.{statement}
 use Rattle.records.proofs.kinds.room.Tie as tie

@@ -1,10 +1,7 @@
 -- `records::leading::path_end` meets its contract, mark by mark. Assumes nothing.
-use mathlib.Core.Path.{_≡_, refl}
-use Rattle.records.specs.declared.Record.{Record}
-use Rattle.records.specs.Path.{pathOf, pathEnd}
-use borrow.Author.Needs.{needs}
-use Rattle.records.proofs.Still.{still-ones}
-use Rattle.records.proofs.leading.path_end.Statement.{statement}
+use Rattle.terms.proofs.Common.{_≡_, refl, needs}
+use Rattle.records.specs.{declared.Record.Record, Path.pathOf, Path.pathEnd}
+use Rattle.records.proofs.{Still.still-ones, leading.path_end.Statement.statement}
 use Rattle.records.proofs.leading.path_end.Tie as tie
 
 returns : tie.Need-returns

@@ -1,7 +1,6 @@
 -- `records::loading::arc_at` meets its contract: the end and the three numbers after it. Assumes nothing.
-use borrow.Author.Needs.{needs}
-use Rattle.records.proofs.Found.{arc-found}
-use Rattle.records.proofs.loading.arc_at.Statement.{statement}
+use Rattle.terms.proofs.Common.{needs}
+use Rattle.records.proofs.{Found.arc-found, loading.arc_at.Statement.statement}
 use Rattle.records.proofs.loading.arc_at.Tie as tie
 
 returns : tie.Need-returns

@@ -1,11 +1,8 @@
 -- `records::loading::kind_at` meets its contract: the mark as one number is found in the table of marks, or is none of its rows. Assumes nothing.
-use Prim.Native.Nat.{_+_, _*_}
-use mathlib.Core.Path.{_≡_, refl, sym, ap, _∙_}
-use borrow.Author.Needs.{needs}
+use Rattle.terms.proofs.Common.{_+_, _*_, _≡_, refl, sym, ap, _∙_, needs}
 use Rattle.terms.specs.Terms.{first}
 use Rattle.records.specs.Reading.{kindAt}
-use Rattle.records.proofs.Found.{byWord, by-word, no-word}
-use Rattle.records.proofs.loading.kind_at.Statement.{statement}
+use Rattle.records.proofs.{Found.byWord, Found.by-word, Found.no-word, loading.kind_at.Statement.statement}
 use Rattle.records.proofs.loading.kind_at.Tie as tie
 
 found :

@@ -1,5 +1,5 @@
 -- `records::loading::number_at` meets its contract: what `of_bytes` answers is the number at the place. Assumes nothing.
-use borrow.Author.Needs.{needs}
+use Rattle.terms.proofs.Common.{needs}
 use Rattle.records.proofs.loading.number_at.Statement.{statement}
 use Rattle.records.proofs.loading.number_at.Tie as tie
 

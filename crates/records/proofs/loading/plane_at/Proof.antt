@@ -1,6 +1,5 @@
 -- `records::loading::plane_at` meets its contract: the byte is one of the three, or none of them. Assumes nothing.
-use borrow.Author.Tests.{ne-eqb}
-use borrow.Author.Needs.{needs}
+use Rattle.terms.proofs.Common.{ne-eqb, needs}
 use Rattle.terms.specs.Terms.{first}
 use Rattle.records.specs.Reading.{planeAt}
 use Rattle.records.proofs.loading.plane_at.Statement.{statement}

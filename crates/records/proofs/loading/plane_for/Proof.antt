@@ -1,10 +1,6 @@
 -- `records::loading::plane_for` meets its contract: by whether the kind has a plane byte. Assumes nothing.
-use mathlib.Core.Bool.{true}
-use mathlib.Core.Path.{_≡_, sym, _∙_}
-use native.Mathlib.Omega.{arith}
-use borrow.Author.Needs.{needs}
-use Rattle.records.specs.Layout.{hasPlane}
-use Rattle.records.specs.Reading.{planeFor}
+use Rattle.terms.proofs.Common.{true, _≡_, sym, _∙_, arith, needs}
+use Rattle.records.specs.{Layout.hasPlane, Reading.planeFor}
 use Rattle.records.proofs.loading.plane_for.Statement.{statement}
 use Rattle.records.proofs.loading.plane_for.Tie as tie
 

@@ -1,7 +1,6 @@
 -- `records::loading::point_at` meets its contract: the three numbers, one after the other. Assumes nothing.
-use borrow.Author.Needs.{needs}
-use Rattle.records.proofs.Found.{point-found}
-use Rattle.records.proofs.loading.point_at.Statement.{statement}
+use Rattle.terms.proofs.Common.{needs}
+use Rattle.records.proofs.{Found.point-found, loading.point_at.Statement.statement}
 use Rattle.records.proofs.loading.point_at.Tie as tie
 
 returns : tie.Need-returns

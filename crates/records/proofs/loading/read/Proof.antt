@@ -1,14 +1,7 @@
 -- `records::loading::read` meets its contract: each answer is a case of the definition, in its order. Assumes nothing.
-use Prim.Native.Nat.{_+_}
-use mathlib.Core.Option.{some}
-use mathlib.Core.Path.{_≡_, sym, ap, _∙_}
-use native.Mathlib.Omega.{arith}
-use borrow.Author.Needs.{needs}
-use Rattle.records.specs.Reading.{kindAt, planeFor}
-use Rattle.records.specs.Serving.{foundKind, foundPlane}
-use Rattle.records.specs.Layout.{hasPlane}
-use Rattle.records.proofs.Found.{read-end, read-cut, read-unknown, read-short, read-other, read-next}
-use Rattle.records.proofs.loading.read.Statement.{statement}
+use Rattle.terms.proofs.Common.{_+_, some, _≡_, sym, ap, _∙_, arith, needs}
+use Rattle.records.specs.{Reading.kindAt, Reading.planeFor, Serving.foundKind, Serving.foundPlane, Layout.hasPlane}
+use Rattle.records.proofs.{Found.read-end, Found.read-cut, Found.read-unknown, Found.read-short, Found.read-other, Found.read-next, loading.read.Statement.statement}
 use Rattle.records.proofs.loading.read.Tie as tie
 
 kind :

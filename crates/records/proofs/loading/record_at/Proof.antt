@@ -1,12 +1,8 @@
 -- `records::loading::record_at` meets its contract: each arm reads the numbers that its kind has. Assumes nothing.
-use mathlib.Core.Path.{ap}
-use native.Mathlib.Omega.{arith}
-use borrow.Author.Needs.{needs}
-use Rattle.records.specs.Reading.{numbersAt}
-use Rattle.records.specs.Layout.{recordOf}
+use Rattle.terms.proofs.Common.{ap, arith, needs}
+use Rattle.records.specs.{Reading.numbersAt, Layout.recordOf}
 use Rattle.records.specs.declared.Record.the-variants.{RP, AR, AL, DW, SP}
-use Rattle.records.proofs.Found.{line-found}
-use Rattle.records.proofs.loading.record_at.Statement.{statement}
+use Rattle.records.proofs.{Found.line-found, loading.record_at.Statement.statement}
 use Rattle.records.proofs.loading.record_at.Tie as tie
 
 point-at-requires : tie.Need-point-at-requires

@@ -1,13 +1,8 @@
 -- `records::storing::put` meets its contract: the mark and then the rest are the record, displaced. Assumes nothing.
-use native.Mathlib.Omega.{arith}
-use borrow.Author.Needs.{needs}
-use mathlib.Core.Path.{sym, _∙_}
-use Rattle.records.specs.Layout.{kindOf}
-use Rattle.records.specs.Path.{recordMoved}
+use Rattle.terms.proofs.Common.{arith, needs, sym, _∙_}
+use Rattle.records.specs.{Layout.kindOf, Path.recordMoved}
 use Rattle.records.proofs.Laid.{mark-length, mark-room}
-use Rattle.records.proofs.Written.{wrote-record, wrote-length}
-use Rattle.records.proofs.Moved.{moved-kind, put-one, one-fits, one-short}
-use Rattle.records.proofs.storing.put.Statement.{statement}
+use Rattle.records.proofs.{Written.wrote-record, Written.wrote-length, Moved.moved-kind, Moved.put-one, Moved.one-fits, Moved.one-short, storing.put.Statement.statement}
 use Rattle.records.proofs.storing.put.Tie as tie
 
 put-mark-requires : tie.Need-put-mark-requires

@@ -1,10 +1,7 @@
 -- `records::storing::put_arc` meets its contract: the parts are written one after the other. Assumes nothing.
-use native.Mathlib.Omega.{arith}
-use borrow.Author.Needs.{needs}
-use lib.ListN.{length-set}
+use Rattle.terms.proofs.Common.{arith, needs, length-set}
 use Rattle.records.specs.Layout.{numberBytes}
-use Rattle.records.proofs.Written.{wrote-then, wrote-cons, wrote-length}
-use Rattle.records.proofs.storing.put_arc.Statement.{statement}
+use Rattle.records.proofs.{Written.wrote-then, Written.wrote-cons, Written.wrote-length, storing.put_arc.Statement.statement}
 use Rattle.records.proofs.storing.put_arc.Tie as tie
 
 put-point-requires : tie.Need-put-point-requires

@@ -1,11 +1,7 @@
 -- `records::storing::put_body` meets its contract: each arm writes the plane byte and the numbers of its record as it is displaced. Assumes nothing.
-use native.Mathlib.Omega.{arith}
-use borrow.Author.Needs.{needs}
-use Rattle.records.specs.Layout.{planeBytes, planeOf, numbersOf, numberBytes}
-use Rattle.records.specs.Path.{pathOf, arcMoved, recordMoved}
-use Rattle.records.proofs.Written.{wrote-then, wrote-none, wrote-length}
-use Rattle.records.proofs.Moved.{one-sums}
-use Rattle.records.proofs.storing.put_body.Statement.{statement}
+use Rattle.terms.proofs.Common.{arith, needs}
+use Rattle.records.specs.{Layout.planeBytes, Layout.planeOf, Layout.numbersOf, Layout.numberBytes, Path.pathOf, Path.arcMoved, Path.recordMoved}
+use Rattle.records.proofs.{Written.wrote-then, Written.wrote-none, Written.wrote-length, Moved.one-sums, storing.put_body.Statement.statement}
 use Rattle.records.proofs.storing.put_body.Tie as tie
 
 moved-requires : tie.Need-moved-requires

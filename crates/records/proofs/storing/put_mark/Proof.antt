@@ -1,11 +1,7 @@
 -- `records::storing::put_mark` meets its contract: two stores write the mark. Assumes nothing.
-use native.Mathlib.Omega.{arith}
-use borrow.Author.Needs.{needs}
-use lib.ListN.{length-set}
+use Rattle.terms.proofs.Common.{arith, needs, length-set}
 use Rattle.records.specs.Layout.{markOf}
-use Rattle.records.proofs.Laid.{mark-length}
-use Rattle.records.proofs.Written.{wrote-two}
-use Rattle.records.proofs.storing.put_mark.Statement.{statement}
+use Rattle.records.proofs.{Laid.mark-length, Written.wrote-two, storing.put_mark.Statement.statement}
 use Rattle.records.proofs.storing.put_mark.Tie as tie
 
 slice-write-list-2 : tie.Need-slice-write-list-2

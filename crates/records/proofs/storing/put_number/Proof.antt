@@ -1,10 +1,7 @@
 -- `records::storing::put_number` meets its contract: four stores write the four bytes. Assumes nothing.
-use native.Mathlib.Omega.{arith}
-use borrow.Author.Needs.{needs}
-use lib.ListN.{length-set}
+use Rattle.terms.proofs.Common.{arith, needs, length-set}
 use Rattle.records.specs.Layout.{numberBytes}
-use Rattle.records.proofs.Written.{wrote-four}
-use Rattle.records.proofs.storing.put_number.Statement.{statement}
+use Rattle.records.proofs.{Written.wrote-four, storing.put_number.Statement.statement}
 use Rattle.records.proofs.storing.put_number.Tie as tie
 
 slice-write-list-2 : tie.Need-slice-write-list-2

@@ -1,9 +1,7 @@
 -- `records::storing::put_point` meets its contract: the parts are written one after the other. Assumes nothing.
-use native.Mathlib.Omega.{arith}
-use borrow.Author.Needs.{needs}
+use Rattle.terms.proofs.Common.{arith, needs}
 use Rattle.records.specs.Layout.{numberBytes}
-use Rattle.records.proofs.Written.{wrote-then}
-use Rattle.records.proofs.storing.put_point.Statement.{statement}
+use Rattle.records.proofs.{Written.wrote-then, storing.put_point.Statement.statement}
 use Rattle.records.proofs.storing.put_point.Tie as tie
 
 put-number-requires-2 : tie.Need-put-number-requires-2

@@ -1,8 +1,6 @@
 -- `setup::faults::axis_fault` meets its contract: its tests are the limits, in order. Assumes nothing.
-use mathlib.Core.Path.{sym, _∙_}
-use borrow.Author.Tests.{not-true, not-false}
+use Rattle.terms.proofs.Common.{sym, _∙_, not-true, not-false, needs}
 use Rattle.setup.specs.Faults.{firstBroken, axisLimits}
-use borrow.Author.Needs.{needs}
 use Rattle.setup.proofs.faults.axis_fault.Statement.{statement}
 use Rattle.setup.proofs.faults.axis_fault.Tie as tie
 

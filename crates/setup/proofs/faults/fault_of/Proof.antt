@@ -1,9 +1,8 @@
 -- `setup::faults::fault_of` meets its contract: a part of the limits after the other. Assumes nothing.
-use mathlib.Core.Path.{sym, _∙_}
+use Rattle.terms.proofs.Common.{sym, _∙_, needs}
 use Rattle.setup.specs.Faults.{originLimits, numberLimits}
-use Rattle.setup.proofs.Broken.{origins-named, stops, passes, travel-stops, travel-passes, common-stops, common-passes}
-use borrow.Author.Needs.{needs}
 use Rattle.setup.proofs.faults.fault_of.Statement.{statement}
+use Rattle.setup.proofs.Broken.{origins-named, stops, passes, travel-stops, travel-passes, common-stops, common-passes}
 use Rattle.setup.proofs.faults.fault_of.Tie as tie
 
 returns : tie.Need-returns

@@ -1,13 +1,7 @@
 -- `setup::faults::origins_fault` meets its contract: the origins from the place on decide. Assumes nothing.
-use lib.IntN.{pos}
-use Rattle.setup.proofs.Broken.{origins-end, origin-stops, origin-passes}
-use Prim.Native.Nat.{_-_, _≤_}
-use mathlib.Core.Path.{_≡_, refl, sym, _∙_}
-use native.Mathlib.Omega.{arith}
-use lib.ListN.{drop}
-use borrow.Author.Needs.{needs}
+use Rattle.terms.proofs.Common.{pos, _-_, _≤_, _≡_, refl, sym, _∙_, arith, drop, needs}
 use Rattle.setup.specs.Faults.{firstBroken, originLimits}
-use Rattle.setup.proofs.faults.origins_fault.Statement.{statement}
+use Rattle.setup.proofs.{Broken.origins-end, Broken.origin-stops, Broken.origin-passes, faults.origins_fault.Statement.statement}
 use Rattle.setup.proofs.faults.origins_fault.Tie as tie
 
 abbrev Inv-loop : tie.InvT-loop

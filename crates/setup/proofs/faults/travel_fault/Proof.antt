@@ -1,11 +1,7 @@
 -- `setup::faults::travel_fault` meets its contract: an axis after the other. Assumes nothing.
-use mathlib.Core.Path.{sym, _∙_}
-use mathlib.Core.List.{_++_}
-use Rattle.setup.specs.declared.Axis.the-variants.{X, Y, Z}
-use Rattle.setup.specs.Faults.{axisLimits, travelLimits}
-use Rattle.setup.proofs.Broken.{axis-named, stops, passes}
-use borrow.Author.Needs.{needs}
-use Rattle.setup.proofs.faults.travel_fault.Statement.{statement}
+use Rattle.terms.proofs.Common.{sym, _∙_, _++_, needs}
+use Rattle.setup.specs.{declared.Axis.the-variants.X, declared.Axis.the-variants.Y, declared.Axis.the-variants.Z, Faults.axisLimits, Faults.travelLimits}
+use Rattle.setup.proofs.{Broken.axis-named, Broken.stops, Broken.passes, faults.travel_fault.Statement.statement}
 use Rattle.setup.proofs.faults.travel_fault.Tie as tie
 
 returns : tie.Need-returns

@@ -1,8 +1,5 @@
 -- `shop::plotting::plot_list` meets its contract: the picture lies in its buffer. Assumes nothing.
-use borrow.Author.Needs.{needs}
-use mathlib.Core.Path.{sym}
-use native.Mathlib.Omega.{arith}
-use lib.Seq.{length-take-le}
+use Rattle.terms.proofs.Common.{needs, sym, arith, length-take-le}
 use Rattle.drawing.proofs.Fitting.{draws-inside}
 use Rattle.shop.proofs.plotting.plot_list.Statement.{statement}
 use Rattle.shop.proofs.plotting.plot_list.Tie as tie

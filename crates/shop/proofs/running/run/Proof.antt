@@ -1,9 +1,6 @@
 -- `shop::running::run` meets its contract: the options' room fits the list. Assumes nothing.
-use borrow.Author.Needs.{needs}
-use mathlib.Core.Path.{ap}
-use native.Mathlib.Omega.{arith}
-use Rattle.commands.specs.declared.options.Options.{Options}
-use Rattle.commands.proofs.Choosing.{room-fits}
+use Rattle.terms.proofs.Common.{needs, ap, arith}
+use Rattle.commands.{specs.declared.options.Options.Options, proofs.Choosing.room-fits}
 use Rattle.shop.proofs.running.run.Statement.{statement}
 use Rattle.shop.proofs.running.run.Tie as tie
 

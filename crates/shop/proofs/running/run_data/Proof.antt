@@ -1,7 +1,5 @@
 -- `shop::running::run_data` meets its contract: the records end in the list. Assumes nothing.
-use borrow.Author.Needs.{needs}
-use mathlib.Core.Path.{sym}
-use lib.Seq.{length-take-le}
+use Rattle.terms.proofs.Common.{needs, sym, length-take-le}
 use Rattle.shop.proofs.running.run_data.Statement.{statement}
 use Rattle.shop.proofs.running.run_data.Tie as tie
 

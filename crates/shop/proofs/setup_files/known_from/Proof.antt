@@ -1,6 +1,5 @@
 -- `shop::setup_files::known_from` meets its contract. Assumes nothing.
-use borrow.Author.Needs.{needs}
-use borrow.Author.Tests.{not-true, not-false}
+use Rattle.terms.proofs.Common.{needs, not-true, not-false}
 use Rattle.shop.specs.Knowing.{knownBy}
 use Rattle.shop.proofs.setup_files.known_from.Statement.{statement}
 use Rattle.shop.proofs.setup_files.known_from.Tie as tie

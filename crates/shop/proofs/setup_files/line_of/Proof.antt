@@ -1,13 +1,7 @@
 -- `shop::setup_files::line_of` meets its contract. What is left gives the same. Assumes nothing.
-use borrow.Author.Needs.{needs}
-use Prim.Native.Nat.{_≤_, _-_, _+_}
-use mathlib.Core.Path.{_≡_}
-use mathlib.Core.Logic.{⊎-elim}
-use native.Mathlib.Omega.{arith}
-use lib.ListN.{length}
+use Rattle.terms.proofs.Common.{needs, _≤_, _-_, _+_, _≡_, ⊎-elim, arith, length}
 use Rattle.shop.specs.Knowing.{lineOf}
-use Rattle.shop.proofs.Counting.{ending, all-ending, none-past, none-more, one-ends, goes-on}
-use Rattle.shop.proofs.setup_files.line_of.Statement.{statement}
+use Rattle.shop.proofs.{Counting.ending, Counting.all-ending, Counting.none-past, Counting.none-more, Counting.one-ends, Counting.goes-on, setup_files.line_of.Statement.statement}
 use Rattle.shop.proofs.setup_files.line_of.Tie as tie
 
 abbrev Inv-loop : tie.InvT-loop

@@ -1,5 +1,5 @@
 -- `svg::bends::is_passed` meets its contract: to the left or to the right. Assumes nothing.
-use borrow.Author.Needs.{needs}
+use Rattle.terms.proofs.Common.{needs}
 use Rattle.svg.specs.ArcText.{passes}
 use Rattle.svg.proofs.bends.is_passed.Statement.{statement}
 use Rattle.svg.proofs.bends.is_passed.Tie as tie

@@ -1,5 +1,5 @@
 -- `svg::bends::is_round` meets its contract: view by view and plane by plane. Assumes nothing.
-use borrow.Author.Needs.{needs}
+use Rattle.terms.proofs.Common.{needs}
 use Rattle.svg.specs.ArcText.{isRound}
 use Rattle.svg.proofs.bends.is_round.Statement.{statement}
 use Rattle.svg.proofs.bends.is_round.Tie as tie

@@ -1,11 +1,7 @@
 -- `svg::bends::put_arc` meets its contract: as it is seen, or far. Assumes nothing.
-use mathlib.Core.Path.{sym, _∙_}
-use borrow.Author.Needs.{needs}
-use borrow.Author.Tests.{not-true, not-false}
+use Rattle.terms.proofs.Common.{sym, _∙_, needs, not-true, not-false}
 use Rattle.svg.specs.ArcText.{arc}
-use Rattle.svg.proofs.Filled.{fills-then}
-use Rattle.svg.proofs.Turned.{drawable-facts}
-use Rattle.svg.proofs.bends.put_arc.Statement.{statement}
+use Rattle.svg.proofs.{Filled.fills-then, Turned.drawable-facts, bends.put_arc.Statement.statement}
 use Rattle.svg.proofs.bends.put_arc.Tie as tie
 
 returns : tie.Need-returns

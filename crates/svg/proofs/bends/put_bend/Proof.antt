@@ -1,9 +1,7 @@
 -- `svg::bends::put_bend` meets its contract: round, or from the edge. Assumes nothing.
-use mathlib.Core.Path.{sym, _∙_}
-use borrow.Author.Needs.{needs}
+use Rattle.terms.proofs.Common.{sym, _∙_, needs}
 use Rattle.svg.specs.ArcText.{bend}
-use Rattle.svg.proofs.Filled.{fills-then}
-use Rattle.svg.proofs.bends.put_bend.Statement.{statement}
+use Rattle.svg.proofs.{Filled.fills-then, bends.put_bend.Statement.statement}
 use Rattle.svg.proofs.bends.put_bend.Tie as tie
 
 returns : tie.Need-returns

@@ -1,16 +1,8 @@
 -- `svg::bends::put_extremes` meets its contract: at each extreme, what is left to write gives the same. Assumes nothing.
-use Prim.Native.Nat.{ℕ}
-use mathlib.Core.List.{List}
-use mathlib.Core.Path.{_≡_, refl, sym, _∙_}
-use borrow.Author.Needs.{needs}
-use borrow.Author.Tests.{not-true, not-false}
-use lib.ListN.{length}
+use Rattle.terms.proofs.Common.{ℕ, List, _≡_, refl, sym, _∙_, needs, not-true, not-false, length}
 use Rattle.arcs.specs.Bounds.{Small}
-use Rattle.svg.specs.Text.{Fills}
-use Rattle.svg.specs.ArcText.{extremes}
-use Rattle.svg.proofs.Filled.{fills-length}
-use Rattle.svg.proofs.ArcParts.{extreme-not, extreme-is, extremes-done, extremes-on}
-use Rattle.svg.proofs.bends.put_extremes.Statement.{statement}
+use Rattle.svg.specs.{Text.Fills, ArcText.extremes}
+use Rattle.svg.proofs.{Filled.fills-length, ArcParts.extreme-not, ArcParts.extreme-is, ArcParts.extremes-done, ArcParts.extremes-on, bends.put_extremes.Statement.statement}
 use Rattle.svg.proofs.bends.put_extremes.Tie as tie
 
 abbrev Inv-loop : tie.InvT-loop

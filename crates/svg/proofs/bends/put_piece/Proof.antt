@@ -1,6 +1,5 @@
 -- `svg::bends::put_piece` meets its contract: by the turn as it is seen. Assumes nothing.
-use mathlib.Core.Path.{sym, _∙_}
-use borrow.Author.Needs.{needs}
+use Rattle.terms.proofs.Common.{sym, _∙_, needs}
 use Rattle.svg.specs.ArcText.{piece}
 use Rattle.svg.proofs.bends.put_piece.Statement.{statement}
 use Rattle.svg.proofs.bends.put_piece.Tie as tie

@@ -1,15 +1,8 @@
 -- `svg::bends::put_quarters` meets its contract: at each quarter, what is left to write gives the same. Assumes nothing.
-use Prim.Native.Nat.{ℕ}
-use mathlib.Core.List.{List}
-use mathlib.Core.Path.{_≡_, refl, sym, _∙_}
-use borrow.Author.Needs.{needs}
-use lib.ListN.{length}
+use Rattle.terms.proofs.Common.{ℕ, List, _≡_, refl, sym, _∙_, needs, length}
 use Rattle.arcs.specs.Bounds.{Small}
-use Rattle.svg.specs.Text.{Fills}
-use Rattle.svg.specs.ArcText.{quarters}
-use Rattle.svg.proofs.Filled.{fills-length}
-use Rattle.svg.proofs.ArcParts.{quarters-soon, quarters-done, quarters-on}
-use Rattle.svg.proofs.bends.put_quarters.Statement.{statement}
+use Rattle.svg.specs.{Text.Fills, ArcText.quarters}
+use Rattle.svg.proofs.{Filled.fills-length, ArcParts.quarters-soon, ArcParts.quarters-done, ArcParts.quarters-on, bends.put_quarters.Statement.statement}
 use Rattle.svg.proofs.bends.put_quarters.Tie as tie
 
 abbrev Inv-loop : tie.InvT-loop

@@ -1,6 +1,5 @@
 -- `svg::bends::seen_arc` meets its contract: each part as its call gives it. Assumes nothing.
-use native.Mathlib.Omega.{arith}
-use borrow.Author.Needs.{needs}
+use Rattle.terms.proofs.Common.{arith, needs}
 use Rattle.svg.specs.ArcText.{seenArc}
 use Rattle.svg.proofs.bends.seen_arc.Statement.{statement}
 use Rattle.svg.proofs.bends.seen_arc.Tie as tie

@@ -1,5 +1,5 @@
 -- `svg::bends::seen_on` meets its contract: the point where the direction leads, seen. Assumes nothing.
-use borrow.Author.Needs.{needs}
+use Rattle.terms.proofs.Common.{needs}
 use Rattle.svg.specs.ArcText.{seenOn}
 use Rattle.svg.proofs.bends.seen_on.Statement.{statement}
 use Rattle.svg.proofs.bends.seen_on.Tie as tie

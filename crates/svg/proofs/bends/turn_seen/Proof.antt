@@ -1,5 +1,5 @@
 -- `svg::bends::turn_seen` meets its contract: view by view. Assumes nothing.
-use borrow.Author.Needs.{needs}
+use Rattle.terms.proofs.Common.{needs}
 use Rattle.svg.specs.ArcText.{turnSeen}
 use Rattle.svg.proofs.bends.turn_seen.Statement.{statement}
 use Rattle.svg.proofs.bends.turn_seen.Tie as tie

@@ -1,17 +1,11 @@
 -- The proof of the cycle of calls {put_digits}. The measure is how many digits there may be. Assumes nothing.
-use Prim.Native.Nat.{ℕ, _<_}
-use native.Mathlib.Omega.{arith}
-use borrow.Author.Needs.{needs}
-use Rattle.svg.proofs.Filled.{fills-then}
-use Rattle.svg.proofs.Digits.{digits-none, digits-last, digits-more}
-use borrow.Fn.Kinds.{In}
-use borrow.Fn.PlainCycle.{Measures, is, falls, and}
+use Rattle.terms.proofs.Common.{ℕ, _<_, arith, needs}
+use borrow.Fn.{Kinds.In, PlainCycle.Measures, PlainCycle.is, PlainCycle.falls, PlainCycle.and}
+use Rattle.svg.proofs.{Filled.fills-then, Digits.digits-none, Digits.digits-last, Digits.digits-more, forms.+put_digits.statement, forms.+put_digits.Tie.close}
 use Rattle.svg.proofs.forms.put_digits.Reads as put-digits
 use Rattle.svg.proofs.forms.put_digits.Kinds as put-digits-kinds
 use Rattle.svg.proofs.forms.+put_digits.Lts-put_digits as put-digits-lts
 use Rattle.svg.proofs.forms.put_byte.Reads as put-byte-reads
-use Rattle.svg.proofs.forms.+put_digits.{statement}
-use Rattle.svg.proofs.forms.+put_digits.Tie.{close}
 
 abbrev μ-put-digits : Measures 1 put-digits-kinds.ps ℕ
 μ-put-digits κs a = a .1 .1 .0

@@ -1,7 +1,6 @@
 -- `svg::forms::put_byte` meets its contract: the byte is written where there is room for it. Assumes nothing.
-use borrow.Author.Needs.{needs}
-use Rattle.svg.proofs.Filled.{fills-out}
-use Rattle.svg.proofs.forms.put_byte.Statement.{statement}
+use Rattle.terms.proofs.Common.{needs}
+use Rattle.svg.proofs.{Filled.fills-out, forms.put_byte.Statement.statement}
 use Rattle.svg.proofs.forms.put_byte.Tie as tie
 
 returns-2 : tie.Need-returns-2

@@ -1,14 +1,7 @@
 -- `svg::forms::put_form` meets its contract: at each byte, what is left to write gives the same. Assumes nothing.
-use Prim.Native.Nat.{ℕ, _-_, _≤_}
-use mathlib.Core.List.{List}
-use mathlib.Core.Path.{_≡_, refl, _∙_}
-use native.Mathlib.Omega.{arith}
-use borrow.Author.Needs.{needs}
-use lib.ListN.{length, drop}
+use Rattle.terms.proofs.Common.{ℕ, _-_, List, _≡_, refl, _∙_, needs, length, drop}
 use Rattle.svg.specs.Text.{Fills, filled}
-use Rattle.svg.proofs.Filled.{fills-length}
-use Rattle.svg.proofs.Blanks.{filled-end, filled-plain, filled-blank}
-use Rattle.svg.proofs.forms.put_form.Statement.{statement}
+use Rattle.svg.proofs.{Filled.fills-length, Blanks.filled-end, Blanks.filled-plain, Blanks.filled-blank, forms.put_form.Statement.statement}
 use Rattle.svg.proofs.forms.put_form.Tie as tie
 
 abbrev Inv-loop : tie.InvT-loop

@@ -1,9 +1,6 @@
 -- `svg::forms::put_number` meets its contract: a sign where the number is below 0, and its digits. Assumes nothing.
-use mathlib.Core.Path.{sym, _∙_}
-use borrow.Author.Needs.{needs}
-use Rattle.svg.proofs.Digits.{number-up, number-down}
-use Rattle.svg.proofs.Filled.{fills-then}
-use Rattle.svg.proofs.forms.put_number.Statement.{statement}
+use Rattle.terms.proofs.Common.{sym, _∙_, needs}
+use Rattle.svg.proofs.{Digits.number-up, Digits.number-down, Filled.fills-then, forms.put_number.Statement.statement}
 use Rattle.svg.proofs.forms.put_number.Tie as tie
 
 returns : tie.Need-returns

@@ -1,12 +1,7 @@
 -- `svg::forms::put_text` meets its contract: what is written so far are the first bytes of the text. Assumes nothing.
-use Prim.Native.Nat.{_-_, _≤_}
-use native.Mathlib.Omega.{arith}
-use borrow.Author.Needs.{needs}
-use lib.ListN.{length, take}
-use lib.Seq.{take-all}
+use Rattle.terms.proofs.Common.{_-_, _≤_, arith, needs, length, take, take-all}
 use Rattle.svg.specs.Text.{Fills}
-use Rattle.svg.proofs.Filled.{fills-none, fills-more, fills-length}
-use Rattle.svg.proofs.forms.put_text.Statement.{statement}
+use Rattle.svg.proofs.{Filled.fills-none, Filled.fills-more, Filled.fills-length, forms.put_text.Statement.statement}
 use Rattle.svg.proofs.forms.put_text.Tie as tie
 
 abbrev Inv-loop : tie.InvT-loop

@@ -1,5 +1,5 @@
 -- `svg::quarters::is_drawable` meets its contract: its six tests. Assumes nothing.
-use borrow.Author.Needs.{needs}
+use Rattle.terms.proofs.Common.{needs}
 use Rattle.svg.specs.Turns.{drawable}
 use Rattle.svg.proofs.quarters.is_drawable.Statement.{statement}
 use Rattle.svg.proofs.quarters.is_drawable.Tie as tie

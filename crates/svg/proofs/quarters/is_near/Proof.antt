@@ -1,5 +1,5 @@
 -- `svg::quarters::is_near` meets its contract: the distance decides. Assumes nothing.
-use borrow.Author.Needs.{needs}
+use Rattle.terms.proofs.Common.{needs}
 use Rattle.svg.specs.Turns.{near}
 use Rattle.svg.proofs.quarters.is_near.Statement.{statement}
 use Rattle.svg.proofs.quarters.is_near.Tie as tie

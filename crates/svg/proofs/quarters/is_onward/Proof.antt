@@ -1,5 +1,5 @@
 -- `svg::quarters::is_onward` meets its contract: to the left or to the right. Assumes nothing.
-use borrow.Author.Needs.{needs}
+use Rattle.terms.proofs.Common.{needs}
 use Rattle.svg.specs.Turns.{onward}
 use Rattle.svg.proofs.quarters.is_onward.Statement.{statement}
 use Rattle.svg.proofs.quarters.is_onward.Tie as tie

@@ -1,5 +1,5 @@
 -- `svg::quarters::is_soon` meets its contract: on from one quarter, and not on from the next. Assumes nothing.
-use borrow.Author.Needs.{needs}
+use Rattle.terms.proofs.Common.{needs}
 use Rattle.svg.specs.Turns.{soon}
 use Rattle.svg.proofs.quarters.is_soon.Statement.{statement}
 use Rattle.svg.proofs.quarters.is_soon.Tie as tie

@@ -1,5 +1,5 @@
 -- `svg::quarters::point_on` meets its contract: plane by plane. Assumes nothing.
-use borrow.Author.Needs.{needs}
+use Rattle.terms.proofs.Common.{needs}
 use Rattle.svg.specs.Turns.{lifted, pointOn}
 use Rattle.svg.proofs.quarters.point_on.Statement.{statement}
 use Rattle.svg.proofs.quarters.point_on.Tie as tie

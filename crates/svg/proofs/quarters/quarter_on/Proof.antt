@@ -1,6 +1,5 @@
 -- `svg::quarters::quarter_on` meets its contract: axes exchanged, one of them negated. Assumes nothing.
-use native.Mathlib.Omega.{arith}
-use borrow.Author.Needs.{needs}
+use Rattle.terms.proofs.Common.{arith, needs}
 use Rattle.svg.specs.Turns.{quarterOn}
 use Rattle.svg.proofs.quarters.quarter_on.Statement.{statement}
 use Rattle.svg.proofs.quarters.quarter_on.Tie as tie

@@ -1,11 +1,8 @@
 -- `svg::quarters::radius_of` meets its contract: two squares of at most 1,500,000,000 have a root below 2 ^ 31. Assumes nothing.
-use mathlib.Core.Path.{refl}
-use native.Mathlib.Omega.{arith}
-use borrow.Author.Needs.{needs}
+use Rattle.terms.proofs.Common.{refl, arith, needs}
 use Rattle.arcs.specs.Arcs.{radius²}
 use Rattle.svg.specs.Turns.{radiusOf}
-use Rattle.svg.proofs.Turned.{radius-most}
-use Rattle.svg.proofs.quarters.radius_of.Statement.{statement}
+use Rattle.svg.proofs.{Turned.radius-most, quarters.radius_of.Statement.statement}
 use Rattle.svg.proofs.quarters.radius_of.Tie as tie
 
 squared-distance-requires : tie.Need-squared-distance-requires

@@ -1,5 +1,5 @@
 -- `svg::views::put_line` meets its contract: between the points as they are seen. Assumes nothing.
-use borrow.Author.Needs.{needs}
+use Rattle.terms.proofs.Common.{needs}
 use Rattle.svg.proofs.views.put_line.Statement.{statement}
 use Rattle.svg.proofs.views.put_line.Tie as tie
 

@@ -1,5 +1,5 @@
 -- `svg::views::seen` meets its contract: view by view. Assumes nothing.
-use borrow.Author.Needs.{needs}
+use Rattle.terms.proofs.Common.{needs}
 use Rattle.svg.specs.Lines.{seenFrom}
 use Rattle.svg.proofs.views.seen.Statement.{statement}
 use Rattle.svg.proofs.views.seen.Tie as tie

@@ -1,18 +1,9 @@
 -- `words::numerals::read_figures` meets its contract. What is left gives the same: the figures passed, by the variables, and the bytes
 -- from i on make the number. Assumes nothing.
-use Prim.Native.Nat.{_-_}
-use mathlib.Core.Path.{_≡_}
-use mathlib.Core.List.{[]}
-use mathlib.Core.Logic.{⊎-elim}
-use native.Mathlib.Nat.{add-zero}
-use native.Mathlib.Omega.{arith}
-use borrow.Author.Needs.{needs}
-use lib.ListN.{drop}
-use lib.Seq.{slice}
+use Rattle.terms.proofs.Common.{_-_, _≡_, [], ⊎-elim, add-zero, arith, needs, drop, slice}
 use Rattle.words.specs.Numbers.{isFigure, signLength, run, numberBy}
-use Rattle.words.proofs.Numbers.{below-ten}
+use Rattle.words.proofs.{Numbers.below-ten, numerals.read_figures.Statement.statement}
 use Rattle.words.proofs.Figures.{Passed, none-passed, point-passed, second-point, digit-passed, tenth-digit, none-left, none-here, low-byte, high-byte, no-number, some-number}
-use Rattle.words.proofs.numerals.read_figures.Statement.{statement}
 use Rattle.words.proofs.numerals.read_figures.Tie as tie
 use Rattle.words.proofs.numerals.read_figures.Reads as reads
 use Rattle.words.proofs.numerals.read_figures.Lts as lts

@@ -1,9 +1,6 @@
 -- `words::numerals::read_number` meets its contract: the sign, and then the figures. Assumes nothing.
-use native.Mathlib.Omega.{arith}
-use borrow.Author.Needs.{needs}
-use Rattle.words.proofs.Numbers.{sign-most}
-use Rattle.words.proofs.Figures.{no-byte, by-sign}
-use Rattle.words.proofs.numerals.read_number.Statement.{statement}
+use Rattle.terms.proofs.Common.{arith, needs}
+use Rattle.words.proofs.{Numbers.sign-most, Figures.no-byte, Figures.by-sign, numerals.read_number.Statement.statement}
 use Rattle.words.proofs.numerals.read_number.Tie as tie
 
 returns : tie.Need-returns

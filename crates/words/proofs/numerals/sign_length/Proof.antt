@@ -1,5 +1,5 @@
 -- `words::numerals::sign_length` meets its contract, sign by sign. Assumes nothing.
-use borrow.Author.Needs.{needs}
+use Rattle.terms.proofs.Common.{needs}
 use Rattle.words.specs.Numbers.{signLength}
 use Rattle.words.proofs.numerals.sign_length.Statement.{statement}
 use Rattle.words.proofs.numerals.sign_length.Tie as tie

@@ -1,5 +1,5 @@
 -- `words::numerals::sign_of` meets its contract, byte by byte. Assumes nothing.
-use borrow.Author.Tests.{ne-eqb}
+use Rattle.terms.proofs.Common.{ne-eqb}
 use Rattle.terms.specs.Terms.{byte}
 use Rattle.words.specs.Numbers.{signOf}
 use Rattle.words.proofs.numerals.sign_of.Statement.{statement}

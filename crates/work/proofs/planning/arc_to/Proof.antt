@@ -1,5 +1,5 @@
 -- `work::planning::arc_to` meets its contract. Assumes nothing.
-use borrow.Author.Needs.{needs}
+use Rattle.terms.proofs.Common.{needs}
 use Rattle.blocks.specs.Motions.{arcTo}
 use Rattle.work.proofs.planning.arc_to.Statement.{statement}
 use Rattle.work.proofs.planning.arc_to.Tie as tie

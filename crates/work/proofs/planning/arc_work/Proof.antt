@@ -1,9 +1,6 @@
 -- `work::planning::arc_work` meets its contract: by the words that stand, the radius, and the sense. Assumes nothing.
-use borrow.Author.Needs.{needs}
-use native.Mathlib.Omega.{arith}
-use Rattle.work.proofs.Centring.{fitting, round}
-use Rattle.work.proofs.Plans.{arc-rests, arc-impossible, arc-clockwise, arc-counter}
-use Rattle.work.proofs.planning.arc_work.Statement.{statement}
+use Rattle.terms.proofs.Common.{needs}
+use Rattle.work.proofs.{Centring.fitting, Centring.round, Plans.arc-rests, Plans.arc-impossible, Plans.arc-clockwise, Plans.arc-counter, planning.arc_work.Statement.statement}
 use Rattle.work.proofs.planning.arc_work.Tie as tie
 
 returns : tie.Need-returns

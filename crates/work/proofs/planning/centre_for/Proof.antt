@@ -1,7 +1,6 @@
 -- `work::planning::centre_for` meets its contract. Assumes nothing.
-use borrow.Author.Needs.{needs}
-use Rattle.work.proofs.Centring.{spanned, by-radius, by-words, words-sums}
-use Rattle.work.proofs.planning.centre_for.Statement.{statement}
+use Rattle.terms.proofs.Common.{needs}
+use Rattle.work.proofs.{Centring.spanned, Centring.by-radius, Centring.by-words, Centring.words-sums, planning.centre_for.Statement.statement}
 use Rattle.work.proofs.planning.centre_for.Tie as tie
 
 centre-by-requires : tie.Need-centre-by-requires

@@ -1,5 +1,5 @@
 -- `work::planning::centre_words` meets its contract. Assumes nothing.
-use mathlib.Core.Path.{refl}
+use Rattle.terms.proofs.Common.{refl}
 use Rattle.blocks.specs.Motions.{centreWords}
 use Rattle.work.proofs.planning.centre_words.Statement.{statement}
 use Rattle.work.proofs.planning.centre_words.Tie as tie

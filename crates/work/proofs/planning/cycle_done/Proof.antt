@@ -1,6 +1,6 @@
 -- `work::planning::cycle_done` meets its contract. Assumes nothing.
+use Rattle.terms.proofs.Common.{needs}
 use Rattle.blocks.specs.Motions.{cycleDone}
-use borrow.Author.Needs.{needs}
 use Rattle.work.proofs.planning.cycle_done.Statement.{statement}
 use Rattle.work.proofs.planning.cycle_done.Tie as tie
 

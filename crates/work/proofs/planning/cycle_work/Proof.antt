@@ -1,8 +1,6 @@
 -- `work::planning::cycle_work` meets its contract: by whether the cycle is done. Assumes nothing.
-use borrow.Author.Needs.{needs}
-use mathlib.Core.Path.{refl}
-use Rattle.work.proofs.Plans.{cycle-rests, cycle-passes}
-use Rattle.work.proofs.planning.cycle_work.Statement.{statement}
+use Rattle.terms.proofs.Common.{needs, refl}
+use Rattle.work.proofs.{Plans.cycle-rests, Plans.cycle-passes, planning.cycle_work.Statement.statement}
 use Rattle.work.proofs.planning.cycle_work.Tie as tie
 
 returns : tie.Need-returns

@@ -1,12 +1,8 @@
 -- `work::planning::is_clockwise` meets its contract, code by code. Assumes nothing.
-use borrow.Author.Needs.{needs}
-use mathlib.Core.Path.{_≡_, refl}
-use mathlib.Core.Bool.{false}
-use mathlib.Core.List.{[], _∷_}
+use Rattle.terms.proofs.Common.{needs, _≡_, refl, false, [], _∷_}
 use denote.Enum.Declared.{tagOf}
 use types.Run.{OneOf, miss}
-use Rattle.codes.proofs.Motion.{the-type}
-use Rattle.codes.specs.declared.Motion.{Motion}
+use Rattle.codes.{specs.declared.Motion.Motion, proofs.Motion.the-type}
 use Rattle.codes.specs.declared.Motion.the-variants.{Off, G00, G01, G02, G03, Drilling}
 use Rattle.work.specs.Work.{isClockwise}
 use Rattle.work.proofs.planning.is_clockwise.Statement.{statement}

@@ -1,5 +1,5 @@
 -- `work::planning::is_larger` meets its contract. Assumes nothing.
-use borrow.Author.Needs.{needs}
+use Rattle.terms.proofs.Common.{needs}
 use Rattle.work.proofs.planning.is_larger.Statement.{statement}
 use Rattle.work.proofs.planning.is_larger.Tie as tie
 

@@ -1,5 +1,5 @@
 -- `work::planning::lies_left` meets its contract, by the sense. Assumes nothing.
-use borrow.Author.Needs.{needs}
+use Rattle.terms.proofs.Common.{needs}
 use Rattle.work.specs.Work.{liesLeft}
 use Rattle.work.proofs.planning.lies_left.Statement.{statement}
 use Rattle.work.proofs.planning.lies_left.Tie as tie

@@ -1,11 +1,8 @@
 -- `work::planning::motion_work` meets its contract: by the code that is on. Assumes nothing.
-use borrow.Author.Needs.{needs}
-use mathlib.Core.Path.{sym, _∙_}
-use mathlib.Core.Bool.{true}
+use Rattle.terms.proofs.Common.{needs, sym, _∙_, true}
 use Rattle.blocks.specs.Motions.{motionOf}
 use Rattle.work.specs.Work.{straightRecord}
-use Rattle.work.proofs.Plans.{makes-none, motion-turns, motion-rests}
-use Rattle.work.proofs.planning.motion_work.Statement.{statement}
+use Rattle.work.proofs.{Plans.makes-none, Plans.motion-turns, Plans.motion-rests, planning.motion_work.Statement.statement}
 use Rattle.work.proofs.planning.motion_work.Tie as tie
 
 returns : tie.Need-returns

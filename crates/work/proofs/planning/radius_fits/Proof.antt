@@ -1,8 +1,6 @@
 -- `work::planning::radius_fits` meets its contract. Assumes nothing.
-use borrow.Author.Needs.{needs}
-use borrow.Author.Tests.{not-true, not-false}
-use Rattle.work.proofs.Centring.{radius-missing, chord, radius-tested}
-use Rattle.work.proofs.planning.radius_fits.Statement.{statement}
+use Rattle.terms.proofs.Common.{needs, not-true, not-false}
+use Rattle.work.proofs.{Centring.radius-missing, Centring.chord, Centring.radius-tested, planning.radius_fits.Statement.statement}
 use Rattle.work.proofs.planning.radius_fits.Tie as tie
 
 returns : tie.Need-returns

@@ -1,7 +1,6 @@
 -- `work::planning::straight_work` meets its contract: by whether a word of the end stands. Assumes nothing.
-use borrow.Author.Needs.{needs}
-use Rattle.work.proofs.Plans.{straight-rests, straight-cuts, straight-moves}
-use Rattle.work.proofs.planning.straight_work.Statement.{statement}
+use Rattle.terms.proofs.Common.{needs}
+use Rattle.work.proofs.{Plans.straight-rests, Plans.straight-cuts, Plans.straight-moves, planning.straight_work.Statement.statement}
 use Rattle.work.proofs.planning.straight_work.Tie as tie
 
 returns : tie.Need-returns

@@ -1,11 +1,8 @@
 -- `work::planning::work_of` meets its contract: by the code of the block. Assumes nothing.
-use borrow.Author.Needs.{needs}
-use mathlib.Core.Path.{refl}
-use mathlib.Core.Bool.{true}
+use Rattle.terms.proofs.Common.{needs, refl, true}
 use Rattle.records.specs.declared.Record.the-variants.{DW}
 use Rattle.blocks.specs.Motions.{movesOf}
-use Rattle.work.proofs.Plans.{makes-none, makes-one}
-use Rattle.work.proofs.planning.work_of.Statement.{statement}
+use Rattle.work.proofs.{Plans.makes-none, Plans.makes-one, planning.work_of.Statement.statement}
 use Rattle.work.proofs.planning.work_of.Tie as tie
 
 motion-work-requires : tie.Need-motion-work-requires

@@ -1,5 +1,5 @@
 -- `work::rows::pass_end` meets its contract: by the kind of the pass. Assumes nothing.
-use borrow.Author.Needs.{needs}
+use Rattle.terms.proofs.Common.{needs}
 use Rattle.records.specs.Path.{endOf}
 use Rattle.work.specs.Work.{rowsOf}
 use Rattle.work.proofs.rows.pass_end.Statement.{statement}

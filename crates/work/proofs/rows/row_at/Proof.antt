@@ -1,8 +1,6 @@
 -- `work::rows::row_at` meets its contract: by the kind of the pass. Assumes nothing.
-use borrow.Author.Needs.{needs}
-use native.Mathlib.Omega.{arith}
+use Rattle.terms.proofs.Common.{needs, arith, []}
 use Rattle.cycles.proofs.Rows.{stands-first}
-use mathlib.Core.List.{[]}
 use Rattle.work.specs.Work.{rowsOf}
 use Rattle.work.proofs.rows.row_at.Statement.{statement}
 use Rattle.work.proofs.rows.row_at.Tie as tie

@@ -1,7 +1,5 @@
 -- `work::rows::row_count` meets its contract: by the kind of the pass. Assumes nothing.
-use borrow.Author.Needs.{needs}
-use native.Mathlib.Omega.{arith}
-use mathlib.Core.Path.{refl}
+use Rattle.terms.proofs.Common.{needs, arith, refl}
 use Rattle.work.specs.Work.{rowsOf}
 use Rattle.work.proofs.rows.row_count.Statement.{statement}
 use Rattle.work.proofs.rows.row_count.Tie as tie

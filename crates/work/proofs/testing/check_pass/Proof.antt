@@ -1,14 +1,8 @@
 -- `work::testing::check_pass` meets its contract: the records that are left lead to where all lead. Assumes nothing.
-use borrow.Author.Needs.{needs}
-use native.Mathlib.Omega.{arith}
-use Prim.Native.Nat.{_-_, _≤_}
-use mathlib.Core.Path.{_≡_, refl}
-use lib.ListN.{length}
-use borrow.Author.Tests.{not-true, not-false}
-use Rattle.work.specs.Work.{rowsOf}
+use Rattle.terms.proofs.Common.{needs, arith, _-_, not-true, not-false}
 use Rattle.records.proofs.Moved.{kind-few}
-use Rattle.work.proofs.Extents.{Tested, tested-starts, tested-ends, tested-leaves, tested-next, row-ready}
-use Rattle.work.proofs.testing.check_pass.Statement.{statement}
+use Rattle.work.specs.Work.{rowsOf}
+use Rattle.work.proofs.{Extents.Tested, Extents.tested-starts, Extents.tested-ends, Extents.tested-leaves, Extents.tested-next, Extents.row-ready, testing.check_pass.Statement.statement}
 use Rattle.work.proofs.testing.check_pass.Tie as tie
 
 abbrev Inv-loop : tie.InvT-loop

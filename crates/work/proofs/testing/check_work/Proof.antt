@@ -1,16 +1,7 @@
 -- `work::testing::check_work` meets its contract: the passes that are left lead to where all lead. Assumes nothing.
-use borrow.Author.Needs.{needs}
-use native.Mathlib.Omega.{arith}
-use Prim.Native.Nat.{_≤_}
-use mathlib.Core.Path.{_≡_, sym, _∙_}
-use lib.ListN.{length}
-use Rattle.lengths.specs.declared.Len.{Len}
-use Rattle.lengths.specs.declared.Point.{Point}
-use Rattle.work.specs.declared.Pass.{Pass}
-use Rattle.work.specs.Work.{rowsOf}
-use Rattle.work.proofs.Extents.{rows-few}
+use Rattle.terms.proofs.Common.{needs, arith, sym, _∙_}
+use Rattle.work.proofs.{Extents.rows-few, testing.check_work.Statement.statement}
 use Rattle.work.proofs.Passing.{Leads, leads-starts, leads-aims, leads-little, leads-ready, leads-ends, leads-leaves, leads-on}
-use Rattle.work.proofs.testing.check_work.Statement.{statement}
 use Rattle.work.proofs.testing.check_work.Tie as tie
 
 abbrev Inv-loop : tie.InvT-loop

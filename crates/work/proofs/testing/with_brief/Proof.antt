@@ -1,12 +1,8 @@
 -- `work::testing::with_brief` meets its contract: by which record it is. Assumes nothing.
-use borrow.Author.Needs.{needs}
-use native.Mathlib.Omega.{arith}
-use mathlib.Core.Path.{refl, sym, _∙_}
+use Rattle.terms.proofs.Common.{needs, arith, refl, sym, _∙_}
 use Rattle.records.specs.Path.{pathOf, pathEnd}
 use Rattle.work.specs.Work.{briefRecords}
-use Rattle.work.proofs.Extents.{grown-none, grown-one}
-use Rattle.work.proofs.Briefs.{grown-mark}
-use Rattle.work.proofs.testing.with_brief.Statement.{statement}
+use Rattle.work.proofs.{Extents.grown-none, Extents.grown-one, Briefs.grown-mark, testing.with_brief.Statement.statement}
 use Rattle.work.proofs.testing.with_brief.Tie as tie
 
 returns : tie.Need-returns

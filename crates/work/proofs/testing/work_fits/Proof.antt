@@ -1,5 +1,5 @@
 -- `work::testing::work_fits` meets its contract: by the kind of the pass. Assumes nothing.
-use borrow.Author.Needs.{needs}
+use Rattle.terms.proofs.Common.{needs}
 use Rattle.work.specs.Work.{passFits}
 use Rattle.work.proofs.testing.work_fits.Statement.{statement}
 use Rattle.work.proofs.testing.work_fits.Tie as tie

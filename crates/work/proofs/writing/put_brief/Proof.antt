@@ -1,8 +1,7 @@
 -- `work::writing::put_brief` meets its contract: each arm writes the mark of its record, and the spindle's its speed. Assumes nothing.
-use borrow.Author.Needs.{needs}
-use native.Mathlib.Omega.{arith}
-use Rattle.records.specs.Layout.{planeBytes, planeOf, numbersOf, numberBytes, recordBytes, listBytes, roomOf}
+use Rattle.terms.proofs.Common.{needs, arith}
 use Rattle.records.proofs.Written.{wrote-then, wrote-none, wrote-length}
+use Rattle.records.specs.Layout.{planeBytes, planeOf, numbersOf, numberBytes, recordBytes, listBytes, roomOf}
 use Rattle.work.specs.Work.{briefRecords}
 use Rattle.work.proofs.writing.put_brief.Statement.{statement}
 use Rattle.work.proofs.writing.put_brief.Tie as tie

@@ -1,15 +1,8 @@
 -- `work::writing::put_pass` meets its contract: the records that are left, written here, leave what all of them leave. Assumes nothing.
-use borrow.Author.Needs.{needs}
-use native.Mathlib.Omega.{arith}
-use Prim.Native.Nat.{_+_, _-_}
-use mathlib.Core.Path.{refl}
-use mathlib.Core.List.{[], _∷_}
-use lib.ListN.{drop}
+use Rattle.terms.proofs.Common.{needs, arith, _+_, _-_, refl, [], _∷_, drop}
 use Rattle.records.proofs.Written.{wrote-length}
 use Rattle.work.specs.Work.{rowsOf}
-use Rattle.work.proofs.Extents.{drop-all}
-use Rattle.work.proofs.Passing.{Going, going-starts, going-ends, going-asks, going-on}
-use Rattle.work.proofs.writing.put_pass.Statement.{statement}
+use Rattle.work.proofs.{Extents.drop-all, Passing.Going, Passing.going-starts, Passing.going-ends, Passing.going-asks, Passing.going-on, writing.put_pass.Statement.statement}
 use Rattle.work.proofs.writing.put_pass.Tie as tie
 
 abbrev Inv-loop : tie.InvT-loop

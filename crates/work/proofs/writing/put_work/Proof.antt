@@ -1,19 +1,12 @@
 -- `work::writing::put_work` meets its contract: the passes that are left, written here, leave what all of them leave. Assumes nothing.
-use borrow.Author.Needs.{needs}
-use native.Mathlib.Omega.{arith}
-use Prim.Native.Nat.{ℕ, _-_}
-use mathlib.Core.Path.{refl}
-use mathlib.Core.List.{List}
+use Rattle.terms.proofs.Common.{needs, arith, ℕ, _-_, refl, List}
 use Rattle.lengths.specs.declared.Point.{Point}
 use Rattle.codes.specs.declared.Distance.{Distance}
 use Rattle.words.specs.declared.Values.{Values}
-use Rattle.records.specs.declared.Record.{Record}
-use Rattle.records.specs.Path.{endOf}
-use Rattle.records.proofs.Written.{wrote-length}
-use Rattle.work.specs.declared.Pass.{Pass}
-use Rattle.work.specs.Work.{rowsOf, passesOf, leads, workRecords}
-use Rattle.work.proofs.Passing.{passes-to, passes-none, can-lead, Going, going-starts, going-ends, going-asks, going-on, Inside, inside-starts, inside-on}
+use Rattle.records.{specs.declared.Record.Record, specs.Path.endOf, proofs.Written.wrote-length}
+use Rattle.work.specs.{declared.Pass.Pass, Work.rowsOf, Work.passesOf, Work.leads, Work.workRecords}
 use Rattle.work.proofs.writing.put_work.Statement.{statement}
+use Rattle.work.proofs.Passing.{passes-to, passes-none, can-lead, Going, going-starts, going-ends, going-asks, going-on, Inside, inside-starts, inside-on}
 use Rattle.work.proofs.writing.put_work.Tie as tie
 
 abbrev rest : Pass → Distance → Point → Values → ℕ → Point → List Record
