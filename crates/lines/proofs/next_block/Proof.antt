@@ -1,5 +1,5 @@
 -- `lines::next_block` meets its contract: from each place reached the block ends where it did. Assumes nothing.
-use Prim.Native.Nat.{_+_, _-_, _≤_}
+use Prim.Native.Nat.{_+_, _-_}
 use mathlib.Core.Path.{_≡_}
 use native.Mathlib.Omega.{arith}
 use lib.ListN.{length, drop}
@@ -9,7 +9,7 @@ use Rattle.lines.proofs.next_block.Statement.{statement}
 use Rattle.lines.proofs.next_block.Tie as tie
 
 abbrev Inv-loop : tie.InvT-loop
-Inv-loop s at i₀ i = (i ≤ length s) × (at + lengthFrom (drop at s) ≡ i + lengthFrom (drop i s))
+Inv-loop s at i₀ i = at + lengthFrom (drop at s) ≡ i + lengthFrom (drop i s)
 
 abbrev μ-loop : tie.MeasureT-loop
 μ-loop s at i₀ i = length s - i
