@@ -52,10 +52,10 @@ fn ends_soon(s: &[u8], at: usize) -> bool
         | (s[at + 7] == b'\n')
 }
 
-// A place of the same block that is at most eight bytes from its end, or the same place.
-fn near_end(s: &[u8], at: usize) -> usize
+// A place of the same block, this one or a later one, that is less than eight bytes from the LF that ends it, or from the data's end.
+pub fn near_end(s: &[u8], at: usize) -> usize
     requires { ⌜ at ≤ length (now s) ⌝ }
-    ensures { λ r. ⌜ (r ≤ length (now (s .entry))) × (r + lengthFrom (drop r (now (s .entry))) ≡ at + lengthFrom (drop at (now (s .entry)))) ⌝ }
+    ensures { λ r. ⌜ (at ≤ r) × (r + lengthFrom (drop r (now (s .entry))) ≡ at + lengthFrom (drop at (now (s .entry)))) ⌝ }
 {
     let mut i = at;
     while 8 <= s.len() - i {

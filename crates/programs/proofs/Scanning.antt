@@ -2,7 +2,7 @@
 use Rattle.terms.proofs.Common.{ℕ, _+_, _≤_, _<_, _≡_, refl, sym, _∙_, ap, ap₂, true, false, false≢true, List, [], arith, decLt, eq-eqb, ne-eqb, eqb-true, length, drop, getD, length-drop}
 use Rattle.lines.{specs.Serving.blocksFrom, proofs.Laws.text-at}
 use Rattle.lines.specs.Blocks.{beginsWith, textFrom, lengthFrom, Block, blockFrom, isPercent}
-use Rattle.lines.proofs.Lines.{blocks-step, blocks-end, text-begins-end, text-begins-at, no-text-other, length-bound, length-at-more}
+use Rattle.lines.proofs.Lines.{blocks-step, blocks-end, text-begins-end, text-begins-at, no-text-other, percent-not, length-bound, length-at-lf, length-at-more}
 use Rattle.refusals.specs.declared.Refusal.{Refusal, the-variants.BadParameter}
 use Rattle.programs.specs.Found.{WellFound, subsOf, Entered, Empty}
 use Rattle.programs.specs.declared.{Program.Program, Entry.Entry, Entry.the-variants.Refuses, Entry.the-variants.Enters, Opening.the-variants.Number, Opening.the-variants.Bad, Programs.Programs}
@@ -42,42 +42,80 @@ module _ (main : Program) (l : List ℕ) (n at : ℕ) (subs : List Program) wher
 
 -- A scan that began with `first` at a place and has come to another: what is left gives the same.
 pub record Scan (l : List ℕ) (from number : ℕ) (first now : Programs) (at block : ℕ) : Type 0 where
-  pub inside : at ≤ length l
   pub counted : block ≤ at + 1
   pub ready : WellFound now
   pub main : now .main ≡ first .main
   pub left : scan (first .main) (blocksFrom l number from) (subsOf first) ≡ scan (first .main) (blocksFrom l block at) (subsOf now)
 
-pub scan-start : (l : List ℕ) (from number : ℕ) (t : Programs) → from ≤ length l → number ≤ from + 1 → WellFound t → Scan l from number t t from number
-scan-start l from number t h k r = record { inside = h; counted = k; ready = r; main = refl; left = refl }
+pub scan-start : (l : List ℕ) (from number : ℕ) (t : Programs) → number ≤ from + 1 → WellFound t → Scan l from number t t from number
+scan-start l from number t k r = record { counted = k; ready = r; main = refl; left = refl }
 
 -- a block lies inside the data
 pub next-inside : (l : List ℕ) (at : ℕ) → at ≤ length l → at + lengthFrom (drop at l) ≤ length l
 next-inside l at h = omega (arith, length-bound (drop at l), length-drop at l)
 
+-- a block that is neither the closing `%` nor an opening
+abbrev Plain : List ℕ → ℕ → Type 0
+Plain l at = (isPercent (textFrom (drop at l)) ≡ false) × (getD l at 0 ≡ 79 → ⊥)
+
+-- A block that began at a place is passed byte by byte: it ends where it would from the byte reached, and past its first byte it is plain.
+pub record Passing (l : List ℕ) (at i : ℕ) : Type 0 where
+  pub begun : at ≤ i
+  pub left : at + lengthFrom (drop at l) ≡ i + lengthFrom (drop i l)
+  pub plain : at < i → Plain l at
+
+pub passing-more :
+    {l : List ℕ} {at i : ℕ} (next : ℕ) → Passing l at i → i < length l → (getD l i 0 ≡ 10 → ⊥) → Plain l at
+    → (i + 1 ≤ next) × (next + lengthFrom (drop next l) ≡ i + 1 + lengthFrom (drop (i + 1) l)) → Passing l at next
+passing-more {l} {at} {i} next p h f t n = record { begun = omega arith; left = omega (arith, length-at-more l i h f); plain = λ k. t }
+
+-- a block whose first byte is an LF is plain too
+plain-lf : (l : List ℕ) (at i : ℕ) → Passing l at i → i < length l → getD l i 0 ≡ 10 → Plain l at
+plain-lf l at i p h e =
+    elim (decLt at i) [
+      | yes k ↦ p .plain k
+      | no f ↦
+          let same : at ≡ i = omega (arith, f) in
+          let lf : getD l at 0 ≡ 10 = ap (λ (k : ℕ). getD l k 0) same ∙ e in
+          (percent-not l at (omega arith) (λ g. omega arith), λ g. omega arith)
+    ]
+
 module _ {l : List ℕ} {from number : ℕ} {first now : Programs} {at block : ℕ} (s : Scan l from number first now at block) where
+  -- a plain block is passed, its LF with it
+  pub passed-plain : {i : ℕ} → Passing l at i → i < length l → getD l i 0 ≡ 10 → Scan l from number first now (i + 1) (block + 1)
+  passed-plain {i} p h e =
+      let t = plain-lf l at i p h e in
+      let next : at + lengthFrom (drop at l) ≡ i + 1 = omega (arith, length-at-lf l i h e) in
+      record {
+        counted = omega arith;
+        ready = s .ready;
+        main = s .main;
+        left =
+            s .left ∙ scan-plain (first .main) l block at (subsOf now) (omega arith) (t .0) (t .1)
+            ∙ ap (λ (k : ℕ). scan (first .main) (blocksFrom l (block + 1) k) (subsOf now)) next;
+      }
+
   -- where the scan stops, the table is what it has
-  pub stopped-end : length l ≤ at → table (now .main) (subsOf now) ≡ scan (first .main) (blocksFrom l number from) (subsOf first)
-  stopped-end h = ap (λ (p : Program). table p (subsOf now)) (s .main) ∙ sym (s .left ∙ scan-end (first .main) l block at (subsOf now) h)
+  stopped :
+      scan (first .main) (blocksFrom l block at) (subsOf now) ≡ table (first .main) (subsOf now)
+      → table (now .main) (subsOf now) ≡ scan (first .main) (blocksFrom l number from) (subsOf first)
+  stopped e = ap (λ (p : Program). table p (subsOf now)) (s .main) ∙ sym (s .left ∙ e)
+
+  pub stopped-end : {i : ℕ} → Passing l at i → length l ≤ i → table (now .main) (subsOf now) ≡ scan (first .main) (blocksFrom l number from) (subsOf first)
+  stopped-end p k =
+      elim (decLt at (length l)) [
+        | yes h ↦
+            let t = p .plain (omega arith) in
+            stopped (scan-plain (first .main) l block at (subsOf now) h (t .0) (t .1)
+            ∙ scan-end (first .main) l (block + 1) (at + lengthFrom (drop at l)) (subsOf now) (omega arith))
+        | no f ↦ stopped (scan-end (first .main) l block at (subsOf now) (omega (arith, f)))
+      ]
 
   module _ (h : at < length l) where
     pub stopped-percent : isPercent (textFrom (drop at l)) ≡ true → table (now .main) (subsOf now) ≡ scan (first .main) (blocksFrom l number from) (subsOf first)
-    stopped-percent e = ap (λ (p : Program). table p (subsOf now)) (s .main) ∙ sym (s .left ∙ scan-closed (first .main) l block at (subsOf now) h e)
+    stopped-percent e = stopped (scan-closed (first .main) l block at (subsOf now) h e)
 
     module _ (e : isPercent (textFrom (drop at l)) ≡ false) where
-      -- a block without an opening is passed, its LF with it
-      pub passed-plain : (next : ℕ) → (getD l at 0 ≡ 79 → ⊥) → at + lengthFrom (drop at l) ≡ next → at < next → Scan l from number first now next (block + 1)
-      passed-plain next f g k =
-          record {
-            inside = omega (arith, next-inside l at (s .inside));
-            counted = omega (arith, s .counted);
-            ready = s .ready;
-            main = s .main;
-            left =
-                s .left ∙ scan-plain (first .main) l block at (subsOf now) h e f
-                ∙ ap (λ (k : ℕ). scan (first .main) (blocksFrom l (block + 1) k) (subsOf now)) g;
-          }
-
       module _ (f : getD l at 0 ≡ 79) (entry : Entry) (was : entryOf (now .main) (subsOf now) (numberAfterO (textFrom (drop (at + 1) l))) ≡ entry) where
         at-opening :
             scan (first .main) (blocksFrom l number from) (subsOf first)
@@ -100,7 +138,6 @@ module _ {l : List ℕ} {from number : ℕ} {first now : Programs} {at block : �
       unfolding entered
       passed-opening n next with′ f was g d =
           record {
-            inside = omega (arith, next-inside l at (s .inside));
             counted = omega (arith, s .counted, length-at-more l at h (λ e. omega arith));
             ready = d .ready;
             main = d .main ∙ s .main;

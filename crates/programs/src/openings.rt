@@ -33,42 +33,51 @@ fn with_program(t: Programs, number: u64, block: usize, byte: usize) -> Programs
     next
 }
 
-// The openings from a block on, whose number and place are given, up to one that is refused or to the closing `%`.
+// The openings from a block on, whose number and place are given. A block's first byte is looked at, and then its bytes are passed up to its
+// LF; the scan is left from inside a block, at an opening that is refused or at the closing `%`.
 fn scan_openings(s: &[u8], from: usize, number: usize, found: Programs) -> Scanned
-    requires { ⌜ (from ≤ length (now s)) × (number ≤ from + 1) ⌝ }
+    requires { ⌜ number ≤ from + 1 ⌝ }
     requires { ⌜ WellFound found ⌝ }
     ensures { λ r. ⌜ Gives (scan (found .main) (blocksFrom (now (s .entry)) number from) (subsOf found)) r ⌝ }
 {
     let mut programs = found;
     let mut at = from;
     let mut block = number;
-    while at < s.len() {
-        if lines::is_percent(s, at) {
-            break;
-        }
-        let next = lines::next_block(s, at);
-        if s[at] != b'O' {
-            at = next;
-            block += 1;
-            continue;
-        }
-        match crate::entry_of(programs, crate::read_opening(s, at + 1)) {
-            Entry::Refuses(refusal) => {
-                let verdict = Verdict::Refused(refusal, Place { block, byte: at });
-                return Scanned { verdict, programs };
-            }
-            Entry::Enters(n) => {
-                at = next;
+    'blocks: loop {
+        let mut i = at;
+        while i < s.len() {
+            if s[i] == b'\n' {
+                at = i + 1;
                 block += 1;
-                programs = with_program(programs, n, block, at);
+                continue 'blocks;
+            }
+            if at < i {
+                i += 1;
                 continue;
             }
+            if lines::is_percent(s, at) {
+                break 'blocks;
+            }
+            if s[at] == b'O' {
+                match crate::entry_of(programs, crate::read_opening(s, at + 1)) {
+                    Entry::Refuses(refusal) => {
+                        let verdict = Verdict::Refused(refusal, Place { block, byte: at });
+                        return Scanned { verdict, programs };
+                    }
+                    Entry::Enters(n) => {
+                        at = lines::next_block(s, at);
+                        block += 1;
+                        programs = with_program(programs, n, block, at);
+                        continue 'blocks;
+                    }
+                }
+            }
+            i = lines::near_end(s, i + 1);
         }
+        break;
     }
-    Scanned {
-        verdict: Verdict::Fine,
-        programs,
-    }
+    let verdict = Verdict::Fine;
+    Scanned { verdict, programs }
 }
 
 // The programs of data whose first block is `%` alone: the main program, under an opening in the second block or without

@@ -5,7 +5,7 @@ use Rattle.lines.proofs.near_end.Statement.{statement}
 use Rattle.lines.proofs.near_end.Tie as tie
 
 abbrev Inv-loop : tie.InvT-loop
-Inv-loop s at i₀ i = (i ≤ length s) × (i + lengthFrom (drop i s) ≡ at + lengthFrom (drop at s))
+Inv-loop s at i₀ i = (at ≤ i) × (i ≤ length s) × (i + lengthFrom (drop i s) ≡ at + lengthFrom (drop at s))
 
 abbrev μ-loop : tie.MeasureT-loop
 μ-loop s at i₀ i = length s - i

@@ -1,11 +1,11 @@
 -- `lines::next_block` meets its contract: from each place reached the block ends where it did. Assumes nothing.
-use Rattle.terms.proofs.Common.{_+_, _-_, _≤_, _≡_, arith, length, drop}
+use Rattle.terms.proofs.Common.{_+_, _-_, _≡_, arith, length, drop}
 use Rattle.lines.specs.Blocks.{lengthFrom}
 use Rattle.lines.proofs.{Lines.length-at-lf, Lines.length-at-more, Lines.length-at-end, next_block.Statement.statement}
 use Rattle.lines.proofs.next_block.Tie as tie
 
 abbrev Inv-loop : tie.InvT-loop
-Inv-loop s at i₀ i = (i ≤ length s) × (at + lengthFrom (drop at s) ≡ i + lengthFrom (drop i s))
+Inv-loop s at i₀ i = at + lengthFrom (drop at s) ≡ i + lengthFrom (drop i s)
 
 abbrev μ-loop : tie.MeasureT-loop
 μ-loop s at i₀ i = length s - i

@@ -11,7 +11,7 @@ begins-with-requires c κs = omega (arith, c .next-block .ensures, next-inside (
 scan-openings-requires : tie.Need-scan-openings-requires
 scan-openings-requires c κs =
     let d = c .before .before .before in
-    ((omega (arith, d .next-block .ensures, next-inside (d .before .before .args .s .now) 0 (omega arith)), omega (arith, d .next-block .ensures, length-some (d .before .before .args .s .now) 0 (omega arith))), c .only-main .ensures .ready)
+    (omega (arith, d .next-block .ensures, length-some (d .before .before .args .s .now) 0 (omega arith)), c .only-main .ensures .ready)
 
 returns : tie.Need-returns
 returns c =
@@ -41,13 +41,8 @@ scan-openings-requires-2 c κs =
     let e = c .before .before .before .before .before .before in
     let o = opened e in
     let l = e .before .before .before .before .args .s .now in
-    let at = e .before .before .next-block .result in (
-      (
-        omega (arith, c .before .next-block2 .ensures, next-inside l at (omega (arith, o .0))),
-        omega (arith, c .before .next-block2 .ensures, length-some l at (o .0), e .before .before .next-block .ensures, length-some l 0 (omega (arith, o .0))),
-      ),
-      c .only-main3 .ensures .ready,
-    )
+    let at = e .before .before .next-block .result in
+    (omega (arith, c .before .next-block2 .ensures, length-some l at (o .0), e .before .before .next-block .ensures, length-some l 0 (omega (arith, o .0))), c .only-main3 .ensures .ready)
 
 returns-2 : tie.Need-returns-2
 unfolding tableBy
