@@ -17,7 +17,7 @@ use Rattle.runs.specs.Walk.{isSpent, oneLess, after, goingOn, thenRest, 
 
 unfoldable pub opened : Unit {0}
 unfolding
-    terms-opened lengths-opened codes-opened lines-opened words-opened points-opened setup-opened records-opened settings-opened
+    terms-opened lengths-opened codes-opened lines-opened words-opened setup-opened records-opened settings-opened
     letters-opened arcs-opened cycles-opened blocks-opened programs-opened firstOf finishOf runTable runBlocks outcome recordsOf
     answerBy answerOf standingOf isSpent oneLess after goingOn thenRest follow obey isSkipped slashLength verdictOn runBlock reached
     walk blocksFor callees
