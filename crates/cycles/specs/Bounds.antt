@@ -3,9 +3,10 @@ use Rattle.terms.specs.Common.{ℕ, _+_, _≤_, _≡_, List, _∷_, length, dro
 use Rattle.lengths.specs.{declared.Len.Len, View.Within, declared.Point.Point, declared.Travel.Travel, Near.Near}
 use Rattle.codes.specs.declared.{Cycle.Cycle, Return.Return}
 use Rattle.words.specs.declared.{Given.Given, Values.Values}
-use Rattle.records.specs.declared.Record.{Record}
+use Rattle.records.specs.declared.Record.{Record, the-variants.RP, the-variants.LN, the-variants.DW}
 use Rattle.settings.specs.Bounds.{Aims}
-use Rattle.cycles.specs.{declared.Hole.Hole, Cycles.leaving, Cycles.passTo, Cycles.passCount}
+use Rattle.cycles.specs.declared.{Hole.Hole, Row.Row, Row.the-variants.Rapid, Row.the-variants.Cut, Row.the-variants.Dwell}
+use Rattle.cycles.specs.Cycles.{leaving, passTo, passCount}
 
 -- what the levels of a hole lead from
 pub record Holes (origin from : Point) (v : Values) : Type 0 where
@@ -36,3 +37,9 @@ pub record PassLength (h : Hole) (n : ℕ) : Type 0 where
 -- the record at a place of a list, by what the list is from there on
 abbrev pub Stands : List Record → ℕ → Record → Type 0
 Stands rs i r = drop i rs ≡ r ∷ drop (i + 1) rs
+
+-- a row as the record that it is
+abbrev pub rowRecord : Row → Record
+rowRecord (Rapid p) = RP p
+rowRecord (Cut p feed) = LN p feed
+rowRecord (Dwell ms) = DW ms

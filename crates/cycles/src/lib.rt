@@ -5,18 +5,28 @@ use codes::Distance;
 use codes::Return;
 use lengths::Len;
 use lengths::Point;
-use records::Record;
+use records::Kind;
 use settings::State;
 use words::Given;
 use words::Values;
 ghost use mathlib.Core.Path.{_≡_};
 ghost use Rattle.lengths.specs.View.{Within};
 ghost use Prim.Native.Nat.{_<_};
-ghost use mathlib.Core.List.{_++_};
+ghost use mathlib.Core.List.{[], _∷_, _++_};
 ghost use lib.ListN.{length};
-ghost use Rattle.records.specs.Path.{endOf};
+ghost use Rattle.records.specs.Path.{pathOf, pathEnd, endOf};
+ghost use Rattle.records.specs.Layout.{kindOf, kindLength};
+ghost use Rattle.records.specs.Writing.{movedBytes, RoomFor};
+ghost use Rattle.records.specs.Serving.{Wrote};
 ghost use Rattle.cycles.specs.Cycles.{holeOf, levelsHold, returnLevel, dwelling, leaving, passTo};
-ghost use Rattle.cycles.specs.Bounds.{Holes, Counts, UpLength, PassLength, Stands};
+ghost use Rattle.cycles.specs.Bounds.{Holes, Counts, UpLength, PassLength, Stands, rowRecord};
+
+// A record of a pass: a rapid, a cut or a dwell.
+pub enum Row {
+    Rapid(Point),
+    Cut(Point, Len),
+    Dwell(Len),
+}
 
 // What a cycle does at each pass. The levels are heights in the frame of the common offset; z and dwell are missing
 // where no Z and no P stands.
@@ -117,27 +127,27 @@ pub fn row_count(h: Hole) -> usize
 }
 
 // The records of the way back up: the second one is the rapid that G98 adds to G85 and G89.
-fn row_up(h: Hole, i: usize, p: Point) -> Record
+fn row_up(h: Hole, i: usize, p: Point) -> Row
     requires { ⌜ i < length (leaving (h .cycle) h p) ⌝ }
-    ensures { λ r. ⌜ Stands (leaving (h .cycle) h p) i r ⌝ }
+    ensures { λ r. ⌜ Stands (leaving (h .cycle) h p) i (rowRecord r) ⌝ }
 {
     let cycle = h.cycle;
     let feed = h.feed;
     if i == 1 {
-        return Record::RP(lengths::at_height(p, h.initial));
+        return Row::Rapid(lengths::at_height(p, h.initial));
     }
     match cycle {
-        Cycle::G81 => Record::RP(lengths::at_height(p, return_level(h))),
-        Cycle::G82 => Record::RP(lengths::at_height(p, return_level(h))),
-        Cycle::G85 => Record::LN(lengths::at_height(p, h.r), feed),
-        Cycle::G89 => Record::LN(lengths::at_height(p, h.r), feed),
+        Cycle::G81 => Row::Rapid(lengths::at_height(p, return_level(h))),
+        Cycle::G82 => Row::Rapid(lengths::at_height(p, return_level(h))),
+        Cycle::G85 => Row::Cut(lengths::at_height(p, h.r), feed),
+        Cycle::G89 => Row::Cut(lengths::at_height(p, h.r), feed),
     }
 }
 
 // The records after the cut to Z: the dwell, where a P stands, and the way back up.
-fn row_after_cut(h: Hole, i: usize, p: Point) -> Record
+fn row_after_cut(h: Hole, i: usize, p: Point) -> Row
     requires { ⌜ i < length (dwelling (h .dwell) ++ leaving (h .cycle) h p) ⌝ }
-    ensures { λ r. ⌜ Stands (dwelling (h .dwell) ++ leaving (h .cycle) h p) i r ⌝ }
+    ensures { λ r. ⌜ Stands (dwelling (h .dwell) ++ leaving (h .cycle) h p) i (rowRecord r) ⌝ }
 {
     let dwell = h.dwell;
     let ms = dwell.v;
@@ -145,29 +155,29 @@ fn row_after_cut(h: Hole, i: usize, p: Point) -> Record
         return row_up(h, i, p);
     }
     if i == 0 {
-        return Record::DW(ms);
+        return Row::Dwell(ms);
     }
     row_up(h, i - 1, p)
 }
 
 // The i-th record of a pass at X, Y of a point, which comes at a level.
-pub fn row_at(h: Hole, i: usize, level: Len, p: Point) -> Record
+pub fn row_at(h: Hole, i: usize, level: Len, p: Point) -> Row
     requires { ⌜ i < length (passTo h level p) ⌝ }
-    ensures { λ r. ⌜ Stands (passTo h level p) i r ⌝ }
+    ensures { λ r. ⌜ Stands (passTo h level p) i (rowRecord r) ⌝ }
 {
     let z = h.z;
     let feed = h.feed;
     if !z.stands {
-        return Record::RP(lengths::at_height(p, h.initial));
+        return Row::Rapid(lengths::at_height(p, h.initial));
     }
     if i == 0 {
-        return Record::RP(lengths::at_height(p, level));
+        return Row::Rapid(lengths::at_height(p, level));
     }
     if i == 1 {
-        return Record::RP(lengths::at_height(p, h.r));
+        return Row::Rapid(lengths::at_height(p, h.r));
     }
     if i == 2 {
-        return Record::LN(lengths::at_height(p, z.v), feed);
+        return Row::Cut(lengths::at_height(p, z.v), feed);
     }
     row_after_cut(h, i - 3, p)
 }
@@ -181,5 +191,39 @@ pub fn pass_end(h: Hole, p: Point) -> Point
         lengths::at_height(p, return_level(h))
     } else {
         lengths::at_height(p, h.initial)
+    }
+}
+
+// Where a record of a pass leads from a point.
+pub fn row_end(from: Point, row: Row) -> Point
+    ensures { λ p. ⌜ p ≡ pathEnd from (pathOf (rowRecord row)) ⌝ }
+{
+    match row {
+        Row::Rapid(p) => p,
+        Row::Cut(p, _) => p,
+        Row::Dwell(_) => from,
+    }
+}
+
+// How many bytes it takes.
+pub fn row_room(row: Row) -> usize
+    ensures { λ n. ⌜ n ≡ kindLength (kindOf (rowRecord row)) ⌝ }
+{
+    match row {
+        Row::Rapid(_) => records::kind_length(Kind::RP),
+        Row::Cut(_, _) => records::kind_length(Kind::LN),
+        Row::Dwell(_) => records::kind_length(Kind::DW),
+    }
+}
+
+// Writes it at a place of the list, in machine units.
+pub fn put_row(list: &mut [u8], at: usize, by: Point, row: Row) -> usize
+    requires { ⌜ RoomFor (now list) at by (rowRecord row ∷ []) ⌝ }
+    ensures { λ next. ⌜ Wrote (now (list .entry)) at (movedBytes by (rowRecord row ∷ [])) (now (list .exit)) next ⌝ }
+{
+    match row {
+        Row::Rapid(p) => records::put_rapid(list, at, by, p),
+        Row::Cut(p, feed) => records::put_cut(list, at, by, p, feed),
+        Row::Dwell(ms) => records::put_single(list, at, Kind::DW, ms),
     }
 }

@@ -167,6 +167,9 @@ module _ {bed : Bed} {s : State} {b : Said} {p : Planned} (h : Plans bed s b p) 
         z = a .z;
       })
 
+  pub once : Once (p .work .passes) (p .work .pass)
+  once = pass-once bed s b (h .steady) (p .work .sound) (p .work .passes) (p .work .pass) (h .work .from)
+
   pub block-loose : (Near (2 ^ 61) (bed .offset)) × PassLoose (p .work .pass)
   block-loose = (target-sums bed s b (h .steady) .0, pass-loose bed s b (h .steady) (p .work .sound) (p .work .passes) (p .work .pass) (h .work .from))
 
@@ -185,7 +188,7 @@ module _ {bed : Bed} {s : State} {b : Said} {p : Planned} (h : Plans bed s b p) 
         record {
           leading = rw here leading;
           few = h .work .few;
-          once = pass-once bed s b (h .steady) (p .work .sound) (p .work .passes) (p .work .pass) (h .work .from);
+          once = once;
           ready = rw (here, h .works) (pass-ready bed s b (h .steady) (p .work .sound) (p .work .passes) (p .work .pass) (h .work .from) sound);
           room = rw is (omega (arith, room-few before, brief-few (p .first)));
           count = rw is (omega (arith, brief-few (p .first)));

@@ -14,7 +14,7 @@ use Rattle.work.{specs.Needs.Writable, proofs.Extents.way-ends, proofs.Extents.
 use Rattle.blocks.{specs.declared.Said.Said, specs.declared.Executed.the-variants.Refused, specs.Machine.machineOf, specs.Calling.freely, proofs.Making.made-fits, proofs.Making.made-short}
 use Rattle.blocks.specs.Exec.{Verdict, refused, accepted, working, settled, controlOf, madeBy}
 use Rattle.execution.specs.{declared.Planned.Planned, declared.Checked.Checked, Steps.judgedFrom, Steps.settledAt, Steps.plannedRecords, Steps.Plans, Steps.noneYet, Steps.checkedBy}
-use Rattle.execution.proofs.Ready.{at-is, made-is, sound-is, leading}
+use Rattle.execution.proofs.Ready.{at-is, made-is, sound-is, leading, once}
 use Rattle.execution.proofs.Verdicts.{sound-past, sound-stops, fits-past, stays-past, stays-stops, room-stops, room-past}
 use Rattle.execution.specs.declared.Checked.the-variants as Checked
 
@@ -143,4 +143,4 @@ module _ {bed : Bed} {s : State} {b : Said} {p : Planned} (h : Plans bed s b p) 
           let work = workRecords (p .work) (p .aim) from in
           let parts = stays-both (bed .travel) from first work (stays-both (bed .travel) from (first ++ work) (briefRecords (p .last)) stay .0) in
           let still : endOf from first ≡ from = still-ends from first (brief-still (p .first)) in
-          record { travel = bed .travel; leading = leading h; stays = rw still at (parts .1) }
+          record { travel = bed .travel; leading = leading h; once = once h; stays = rw still at (parts .1) }

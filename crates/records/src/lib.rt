@@ -18,8 +18,10 @@ use lengths::Len;
 use lengths::Point;
 pub use loading::read;
 pub use storing::put;
+pub use storing::put_cut;
 pub use storing::put_mark;
-pub use storing::put_number;
+pub use storing::put_rapid;
+pub use storing::put_single;
 
 // What AR and AL hold: the plane, the end, the centre by the plane's first and second axis, and the feed.
 pub struct Arc {

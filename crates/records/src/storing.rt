@@ -10,9 +10,9 @@ ghost use mathlib.Core.Path.{_≡_};
 ghost use mathlib.Core.List.{[], _∷_, _++_};
 ghost use lib.ListN.{length};
 ghost use Rattle.lengths.specs.View.{Short};
-ghost use Rattle.records.specs.Layout.{kindOf, markOf, planeByte, planeBytes, pointNumbers, arcNumbers, numbersOf, numberBytes, kindLength};
-ghost use Rattle.records.specs.Path.{recordMoved};
-ghost use Rattle.records.specs.Writing.{AllShort, Displaceable, movedBytes, RoomFor};
+ghost use Rattle.records.specs.declared.Record.the-variants.{RP, LN};
+ghost use Rattle.records.specs.Layout.{markOf, planeByte, pointNumbers, arcNumbers, numberBytes};
+ghost use Rattle.records.specs.Writing.{AllShort, movedBytes, RoomFor};
 ghost use Rattle.records.specs.Serving.{Wrote};
 
 pub fn put_number(list: &mut [u8], at: usize, n: Len) -> usize
@@ -72,26 +72,31 @@ pub fn put_mark(list: &mut [u8], at: usize, kind: Kind) -> usize
     at + 2
 }
 
-// What comes after the mark, in machine units: the offset is added as the record is written, so that no displaced copy of it is made.
-fn put_body(list: &mut [u8], at: usize, by: Point, r: Record) -> usize
-    requires { ⌜ at + kindLength (kindOf r) ≤ length (now list) + 2 ⌝ }
-    requires { ⌜ Displaceable by r ⌝ }
-    ensures { λ next. ⌜ Wrote (now (list .entry)) at (planeBytes (recordMoved by r) ++ numberBytes (numbersOf (recordMoved by r))) (now (list .exit)) next ⌝ }
+// A rapid and a cut in machine units: the offset is added as the record is written, so that no displaced copy of it is made.
+pub fn put_rapid(list: &mut [u8], at: usize, by: Point, p: Point) -> usize
+    requires { ⌜ RoomFor (now list) at by (RP p ∷ []) ⌝ }
+    ensures { λ next. ⌜ Wrote (now (list .entry)) at (movedBytes by (RP p ∷ [])) (now (list .exit)) next ⌝ }
 {
-    match r {
-        Record::RP(p) => put_point(list, at, lengths::moved(by, p)),
-        Record::LN(p, feed) => {
-            let next = put_point(list, at, lengths::moved(by, p));
-            put_number(list, next, feed)
-        }
-        Record::AR(a) => put_arc(list, at, crate::displaced_arc(by, a)),
-        Record::AL(a) => put_arc(list, at, crate::displaced_arc(by, a)),
-        Record::DW(ms) => put_number(list, at, ms),
-        Record::SP(speed) => put_number(list, at, speed),
-        Record::SO => at,
-        Record::PA => at,
-        Record::EN => at,
-    }
+    let body = put_mark(list, at, Kind::RP);
+    put_point(list, body, lengths::moved(by, p))
+}
+
+pub fn put_cut(list: &mut [u8], at: usize, by: Point, p: Point, feed: Len) -> usize
+    requires { ⌜ RoomFor (now list) at by (LN p feed ∷ []) ⌝ }
+    ensures { λ next. ⌜ Wrote (now (list .entry)) at (movedBytes by (LN p feed ∷ [])) (now (list .exit)) next ⌝ }
+{
+    let body = put_mark(list, at, Kind::LN);
+    let next = put_point(list, body, lengths::moved(by, p));
+    put_number(list, next, feed)
+}
+
+// A mark and a number: a dwell or a spindle speed.
+pub fn put_single(list: &mut [u8], at: usize, kind: Kind, n: Len) -> usize
+    requires { ⌜ (at + 6 ≤ length (now list)) × Short (n .v) ⌝ }
+    ensures { λ next. ⌜ Wrote (now (list .entry)) at (markOf kind ++ numberBytes (n ∷ [])) (now (list .exit)) next ⌝ }
+{
+    let body = put_mark(list, at, kind);
+    put_number(list, body, n)
 }
 
 // Writes a record at a place, in machine units; every other byte of the list stays as it is.
@@ -99,6 +104,21 @@ pub fn put(list: &mut [u8], at: usize, by: Point, r: Record) -> usize
     requires { ⌜ RoomFor (now list) at by (r ∷ []) ⌝ }
     ensures { λ next. ⌜ Wrote (now (list .entry)) at (movedBytes by (r ∷ [])) (now (list .exit)) next ⌝ }
 {
-    let body = put_mark(list, at, crate::kind_of(r));
-    put_body(list, body, by, r)
+    match r {
+        Record::RP(p) => put_rapid(list, at, by, p),
+        Record::LN(p, feed) => put_cut(list, at, by, p, feed),
+        Record::AR(a) => {
+            let body = put_mark(list, at, Kind::AR);
+            put_arc(list, body, crate::displaced_arc(by, a))
+        }
+        Record::AL(a) => {
+            let body = put_mark(list, at, Kind::AL);
+            put_arc(list, body, crate::displaced_arc(by, a))
+        }
+        Record::DW(ms) => put_single(list, at, Kind::DW, ms),
+        Record::SP(speed) => put_single(list, at, Kind::SP, speed),
+        Record::SO => put_mark(list, at, Kind::SO),
+        Record::PA => put_mark(list, at, Kind::PA),
+        Record::EN => put_mark(list, at, Kind::EN),
+    }
 }

@@ -1,13 +1,13 @@
 -- Where records lead and what they come to, one after the other. Assumes nothing.
 use Rattle.terms.proofs.Common.{ℕ, zero, suc, _+_, _*_, _≤_, _<_, _≡_, refl, sym, _∙_, ap, Bool, true, false, _&&_, List, [], _∷_, _++_, arith, length, drop, length-append}
-use Rattle.lengths.specs.declared.{Len.Len, Point.Point, Travel.Travel}
+use Rattle.lengths.specs.{declared.Len.Len, declared.Point.Point, declared.Travel.Travel, Points.inside}
 use Rattle.records.specs.{declared.Record.Record, Layout.kindOf, Layout.kindLength, Layout.roomOf, Path.pathOf, Path.pathEnd, Path.endOf, Path.pathStaysIn}
 use Rattle.records.proofs.Moved.{room-append, kind-few}
-use Rattle.arcs.{specs.Arcs.pathStays, specs.Bounds.PathBounds, specs.Staying.staysIn, proofs.Paths.end-append, proofs.Paths.stays-append}
-use Rattle.cycles.{specs.Cycles.passTo, specs.Bounds.Stands, proofs.Rows.pass-few}
+use Rattle.arcs.{specs.Arcs.pathStays, specs.Staying.staysIn, proofs.Paths.end-append, proofs.Paths.stays-append}
+use Rattle.cycles.specs.declared.Row.{Row, the-variants.Rapid, the-variants.Cut, the-variants.Dwell}
+use Rattle.cycles.{specs.Bounds.Stands, specs.Bounds.rowRecord, proofs.Rows.pass-few}
 use Rattle.work.specs.declared.{Pass.Pass, Pass.the-variants.One, Pass.the-variants.Drill, Extent.Extent, Way.the-variants.Ends, Way.the-variants.Leaves}
-use Rattle.work.specs.{Work.rowsOf, Work.grown, Work.wayOf, Needs.PassReady}
-use Rattle.work.proofs.Plain.{plain-at, pass-plain}
+use Rattle.work.specs.Work.{rowsOf, grown, wayOf}
 
 -- ---- what records come to
 
@@ -73,6 +73,27 @@ module _ (t : Travel) (e : Extent) where
             absurd (omega arith)
         go false g = g
 
+-- ---- one record
+
+one-stays : (t : Travel) (end : Point) (r : Record) → staysIn t end (r ∷ []) ≡ pathStays t end (pathOf r)
+unfolding pathStaysIn
+one-stays t end r = go (pathStays t end (pathOf r))
+  where
+    go : (b : Bool) → (b && true) ≡ b
+    go true = refl
+    go false = refl
+
+module _ (t : Travel) (e : Extent) (r : Record) where
+  pub one-leaves : pathStays t (e .end) (pathOf r) ≡ false → Leaves ≡ wayOf t e (r ∷ [])
+  unfolding wayOf
+  one-leaves f = rw (one-stays t (e .end) r, f)
+
+  pub one-ends :
+      pathStays t (e .end) (pathOf r) ≡ true → {end : Point} {n : ℕ} → end ≡ pathEnd (e .end) (pathOf r) → n ≡ kindLength (kindOf r)
+      → Ends (record { end = end; room = e .room + n; count = e .count + 1 }) ≡ wayOf t e (r ∷ [])
+  unfolding wayOf
+  one-ends f g k = rw (one-stays t (e .end) r, f) (ap Ends (grown-one e r g k))
+
 -- ---- one pass, record by record
 
 pub drop-all : (rs : List Record) (i : ℕ) → length rs ≤ i → drop i rs ≡ []
@@ -85,7 +106,6 @@ drop-all (r ∷ rs) (suc i) k = drop-all rs i (omega (arith, k))
 pub record Tested (t : Travel) (e : Extent) (rs : List Record) (i : ℕ) (end : Point) (room : ℕ) : Type 0 where
   pub most : i ≤ length rs
   pub little : room ≤ e .room + 27 * i
-  pub first : i ≡ 0 → end ≡ e .end
   pub way : wayOf t e rs ≡ wayOf t (record { end = end; room = room; count = e .count + i }) (drop i rs)
 
 module _ (t : Travel) (e : Extent) (rs : List Record) where
@@ -94,7 +114,6 @@ module _ (t : Travel) (e : Extent) (rs : List Record) where
       record {
         most = omega arith;
         little = omega arith;
-        first = λ z. refl;
         way = let n : e .count + 0 ≡ e .count = omega arith in rw n;
       }
 
@@ -109,16 +128,8 @@ module _ (t : Travel) (e : Extent) (rs : List Record) where
         rw (← same) (sym (h .way ∙ rw gone (way-none t so-far)))
 
     module _ {r : Record} (s : Stands rs i r) where
-      one-stays : staysIn t end (r ∷ []) ≡ pathStays t end (pathOf r)
-      unfolding pathStaysIn
-      one-stays = go (pathStays t end (pathOf r))
-        where
-          go : (b : Bool) → (b && true) ≡ b
-          go true = refl
-          go false = refl
-
       pub tested-leaves : pathStays t end (pathOf r) ≡ false → Leaves ≡ wayOf t e rs
-      tested-leaves f = sym (h .way ∙ rw s (way-stops t so-far (r ∷ []) (drop (i + 1) rs) (one-stays ∙ f)))
+      tested-leaves f = sym (h .way ∙ rw s (way-stops t so-far (r ∷ []) (drop (i + 1) rs) (one-stays t end r ∙ f)))
 
       pub tested-next :
           pathStays t end (pathOf r) ≡ true → i < length rs → {end′ : Point} {n : ℕ} → end′ ≡ pathEnd end (pathOf r) → n ≡ kindLength (kindOf r)
@@ -127,28 +138,20 @@ module _ (t : Travel) (e : Extent) (rs : List Record) where
           record {
             most = omega (arith, some);
             little = omega (arith, h .little, k, kind-few r);
-            first = λ z. absurd (omega (arith, z));
             way =
                 let more : e .count + i + 1 ≡ e .count + (i + 1) = omega arith in
-                h .way ∙ rw s (way-on t so-far (r ∷ []) (drop (i + 1) rs) (one-stays ∙ f))
+                h .way ∙ rw s (way-on t so-far (r ∷ []) (drop (i + 1) rs) (one-stays t end r ∙ f))
                 ∙ ap (λ (x : Extent). wayOf t x (drop (i + 1) rs)) (sym (grown-one so-far r g k) ∙ rw more);
           }
 
--- what the test of a record's path asks: the records of a hole are plain, and the one record of another pass has been accepted
-pub row-ready :
-    (t : Travel) (e : Extent) (pass : Pass) (level : Len) (to : Point) (i : ℕ) {end : Point} {room : ℕ} {r : Record} → PassReady t (e .end) pass
-    → Tested t e (rowsOf pass level to) i end room → Stands (rowsOf pass level to) i r → PathBounds t end (pathOf r)
-unfolding rowsOf
-row-ready t e (One x) level to zero {end} {room} {r} ready h s =
-    let same : x ≡ r = cc in
-    let here : end ≡ e .end = h .first refl in
-    rw (here, ← same) ready
-row-ready t e (One x) level to (suc i) ready h s = absurd (none i s)
-  where
-    none : {r : Record} (i : ℕ) → Stands (x ∷ []) (suc i) r → ⊥
-    none zero s = let no : _≡_ {A = ℕ} 0 1 = cc in omega arith
-    none (suc i) s = let no : _≡_ {A = ℕ} 0 1 = cc in omega arith
-row-ready t e (Drill hole) level to i {end} ready h s = plain-at (passTo hole level to) i (pass-plain hole to level) s t end
+-- a record of a hole is no arc: its path stays where it ends inside
+pub row-stays :
+    (t : Travel) (end : Point) → inside t end ≡ true → (row : Row)
+    → pathStays t end (pathOf (rowRecord row)) ≡ inside t (pathEnd end (pathOf (rowRecord row)))
+unfolding pathStays pathOf pathEnd
+row-stays t end h (Rapid p) = refl
+row-stays t end h (Cut p feed) = refl
+row-stays t end h (Dwell ms) = sym h
 
 -- a pass has six records at most
 pub rows-few : (pass : Pass) (level : Len) (to : Point) → length (rowsOf pass level to) ≤ 6

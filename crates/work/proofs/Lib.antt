@@ -1,7 +1,6 @@
 pub mod Opened
 pub mod Centring
 pub mod Plans
-pub mod Plain
 pub mod Extents
 pub mod Passing
 pub mod Briefs

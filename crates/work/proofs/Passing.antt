@@ -1,13 +1,14 @@
 -- Pass after pass: what holds between two of them, while they are tested and while they are written. Assumes nothing.
-use Rattle.terms.proofs.Common.{ℕ, zero, suc, _+_, _*_, _-_, _≤_, _<_, _≡_, refl, sym, _∙_, true, List, [], _++_, arith, length}
+use Rattle.terms.proofs.Common.{ℕ, zero, suc, _+_, _*_, _-_, _≤_, _<_, _≡_, refl, sym, _∙_, true, List, [], _∷_, _++_, arith, length}
 use Rattle.lengths.specs.{declared.Point.Point, declared.Travel.Travel, Points.inside}
 use Rattle.records.specs.{declared.Record.Record, Path.endOf, Serving.Wrote, Writing.movedBytes, Writing.RoomFor}
 use Rattle.records.proofs.Moved.{room-few, put-as, put-none, put-then, ready-as, ready-left, ready-right}
 use Rattle.settings.specs.Bounds.{Aims}
+use Rattle.cycles.specs.declared.Hole.{Hole}
 use Rattle.arcs.{specs.Staying.staysIn, proofs.Paths.stays-both, proofs.Paths.stays-inside, proofs.Paths.inside-near}
 use Rattle.work.specs.declared.{Pass.Pass, Pass.the-variants.One, Pass.the-variants.Drill, Work.Work, Aim.Aim, Extent.Extent, Way.the-variants.Ends, Way.the-variants.Leaves}
-use Rattle.work.specs.Needs.{PassReady, Once, Leading, Testable, Little}
-use Rattle.work.specs.Work.{rowsOf, passesOf, leads, workRecords, grown, wayOf}
+use Rattle.work.specs.Needs.{Once, Leading, Testable, Writable, Little}
+use Rattle.work.specs.Work.{rowsOf, passesOf, leads, workRecords, drilled, grown, wayOf}
 use Rattle.work.proofs.Extents.{way-none, way-on, way-stops, way-ends, way-leaves}
 
 -- the passes that are left, by one more of them
@@ -34,13 +35,37 @@ pub can-lead : {t : Travel} {aim : Aim} {from : Point} → Leading t aim from �
 can-lead {t} h p e =
     record { origin = h .origin; from = inside-near t p (h .low) (h .high) e; x = h .x; y = h .y; z = h .z }
 
+-- ---- what a block makes, by its pass
+
+module _ (w : Work) (aim : Aim) (from : Point) where
+  pub work-none : w .passes ≡ 0 → workRecords w aim from ≡ []
+  unfolding workRecords passesOf
+  work-none e = rw e
+
+  pub work-one : {r : Record} → w .pass ≡ One r → Once (w .passes) (w .pass) → (w .passes ≡ 0 → ⊥) → workRecords w aim from ≡ r ∷ []
+  unfolding workRecords passesOf rowsOf
+  work-one e once some =
+      let few = rw e at once in
+      let n : w .passes ≡ 1 = omega (arith, few, some) in
+      rw (n, e)
+
+  module _ {h : Hole} (e : w .pass ≡ Drill h) where
+    pub work-drills : workRecords w aim from ≡ workRecords (drilled h (w .passes)) aim from
+    unfolding workRecords
+    work-drills = rw e
+
+    pub drills-writable : Writable w aim from → Writable (drilled h (w .passes)) aim from
+    drills-writable k = record { travel = k .travel; leading = k .leading; once = tt; stays = rw work-drills at (k .stays) }
+
+pub drills-testable : {t : Travel} {w : Work} {aim : Aim} {e : Extent} (h : Hole) → Testable t w aim e → Testable t (drilled h (w .passes)) aim e
+drills-testable h k = record { leading = k .leading; few = k .few; once = tt; ready = tt; room = k .room; count = k .count }
+
 -- ---- tested
 
 -- what is left of the passes leads to where all lead
 pub record Leads (t : Travel) (pass : Pass) (passes : ℕ) (aim : Aim) (e : Extent) (so-far : Extent) (left : ℕ) : Type 0 where
   pub inside : inside t (so-far .end) ≡ true
   pub most : left ≤ passes
-  pub first : left ≡ passes → so-far .end ≡ e .end
   pub room : so-far .room + 162 * left ≤ e .room + 162 * passes
   pub count : so-far .count + 6 * left ≤ e .count + 6 * passes
   pub way : wayOf t e (passesOf passes pass (leads aim) (e .end)) ≡ wayOf t so-far (passesOf left pass (leads aim) (so-far .end))
@@ -48,7 +73,7 @@ pub record Leads (t : Travel) (pass : Pass) (passes : ℕ) (aim : Aim) (e : Exte
 module _ (t : Travel) (w : Work) (aim : Aim) (e : Extent) (h : Testable t w aim e) where
   pub leads-starts : Leads t (w .pass) (w .passes) aim e e (w .passes)
   leads-starts =
-      record { inside = h .leading .inside; most = omega arith; first = λ z. refl; room = omega arith; count = omega arith; way = refl }
+      record { inside = h .leading .inside; most = omega arith; room = omega arith; count = omega arith; way = refl }
 
   module _ {so-far : Extent} {left : ℕ} (l : Leads t (w .pass) (w .passes) aim e so-far left) where
     pub leads-aims : Aims (aim .origin) (so-far .end) (aim .values)
@@ -56,14 +81,6 @@ module _ (t : Travel) (w : Work) (aim : Aim) (e : Extent) (h : Testable t w aim 
 
     pub leads-little : Little so-far
     leads-little = record { room = omega (arith, l .room, h .room, h .few); count = omega (arith, l .count, h .count, h .few) }
-
-    -- a pass of one record begins where the work begins
-    pub leads-ready : 0 < left → PassReady t (so-far .end) (w .pass)
-    leads-ready some = go (w .pass) (h .once) (h .ready)
-      where
-        go : (pass : Pass) → Once (w .passes) pass → PassReady t (e .end) pass → PassReady t (so-far .end) pass
-        go (One r) once ready = rw (l .first (omega (arith, l .most, once, some))) ready
-        go (Drill hole) once ready = tt
 
     pub leads-ends : left ≤ 0 → Ends so-far ≡ wayOf t e (workRecords w aim (e .end))
     unfolding workRecords
@@ -94,7 +111,6 @@ module _ (t : Travel) (w : Work) (aim : Aim) (e : Extent) (h : Testable t w aim 
           (record {
             inside = stays-inside t (so-far .end) rows (l .inside) (c .stays);
             most = omega (arith, l .most);
-            first = λ z. absurd (omega (arith, z, l .most, some));
             room = omega (arith, l .room, room-few rows, short, some);
             count = omega (arith, l .count, short, some);
             way =

@@ -110,4 +110,5 @@ pub record Testable (t : Travel) (w : Work) (aim : Aim) (e : Extent) : Type 0 wh
 pub record Writable (w : Work) (aim : Aim) (from : Point) : Type 0 where
   pub travel : Travel
   pub leading : Leading travel aim from
+  pub once : Once (w .passes) (w .pass)
   pub stays : staysIn travel from (workRecords w aim from) ≡ true

@@ -7,7 +7,7 @@ use Rattle.records.specs.{declared.Arc.Arc, declared.Record.Record, Layout.room
 use Rattle.records.specs.declared.Record.the-variants.{RP, LN, AR, AL, SP, SO, PA, EN}
 use Rattle.settings.specs.{declared.State.State, Target.target}
 use Rattle.arcs.specs.{Arcs.centreFits, Staying.staysIn}
-use Rattle.cycles.specs.Cycles.{passTo}
+use Rattle.cycles.specs.{declared.Hole.Hole, Cycles.passTo}
 use Rattle.blocks.specs.Motions.{isLarger}
 use Rattle.codes.specs.declared.Motion.{Motion, the-variants.Off, the-variants.G00, the-variants.G01, the-variants.G02, the-variants.G03, the-variants.Drilling}
 use Rattle.work.specs.declared.{Pass.Pass, Pass.the-variants.One, Pass.the-variants.Drill, Work.Work, Brief.Brief, Aim.Aim, Extent.Extent, Way.Way}
@@ -40,6 +40,10 @@ noWork sound = record { pass = One PA; passes = 0; sound = sound }
 
 abbrev pub oneWork : Record → Bool → Work
 oneWork r sound = record { pass = One r; passes = 1; sound = sound }
+
+-- the passes of a hole
+abbrev pub drilled : Hole → ℕ → Work
+drilled h passes = record { pass = Drill h; passes = passes; sound = true }
 
 -- a rapid or a cut, and an arc by its sense
 unfoldable pub straightRecord : Bool → Point → Len → Record

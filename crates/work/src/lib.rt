@@ -1,6 +1,5 @@
 // What a block makes by its motion: so many passes of the same few records, tested as a whole and then written.
 mod planning;
-mod rows;
 mod testing;
 mod writing;
 

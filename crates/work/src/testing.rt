@@ -5,15 +5,22 @@ use crate::Extent;
 use crate::Pass;
 use crate::Way;
 use crate::Work;
-use crate::rows;
+use cycles::Hole;
 use lengths::Point;
 use lengths::Travel;
 use records::Kind;
+use records::Record;
 ghost use Prim.Native.Nat.{_+_, _^_, _≤_};
 ghost use mathlib.Core.Path.{_≡_};
+ghost use mathlib.Core.Bool.{true};
+ghost use mathlib.Core.List.{[], _∷_};
 ghost use Rattle.lengths.specs.Near.{Near};
-ghost use Rattle.work.specs.Work.{rowsOf, workRecords, briefRecords, passFits, grown, wayOf};
-ghost use Rattle.work.specs.Needs.{PassLoose, PassReady, Little, Testable};
+ghost use Rattle.lengths.specs.Points.{inside};
+ghost use Rattle.records.specs.Path.{pathOf};
+ghost use Rattle.arcs.specs.Bounds.{PathBounds};
+ghost use Rattle.cycles.specs.Cycles.{passTo};
+ghost use Rattle.work.specs.Work.{workRecords, drilled, briefRecords, passFits, grown, wayOf};
+ghost use Rattle.work.specs.Needs.{PassLoose, Little, Testable};
 
 // Whether the centres of the records fit four bytes in machine units. A hole has none.
 pub fn work_fits(offset: Point, w: Work) -> bool
@@ -27,12 +34,11 @@ pub fn work_fits(offset: Point, w: Work) -> bool
     }
 }
 
-// One record more that leads nowhere, and takes so many bytes.
-fn longer(e: Extent, bytes: usize) -> Extent
+// One record more, which leads to a point and takes so many bytes.
+fn longer(e: Extent, end: Point, bytes: usize) -> Extent
     requires { ⌜ (Little e) × (bytes ≤ 27) ⌝ }
-    ensures { λ x. ⌜ x ≡ record { end = e .end; room = e .room + bytes; count = e .count + 1 } ⌝ }
+    ensures { λ x. ⌜ x ≡ record { end = end; room = e .room + bytes; count = e .count + 1 } ⌝ }
 {
-    let end = e.end;
     Extent {
         end,
         room: e.room + bytes,
@@ -40,35 +46,48 @@ fn longer(e: Extent, bytes: usize) -> Extent
     }
 }
 
-// But for the spindle's such a record is its mark alone.
+// Such a record leads nowhere, and but for the spindle's it is its mark alone.
 pub fn with_brief(e: Extent, b: Brief) -> Extent
     requires { ⌜ Little e ⌝ }
     ensures { λ x. ⌜ x ≡ grown e (briefRecords b) ⌝ }
 {
     match b {
         Brief::Nothing => e,
-        Brief::Speed(_) => longer(e, records::kind_length(Kind::SP)),
-        _ => longer(e, records::kind_length(Kind::SO)),
+        Brief::Speed(_) => longer(e, e.end, records::kind_length(Kind::SP)),
+        _ => longer(e, e.end, records::kind_length(Kind::SO)),
     }
 }
 
-// One pass to X, Y of a point, from where the tool is.
-fn check_pass(t: Travel, pass: Pass, to: Point, e: Extent) -> Way
-    requires { ⌜ (PassReady t (e .end) pass) × Little e ⌝ }
-    ensures { λ w. ⌜ w ≡ wayOf t e (rowsOf pass (e .end .z) to) ⌝ }
+// One record, from where the tool is.
+fn check_record(t: Travel, r: Record, e: Extent) -> Way
+    requires { ⌜ (PathBounds t (e .end) (pathOf r)) × Little e ⌝ }
+    ensures { λ w. ⌜ w ≡ wayOf t e (r ∷ []) ⌝ }
 {
-    let n = rows::row_count(pass);
+    let from = e.end;
+    if !arcs::path_stays(t, from, r) {
+        return Way::Leaves;
+    }
+    Way::Ends(longer(e, records::path_end(from, r), records::room(r)))
+}
+
+// One pass to X, Y of a point, from where the tool is, inside the travel. It has no arc, so that its path stays where each of its
+// records ends inside.
+fn check_pass(t: Travel, h: Hole, to: Point, e: Extent) -> Way
+    requires { ⌜ (inside t (e .end) ≡ true) × Little e ⌝ }
+    ensures { λ w. ⌜ w ≡ wayOf t e (passTo h (e .end .z) to) ⌝ }
+{
+    let n = cycles::row_count(h);
     let mut end = e.end;
     let level = end.z;
     let mut room = e.room;
     let mut i = 0;
     while i < n {
-        let r = rows::row_at(pass, i, level, to);
-        if !arcs::path_stays(t, end, r) {
+        let row = cycles::row_at(h, i, level, to);
+        end = cycles::row_end(end, row);
+        if !lengths::is_inside(t, end) {
             return Way::Leaves;
         }
-        end = records::path_end(end, r);
-        room += records::room(r);
+        room += cycles::row_room(row);
         i += 1;
     }
     Way::Ends(Extent {
@@ -78,25 +97,41 @@ fn check_pass(t: Travel, pass: Pass, to: Point, e: Extent) -> Way
     })
 }
 
-// All passes. G91 adds X and Y at each pass, up to 9,999 times: the first pass that leaves the travel ends the search, so that no
-// point lies further from the travel than one word leads.
-pub fn check_work(t: Travel, w: Work, aim: Aim, e: Extent) -> Way
-    requires { ⌜ Testable t w aim e ⌝ }
-    ensures { λ r. ⌜ r ≡ wayOf t e (workRecords w aim (e .end)) ⌝ }
+// All passes of a hole. G91 adds X and Y at each pass, up to 9,999 times: the first pass that leaves the travel ends the search, so that
+// no point lies further from the travel than one word leads.
+fn check_passes(t: Travel, h: Hole, passes: u64, aim: Aim, e: Extent) -> Way
+    requires { ⌜ Testable t (drilled h passes) aim e ⌝ }
+    ensures { λ r. ⌜ r ≡ wayOf t e (workRecords (drilled h passes) aim (e .end)) ⌝ }
 {
-    let pass = w.pass;
     let distance = aim.distance;
     let origin = aim.origin;
     let values = aim.values;
-    let mut left = w.passes;
+    let mut left = passes;
     let mut so_far = e;
     while 0 < left {
         let to = settings::target_point(distance, origin, so_far.end, values);
-        let Way::Ends(next) = check_pass(t, pass, to, so_far) else {
+        let Way::Ends(next) = check_pass(t, h, to, so_far) else {
             return Way::Leaves;
         };
         so_far = next;
         left -= 1;
     }
     Way::Ends(so_far)
+}
+
+// What a block makes by its motion: one record at most, or the passes of a hole.
+pub fn check_work(t: Travel, w: Work, aim: Aim, e: Extent) -> Way
+    requires { ⌜ Testable t w aim e ⌝ }
+    ensures { λ r. ⌜ r ≡ wayOf t e (workRecords w aim (e .end)) ⌝ }
+{
+    let pass = w.pass;
+    match pass {
+        Pass::One(r) => {
+            if w.passes == 0 {
+                return Way::Ends(e);
+            }
+            check_record(t, r, e)
+        }
+        Pass::Drill(h) => check_passes(t, h, w.passes, aim, e),
+    }
 }

@@ -1,43 +1,32 @@
--- `work::testing::check_work` meets its contract: the passes that are left lead to where all lead. Assumes nothing.
-use Rattle.terms.proofs.Common.{needs, arith, sym, _∙_}
-use Rattle.work.proofs.{Extents.rows-few, testing.check_work.Statement.statement}
-use Rattle.work.proofs.Passing.{Leads, leads-starts, leads-aims, leads-little, leads-ready, leads-ends, leads-leaves, leads-on}
+-- `work::testing::check_work` meets its contract: no record, one, or the passes of a hole. Assumes nothing.
+use Rattle.terms.proofs.Common.{needs, arith, sym, _∙_, ap}
+use Rattle.work.specs.Work.{wayOf}
+use Rattle.work.proofs.{Extents.way-none, Passing.work-none, Passing.work-one, Passing.work-drills, Passing.drills-testable, testing.check_work.Statement.statement}
 use Rattle.work.proofs.testing.check_work.Tie as tie
 
-abbrev Inv-loop : tie.InvT-loop
-Inv-loop t pass distance origin values left₀ so-far₀ left so-far =
-    Leads t pass left₀ (record { distance = distance; origin = origin; values = values }) so-far₀ so-far left
-
-abbrev μ-loop : tie.MeasureT-loop
-μ-loop t pass distance origin values left₀ so-far₀ left so-far = left
-
-loop-holds : tie.Need-loop-holds Inv-loop μ-loop
-loop-holds c = let a = c .before .before .args in leads-starts (a .t) (a .w) (a .aim) (a .e) (c .before .before .pre)
-
-target-point-requires : tie.Need-target-point-requires Inv-loop μ-loop
-target-point-requires c κs = let a = c .before .before .before .before .args in leads-aims (a .t) (a .w) (a .aim) (a .e) (c .before .before .before .before .pre) (c .before .loop .inv)
-
-check-pass-requires : tie.Need-check-pass-requires Inv-loop μ-loop
-check-pass-requires c κs =
-    let a = c .before .before .before .before .before .args in
-    (leads-ready (a .t) (a .w) (a .aim) (a .e) (c .before .before .before .before .before .pre) (c .before .before .loop .inv) (omega arith), leads-little (a .t) (a .w) (a .aim) (a .e) (c .before .before .before .before .before .pre) (c .before .before .loop .inv))
-
-returns : tie.Need-returns Inv-loop μ-loop
+returns : tie.Need-returns
 returns c =
-    let a = c .before .before .before .before .before .before .before .before .args in
-    leads-leaves (a .t) (a .w) (a .aim) (a .e) (c .before .before .before .before .before .before .before .before .pre) (c .before .before .before .before .before .loop .inv) (omega arith) (c .before .before .before .target-point .ensures .is)
-    (sym (c .enum-told .given .1) ∙ c .before .before .check-pass .ensures)
+    let a = c .before .before .before .before .before .args in
+    rw (work-none (a .w) (a .aim) (a .e .end) (c .if1 .taken)) (sym (way-none (a .t) (a .e)))
 
-loop-again : tie.Need-loop-again Inv-loop μ-loop
-loop-again c =
-    let a = c .before .before .before .before .before .before .before .before .before .args in
-    leads-on (a .t) (a .w) (a .aim) (a .e) (c .before .before .before .before .before .before .before .before .before .pre) (c .before .before .before .before .before .before .loop .inv) (omega arith) (c .before .before .before .before .target-point .ensures .is) (rows-few (a .w .pass))
-    (sym (c .before .next .given .1) ∙ c .before .before .before .check-pass .ensures)
+check-record-requires : tie.Need-check-record-requires
+check-record-requires c κs =
+    let s = c .before .before .before .before .before in
+    (rw (c .before .before .before .pass .given .1) at (s .pre .ready), record { room = omega (arith, s .pre .room); count = omega (arith, s .pre .count) })
 
-returns-2 : tie.Need-returns-2 Inv-loop μ-loop
-returns-2 c = let a = c .before .before .before .before .args in leads-ends (a .t) (a .w) (a .aim) (a .e) (c .before .before .before .before .pre) (c .before .loop .inv) (omega arith)
+check-passes-requires : tie.Need-check-passes-requires
+check-passes-requires c κs = drills-testable (c .before .pass2 .given .0 .0) (c .before .before .before .pre)
+
+returns-2 : tie.Need-returns-2
+returns-2 c =
+    let s = c .before .before .before .before .before .before in
+    c .check-record .ensures
+    ∙ ap (wayOf (s .args .t) (s .args .e)) (sym (work-one (s .args .w) (s .args .aim) (s .args .e .end) (c .before .before .before .before .pass .given .1) (s .pre .once) (c .before .if1 .left)))
+
+returns-3 : tie.Need-returns-3
+returns-3 c =
+    let a = c .before .before .before .before .args in
+    c .check-passes .ensures ∙ ap (wayOf (a .t) (a .e)) (sym (work-drills (a .w) (a .aim) (a .e .end) (c .before .before .pass2 .given .1)))
 
 pub check-work-spec : {M : Type 1} → statement M
-check-work-spec =
-    tie.close
-    (tie.spec Inv-loop μ-loop loop-holds target-point-requires check-pass-requires (λ c. search needs) (λ c. search needs) returns (λ c. omega arith) (λ c. omega arith) loop-again returns-2)
+check-work-spec = tie.close (tie.spec (λ c. search needs) returns check-record-requires (λ c. search needs) check-passes-requires returns-2 returns-3)

@@ -1,66 +1,36 @@
--- `work::writing::put_work` meets its contract: the passes that are left, written here, leave what all of them leave. Assumes nothing.
-use Rattle.terms.proofs.Common.{needs, arith, ℕ, _-_, refl, List}
-use Rattle.lengths.specs.declared.Point.{Point}
-use Rattle.codes.specs.declared.Distance.{Distance}
-use Rattle.words.specs.declared.Values.{Values}
-use Rattle.records.{specs.declared.Record.Record, specs.Path.endOf, proofs.Written.wrote-length}
-use Rattle.work.specs.{declared.Pass.Pass, Work.rowsOf, Work.passesOf, Work.leads, Work.workRecords}
-use Rattle.work.proofs.writing.put_work.Statement.{statement}
-use Rattle.work.proofs.Passing.{passes-to, passes-none, can-lead, Going, going-starts, going-ends, going-asks, going-on, Inside, inside-starts, inside-on}
+-- `work::writing::put_work` meets its contract: no record, one, or the passes of a hole. Assumes nothing.
+use Rattle.terms.proofs.Common.{needs}
+use Rattle.records.proofs.{Written.wrote-length, Moved.put-as, Moved.put-none, Moved.ready-as}
+use Rattle.work.proofs.{Passing.work-none, Passing.work-one, Passing.work-drills, Passing.drills-writable, writing.put_work.Statement.statement}
 use Rattle.work.proofs.writing.put_work.Tie as tie
 
-abbrev rest : Pass → Distance → Point → Values → ℕ → Point → List Record
-rest pass distance origin values left tool = passesOf left pass (leads (record { distance = distance; origin = origin; values = values })) tool
-
-abbrev Inv-loop : tie.InvT-loop
-Inv-loop list₀ at offset pass distance origin values left₀ tool₀ next₀ list left tool next =
-    Going offset list₀ at (rest pass distance origin values left₀ tool₀) list next (rest pass distance origin values left tool)
-    × Inside tool₀ (rest pass distance origin values left₀ tool₀) tool (rest pass distance origin values left tool)
-
-abbrev μ-loop : tie.MeasureT-loop
-μ-loop list₀ at offset pass distance origin values left₀ tool₀ next₀ list left tool next = left
-
-loop-holds : tie.Need-loop-holds Inv-loop μ-loop
-unfolding workRecords
-loop-holds c = (going-starts (c .before .before .before .args .offset) refl (c .before .before .before .pre .0), inside-starts refl)
-
-target-point-requires : tie.Need-target-point-requires Inv-loop μ-loop
-unfolding workRecords
-target-point-requires c κs =
-    let h = c .before .before .before .before .before .pre .1 in
-    can-lead (h .leading) (c .before .loop .tool) (c .before .loop .inv .1 .there (h .travel) (h .leading .inside) (h .stays) .0)
-
-put-pass-requires : tie.Need-put-pass-requires Inv-loop μ-loop
-put-pass-requires c κs =
-    let a = c .before .before .before .before .before .before .before .args in
-    let l = c .before .before .before .loop in
-    let to = c .before .target-point .result in
-    let rows = rowsOf (a .w .pass) (l .tool .z) to in
-    going-asks (a .offset) (l .inv .0) rows (passesOf (l .left - 1) (a .w .pass) (leads (a .aim)) (endOf (l .tool) rows))
-    (passes-to (l .left) (a .w .pass) (a .aim) (l .tool) (omega arith) (c .before .target-point .ensures .is) refl)
-
-loop-again : tie.Need-loop-again Inv-loop μ-loop
-loop-again c =
-    let a = c .before .before .before .before .before .before .before .before .before .before .before .args in
-    let l = c .before .before .before .before .before .before .before .loop in
-    let to = c .before .before .before .before .before .target-point .result in
-    let rows = rowsOf (a .w .pass) (l .tool .z) to in
-    let end = c .pass-end .result in
-    let more = passesOf (l .left - 1) (a .w .pass) (leads (a .aim)) end in
-    let parts = passes-to (l .left) (a .w .pass) (a .aim) (l .tool) (omega arith) (c .before .before .before .before .before .target-point .ensures .is) (c .pass-end .ensures (l .tool .z)) in
-    (going-on (a .offset) (l .inv .0) rows more parts (c .before .before .before .put-pass .ensures), inside-on rows more (l .inv .1) parts (c .pass-end .ensures (l .tool .z)))
-
-returns : tie.Need-returns Inv-loop μ-loop
-unfolding workRecords
+returns : tie.Need-returns
 returns c =
-    let a = c .before .before .before .before .before .args in
-    let l = c .before .loop in
-    going-ends (a .offset) (l .inv .0) (passes-none (l .left) (a .w .pass) (leads (a .aim)) (l .tool) (omega arith))
+    let a = c .before .before .before .before .before .before .args in
+    put-as (a .offset) (work-none (a .w) (a .aim) (a .from) (c .if1 .taken)) (put-none (a .offset) (a .list .now) (a .at))
 
-same-length : tie.Need-same-length Inv-loop μ-loop
-same-length c = wrote-length (returns c)
+put-requires : tie.Need-put-requires
+put-requires c κs =
+    let s = c .before .before .before .before .before .before .before in
+    ready-as (s .args .offset) (work-one (s .args .w) (s .args .aim) (s .args .from) (c .before .before .before .before .pass .given .1) (s .pre .1 .once) (c .before .if1 .left)) (s .pre .0)
+
+put-passes-requires : tie.Need-put-passes-requires
+put-passes-requires c κs =
+    let s = c .before .before .before .before .before in
+    let e = c .before .before .pass2 .given .1 in
+    (ready-as (s .args .offset) (work-drills (s .args .w) (s .args .aim) (s .args .from) e) (s .pre .0), drills-writable (s .args .w) (s .args .aim) (s .args .from) e (s .pre .1))
+
+returns-2 : tie.Need-returns-2
+returns-2 c =
+    let s = c .before .before .before .before .before .before .before .before .before .before in
+    put-as (s .args .offset) (work-one (s .args .w) (s .args .aim) (s .args .from) (c .before .before .before .before .before .before .before .pass .given .1) (s .pre .1 .once) (c .before .before .before .before .if1 .left)) (c .before .before .put .ensures)
+
+returns-3 : tie.Need-returns-3
+returns-3 c =
+    let a = c .before .before .before .before .before .before .before .before .args in
+    put-as (a .offset) (work-drills (a .w) (a .aim) (a .from) (c .before .before .before .before .before .pass2 .given .1)) (c .before .before .put-passes .ensures)
 
 pub put-work-spec : {M : Type 1} → statement M
 put-work-spec =
     tie.close
-    (tie.spec Inv-loop μ-loop loop-holds target-point-requires put-pass-requires (λ c κs. search needs) (λ c. omega arith) (λ c. omega arith) loop-again same-length returns)
+    (tie.spec (λ c. search needs) returns put-requires (λ c. search needs) put-passes-requires (λ c. wrote-length (returns-2 c)) returns-2 (λ c. wrote-length (returns-3 c)) returns-3)
