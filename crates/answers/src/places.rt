@@ -1,8 +1,6 @@
 // A place in the data, shown by its block's text with a caret under the byte.
 use libc::STDOUT_FILENO;
-ghost use mathlib.Core.Path.{_≡_};
-ghost use Prim.Native.Nat.{_+_, _≤_};
-ghost use lib.ListN.{length, drop};
+ghost use Rattle.terms.specs.Common.{_≡_, _+_, _≤_, length, drop};
 ghost use Rattle.lines.specs.Blocks.{textFrom};
 ghost use Rattle.answers.specs.Places.{Begins};
 

@@ -1,8 +1,7 @@
 -- Laws of the paths of records, one list after another, and of where they end. Assumes nothing.
-use Rattle.terms.proofs.Common.{_≡_, refl, sym, _∙_, ap, Bool, true, _&&_, and-assoc, List, [], _∷_, _++_, arith, ℕ, leZ}
+use Rattle.terms.proofs.Common.{_≡_, refl, sym, _∙_, ap, Bool, true, _&&_, and-assoc, List, [], _∷_, _++_, ℕ}
 use Rattle.terms.{specs.Terms.between, proofs.Laws.both-left, proofs.Laws.both-right}
-use Rattle.lengths.specs.{declared.Len.Len, View.Within, declared.Flat.Flat, declared.Point.Point, declared.Travel.Travel, Points.flat, Points.inside, Near.Near}
-use Rattle.lengths.proofs.Laws.{view}
+use Rattle.lengths.{specs.declared.Flat.Flat, specs.declared.Point.Point, specs.declared.Travel.Travel, specs.Points.flat, specs.Points.inside, specs.Near.Near, proofs.Tests.between-near}
 use Rattle.records.specs.{declared.Arc.Arc, declared.Record.Record, Path.Path, Path.straight, Path.clockwise, Path.counter, Path.still, Path.pathOf, Path.pathEnd, Path.endOf, Path.pathStaysIn}
 use Rattle.arcs.specs.{Arcs.centreOf, Arcs.radius², Arcs.extremesInside, Arcs.leftWay, Arcs.rightWay, Arcs.arcStays, Arcs.pathStays, Staying.staysIn}
 
@@ -28,24 +27,17 @@ module _ (t : Travel) where
       let f = sym (stays-append from a b) ∙ e in
       (both-left (staysIn t from a) (staysIn t (endOf from a) b) f, both-right (staysIn t from a) (staysIn t (endOf from a) b) f)
 
--- what lies between two numbers near 0 is as near
-between-near : {n : ℕ} (a b z : Len) → Within n (a .v) → Within n (b .v) → between (a .v) (b .v) (z .v) ≡ true → Within n (z .v)
-between-near a b z h k e =
-    let l : leZ (a .v) (z .v) ≡ true = both-left (leZ (a .v) (z .v)) (leZ (z .v) (b .v)) e in
-    let m : leZ (z .v) (b .v) ≡ true = both-right (leZ (a .v) (z .v)) (leZ (z .v) (b .v)) e in
-    omega (arith, view)
-
 -- a point inside a travel near 0 is as near
 pub inside-near : {n : ℕ} (t : Travel) (p : Point) → Near n (t .low) → Near n (t .high) → inside t p ≡ true → Near n p
 unfolding inside
-inside-near t p h k e =
+inside-near {n} t p h k e =
     let x = between (t .low .x .v) (t .high .x .v) (p .x .v) in
     let y = between (t .low .y .v) (t .high .y .v) (p .y .v) in
     let z = between (t .low .z .v) (t .high .z .v) (p .z .v) in
     record {
-      x = between-near (t .low .x) (t .high .x) (p .x) (h .x) (k .x) (both-left x y (both-left (x && y) z e));
-      y = between-near (t .low .y) (t .high .y) (p .y) (h .y) (k .y) (both-right x y (both-left (x && y) z e));
-      z = between-near (t .low .z) (t .high .z) (p .z) (h .z) (k .z) (both-right (x && y) z e);
+      x = between-near n (t .low .x .v) (t .high .x .v) (p .x .v) (h .x) (k .x) (both-left x y (both-left (x && y) z e));
+      y = between-near n (t .low .y .v) (t .high .y .v) (p .y .v) (h .y) (k .y) (both-right x y (both-left (x && y) z e));
+      z = between-near n (t .low .z .v) (t .high .z .v) (p .z .v) (h .z) (k .z) (both-right (x && y) z e);
     }
 
 -- ---- a path that stays ends inside

@@ -9,18 +9,11 @@ pub use staying::from_centre;
 pub use staying::is_left;
 pub use staying::is_on_left_way;
 pub use staying::path_stays;
-ghost use mathlib.Core.Path.{_≡_};
-ghost use mathlib.Core.Bool.{_&&_};
-ghost use Prim.Native.Nat.{_*_, _^_, _≤_};
-ghost use Rattle.lengths.specs.Units.{fitsFour};
-ghost use Rattle.lengths.specs.Near.{Near};
-ghost use Rattle.lengths.specs.Points.{flat};
-ghost use Rattle.records.specs.Path.{pathOf, recordMoved};
-ghost use Rattle.records.specs.Displacing.{Loose};
-ghost use Rattle.arcs.specs.Root.{root};
-ghost use Rattle.arcs.specs.Turning.{left};
+ghost use Rattle.terms.specs.Common.{_≡_, _&&_, _*_, _^_, _≤_};
+ghost use Rattle.lengths.specs.{Units.fitsFour, Near.Near, Points.flat};
+ghost use Rattle.records.specs.{Path.pathOf, Path.recordMoved, Displacing.Loose};
 ghost use Rattle.arcs.specs.Arcs.{distance², centreOf, radius², roundEnough, arcHolds, centreFits};
-ghost use Rattle.arcs.specs.Bounds.{Reach};
+ghost use Rattle.arcs.specs.{Root.root, Turning.left, Bounds.Reach};
 
 // The root as taught by hand, in binary: two digits of q at a time are brought down to what is left of the number, and
 // the root gets one digit more. At each step `rest` is what the digits brought down so far are above the square of r, so

@@ -5,15 +5,12 @@ use lengths::Point;
 use lengths::Travel;
 use records::Arc;
 use records::Record;
-ghost use mathlib.Core.Path.{_≡_};
-ghost use lib.Signed.{ltZ};
-ghost use lib.IntN.{pos};
+ghost use Rattle.terms.specs.Common.{_≡_, ltZ, pos};
 ghost use Rattle.lengths.specs.Points.{flat};
 ghost use Rattle.records.specs.Path.{pathOf};
-ghost use Rattle.arcs.specs.Root.{root};
-ghost use Rattle.arcs.specs.Turning.{dot, left, onLeftWay};
 ghost use Rattle.arcs.specs.Arcs.{centreOf, notAbove, notBelow, coordinateInside, extremeInside, towards, extremesInside, leftWay, rightWay, arcStays, pathStays};
 ghost use Rattle.arcs.specs.Bounds.{Close, Reach, Small, Bounds, Accepted, PathBounds, Direction, Framed};
+ghost use Rattle.arcs.specs.{Root.root, Turning.dot, Turning.left, Turning.onLeftWay};
 
 // From the centre of an arc to a point.
 pub fn from_centre(a: Arc, p: Point) -> Flat

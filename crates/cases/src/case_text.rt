@@ -4,9 +4,7 @@
 use crate::Case;
 use crate::Counted;
 use texts::Digits;
-ghost use mathlib.Core.Path.{_≡_};
-ghost use Prim.Native.Nat.{_+_, _≤_, min};
-ghost use lib.ListN.{length, drop};
+ghost use Rattle.terms.specs.Common.{_≡_, _+_, _≤_, min, length, drop};
 ghost use Rattle.lines.specs.Blocks.{beginsWith};
 ghost use Rattle.cases.specs.Cases.{countAt, sizeOf, caseAt};
 

@@ -8,8 +8,7 @@ use libc::STDOUT_FILENO;
 use runs::Report;
 use setup::Setup;
 use texts::Digits;
-ghost use Prim.Native.Nat.{_≤_};
-ghost use lib.ListN.{length};
+ghost use Rattle.terms.specs.Common.{_≤_, length};
 ghost use Rattle.interpreter.specs.Owing.{Owes};
 ghost use Rattle.cases.specs.Budgets.{budgetBy};
 

@@ -2,14 +2,11 @@
 use lengths::Flat;
 use lengths::Len;
 use wide::Division;
-ghost use mathlib.Core.Path.{_≡_};
-ghost use Prim.Native.Nat.{ℕ, _≤_};
-ghost use lib.IntN.{_+ℤ_};
-ghost use Rattle.lengths.specs.Units.{len};
+ghost use Rattle.terms.specs.Common.{_≡_, ℕ, _≤_, _+ℤ_};
+ghost use Rattle.lengths.specs.{Units.len, Near.FlatNear};
 ghost use Rattle.arcs.specs.Arcs.{distance²};
-ghost use Rattle.centres.specs.Centres.{radiusHolds, across, coordinate, centreBy};
-ghost use Rattle.lengths.specs.Near.{FlatNear};
 ghost use Rattle.centres.specs.Bounds.{Chord, Spanned, Shares, Part, Parted, Scaled, Coordinates};
+ghost use Rattle.centres.specs.Centres.{radiusHolds, across, coordinate, centreBy};
 
 // Whether a circle of the radius goes through start and end. An end may lie 3,200,000,000 units away, and the square of that
 // does not fit: where it is further than twice the radius on one axis, it is further than that; else each axis is at most

@@ -1,6 +1,6 @@
 // The codes of document 01, "Codes": what a G or an M number means.
 
-ghost use mathlib.Core.Path.{_≡_};
+ghost use Rattle.terms.specs.Common.{_≡_};
 ghost use Rattle.codes.specs.Codes.{codeOf, miscOf, groupOf, miscNumber};
 
 pub enum Cycle {

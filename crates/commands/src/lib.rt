@@ -3,9 +3,7 @@ mod options;
 
 pub use options::Options;
 pub use options::options_of;
-ghost use mathlib.Core.Path.{_≡_};
-ghost use Prim.Native.Nat.{_+_, _≤_};
-ghost use lib.ListN.{length, drop};
+ghost use Rattle.terms.specs.Common.{_≡_, _+_, _≤_, length, drop};
 ghost use Rattle.texts.specs.Texts.{sameBytes};
 ghost use Rattle.commands.specs.Words.{countIn, wordIn, afterWord, afterWords, wordOf};
 

@@ -1,9 +1,8 @@
 // The options of a run, and whether it names a list. Where one is wrong, a line says so.
-ghost use mathlib.Core.Path.{_≡_};
-ghost use Prim.Native.Nat.{_+_, _≤_, _<_};
+ghost use Rattle.terms.specs.Common.{_≡_, _+_, _≤_, _<_};
 ghost use Rattle.texts.specs.Figures.{digitsIn};
-ghost use Rattle.commands.specs.Words.{wordOf};
 ghost use Rattle.commands.specs.Options.{noOptions, wrongOptions, withBlocks, withRoom, withPartial, withOption, withNext, withNoMore, isListed, firstOptions, optionsOf};
+ghost use Rattle.commands.specs.Words.{wordOf};
 use crate::is;
 use crate::word;
 use files::complain;

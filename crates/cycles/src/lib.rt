@@ -9,15 +9,9 @@ use records::Kind;
 use settings::State;
 use words::Given;
 use words::Values;
-ghost use mathlib.Core.Path.{_≡_};
+ghost use Rattle.terms.specs.Common.{_≡_, _<_, [], _∷_, _++_, length};
 ghost use Rattle.lengths.specs.View.{Within};
-ghost use Prim.Native.Nat.{_<_};
-ghost use mathlib.Core.List.{[], _∷_, _++_};
-ghost use lib.ListN.{length};
-ghost use Rattle.records.specs.Path.{pathOf, pathEnd, endOf};
-ghost use Rattle.records.specs.Layout.{kindOf, kindLength};
-ghost use Rattle.records.specs.Writing.{movedBytes, RoomFor};
-ghost use Rattle.records.specs.Serving.{Wrote};
+ghost use Rattle.records.specs.{Path.pathOf, Path.pathEnd, Path.endOf, Layout.kindOf, Layout.kindLength, Writing.movedBytes, Writing.RoomFor, Serving.Wrote};
 ghost use Rattle.cycles.specs.Cycles.{holeOf, levelsHold, returnLevel, dwelling, leaving, passTo};
 ghost use Rattle.cycles.specs.Bounds.{Holes, Counts, UpLength, PassLength, Stands, rowRecord};
 

@@ -8,11 +8,9 @@ use svg::put_arc;
 use svg::put_form;
 use svg::put_line;
 use svg::seen;
-ghost use mathlib.Core.Path.{_≡_};
-ghost use Rattle.svg.specs.Text.{Fills};
-ghost use Rattle.svg.specs.Lines.{seenFrom};
-ghost use Rattle.drawing.specs.Shapes.{same, cut, asCut, drawn, path};
-ghost use Rattle.drawing.specs.Walks.{recordsFrom, endFrom};
+ghost use Rattle.terms.specs.Common.{_≡_};
+ghost use Rattle.svg.specs.{Text.Fills, Lines.seenFrom};
+ghost use Rattle.drawing.specs.{Shapes.same, Shapes.cut, Shapes.asCut, Shapes.drawn, Shapes.path, Walks.recordsFrom, Walks.endFrom};
 
 fn is_same(a: Flat, b: Flat) -> bool
     ensures { λ r. ⌜ r ≡ same a b ⌝ }

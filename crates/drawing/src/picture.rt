@@ -12,14 +12,12 @@ use svg::View;
 use svg::put_form;
 use svg::put_text;
 use svg::seen;
-ghost use Prim.Native.Nat.{_≤_};
-ghost use mathlib.Core.Path.{_≡_};
-ghost use mathlib.Core.Bool.{true};
+ghost use Rattle.terms.specs.Common.{_≤_, _≡_, true};
 ghost use Rattle.setup.specs.Limits.{validSetup};
 ghost use Rattle.lengths.specs.Near.{Near};
 ghost use Rattle.svg.specs.Text.{Fills};
-ghost use Rattle.drawing.specs.Walks.{recordsFrom};
 ghost use Rattle.drawing.specs.Picture.{sheetOf, gapOf, Fair, cornerOf, sizeOf, downOf, marks, viewOf, opening, shift, pictureOf, Draws};
+ghost use Rattle.drawing.specs.Walks.{recordsFrom};
 
 // The travel as a frame and the start, and the group of the rapids opened.
 fn put_marks(out: &mut [u8], at: usize, view: View, sh: Sheet) -> usize

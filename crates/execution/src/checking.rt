@@ -13,20 +13,11 @@ use setup::Bed;
 use work::Aim;
 use work::Extent;
 use work::Way;
-ghost use Prim.Native.Nat.{ℕ, _-_, _≤_};
-ghost use mathlib.Core.Path.{_≡_};
-ghost use mathlib.Core.List.{List};
-ghost use lib.ListN.{length};
+ghost use Rattle.terms.specs.Common.{ℕ, _-_, _≤_, _≡_, List, length};
 ghost use Rattle.words.specs.declared.Word.{Word};
-ghost use Rattle.records.specs.Serving.{Wrote};
-ghost use Rattle.records.specs.Writing.{movedBytes, RoomFor};
-ghost use Rattle.work.specs.Work.{wayOf};
-ghost use Rattle.work.specs.Needs.{Writable};
-ghost use Rattle.blocks.specs.Machine.{machineOf};
-ghost use Rattle.blocks.specs.Reach.{Steady};
-ghost use Rattle.blocks.specs.Exec.{working};
-ghost use Rattle.blocks.specs.Calling.{freely};
-ghost use Rattle.blocks.specs.Doing.{Does};
+ghost use Rattle.records.specs.{Serving.Wrote, Writing.movedBytes, Writing.RoomFor};
+ghost use Rattle.work.specs.{Work.wayOf, Needs.Writable};
+ghost use Rattle.blocks.specs.{Machine.machineOf, Reach.Steady, Exec.working, Calling.freely, Doing.Does};
 ghost use Rattle.execution.specs.Steps.{judgedFrom, plannedRecords, Plans, Able, noneYet, checkedBy};
 
 // What a block makes, in the settings in which it moves.

@@ -1,6 +1,5 @@
 // What a block does beside its motion, in the order of effects.
-ghost use mathlib.Core.Path.{_≡_};
-ghost use lib.IntN.{natAbs};
+ghost use Rattle.terms.specs.Common.{_≡_, natAbs};
 ghost use Rattle.blocks.specs.Exec.{working, spindleRecords, lastRecords, controlOf};
 ghost use Rattle.work.specs.Work.{briefRecords};
 ghost use Rattle.execution.specs.Steps.{settledAt};

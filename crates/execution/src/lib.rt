@@ -14,17 +14,11 @@ use work::Aim;
 use work::Brief;
 use work::Extent;
 use work::Work;
-ghost use Prim.Native.Nat.{ℕ, _-_, _≤_, _+_};
-ghost use mathlib.Core.List.{List};
-ghost use lib.ListN.{length, drop};
+ghost use Rattle.terms.specs.Common.{ℕ, _-_, _≤_, _+_, List, length, drop};
 ghost use Rattle.lines.specs.Blocks.{textFrom, lengthFrom};
 ghost use Rattle.words.specs.declared.Word.{Word};
 ghost use Rattle.setup.specs.Fair.{Fair};
-ghost use Rattle.blocks.specs.Machine.{machineOf};
-ghost use Rattle.blocks.specs.Reach.{Steady, Reachable};
-ghost use Rattle.blocks.specs.Exec.{exec};
-ghost use Rattle.blocks.specs.Calling.{freely};
-ghost use Rattle.blocks.specs.Doing.{Does};
+ghost use Rattle.blocks.specs.{Machine.machineOf, Reach.Steady, Reach.Reachable, Exec.exec, Calling.freely, Doing.Does};
 ghost use Rattle.execution.specs.Steps.{judgedFrom};
 
 // What a block stands on: the bed, and the levels left for calls.

@@ -1,9 +1,8 @@
 // The tests of a block in the order of refusals, from 3 on to that of a cycle. Those of its call, 5 and 6, come where it is followed.
-ghost use mathlib.Core.Path.{_≡_};
-ghost use mathlib.Core.Bool.{Bool, _&&_};
+ghost use Rattle.terms.specs.Common.{_≡_, Bool, _&&_};
 ghost use Rattle.letters.specs.declared.BlockCode.the-variants.{Moving};
-ghost use Rattle.blocks.specs.Motions.{cycleDone};
 ghost use Rattle.blocks.specs.Exec.{lacksCentre, lacksParameter, drills, isG17, cannotDrill, working};
+ghost use Rattle.blocks.specs.Motions.{cycleDone};
 use blocks::Said;
 use codes::Motion;
 use codes::Plane;

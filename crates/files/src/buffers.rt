@@ -1,7 +1,6 @@
 // Room for lists and pictures. A call hands an array over as an unknown of a known length, so that no proof writes a million
 // zeros out.
-ghost use mathlib.Core.Path.{_≡_};
-ghost use lib.ListN.{length};
+ghost use Rattle.terms.specs.Common.{_≡_, length};
 
 pub fn list_room() -> [u8; 1048576]
     ensures { λ r. ⌜ 1048576 ≡ length r ⌝ }

@@ -9,7 +9,7 @@ use libc::ENOSPC;
 use libc::ENOTDIR;
 use libc::EPERM;
 use libc::EROFS;
-ghost use mathlib.Core.Path.{_≡_};
+ghost use Rattle.terms.specs.Common.{_≡_};
 ghost use Rattle.io.specs.Counts.{Counts};
 ghost use Rattle.files.specs.Shown.{shownAs};
 

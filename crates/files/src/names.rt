@@ -3,7 +3,7 @@ use crate::Fate;
 use crate::Named;
 use libc::S_IFDIR;
 use libc::S_IFREG;
-ghost use mathlib.Core.Path.{_≡_};
+ghost use Rattle.terms.specs.Common.{_≡_};
 ghost use Rattle.files.specs.Names.{sameFile, kindFate, fateOf};
 
 // Kinds of files, as the system numbers them in four bits of the mode.

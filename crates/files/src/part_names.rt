@@ -1,7 +1,5 @@
 // The file beside a path, to which bytes go until all of them are there: its name, as the system is asked to make it up.
-ghost use mathlib.Core.Path.{_≡_};
-ghost use Prim.Native.Nat.{_+_, _≤_};
-ghost use lib.ListN.{length};
+ghost use Rattle.terms.specs.Common.{_≡_, _+_, _≤_, length};
 ghost use Rattle.files.specs.Parts.{Puts, Names};
 
 // The path with `.part-XXXXXX` after it, or no byte where there is no room for that and a 0.

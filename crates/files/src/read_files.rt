@@ -2,9 +2,7 @@
 // file.
 use crate::messages::begin_line;
 use crate::messages::complain_why;
-ghost use mathlib.Core.Path.{_≡_};
-ghost use Prim.Native.Nat.{_+_, _≤_};
-ghost use lib.ListN.{length};
+ghost use Rattle.terms.specs.Common.{_≡_, _+_, _≤_, length};
 ghost use Rattle.io.specs.Counts.{Counts};
 
 // How many bytes were read to the start of the buffer, and whether all went well.

@@ -7,8 +7,7 @@ use libc::PATH_MAX;
 use libc::W_OK;
 use libc::types::stat;
 use libc::types::timespec;
-ghost use Prim.Native.Nat.{_<_};
-ghost use lib.ListN.{length};
+ghost use Rattle.terms.specs.Common.{_<_, length};
 ghost use Rattle.libc.specs.Io.{Ended, Status};
 ghost use Rattle.files.specs.Names.{Spelt};
 

@@ -15,19 +15,13 @@ use runs::Standing;
 use settings::State;
 use setup::Bed;
 use setup::Setup;
-ghost use mathlib.Core.Path.{_≡_};
-ghost use mathlib.Core.Bool.{true};
-ghost use lib.ListN.{length};
+ghost use Rattle.terms.specs.Common.{_≡_, true, length};
 ghost use Rattle.lines.specs.Blocks.{blocksOf};
-ghost use Rattle.setup.specs.Limits.{validSetup};
-ghost use Rattle.setup.specs.Frame.{offset};
+ghost use Rattle.setup.specs.{Limits.validSetup, Frame.offset};
 ghost use Rattle.records.specs.Reading.{readAt};
-ghost use Rattle.programs.specs.Openings.{table};
-ghost use Rattle.programs.specs.Found.{subsOf};
-ghost use Rattle.runs.specs.declared.Budget.the-variants.{Whole, First};
-ghost use Rattle.runs.specs.Run.{runTable, outcome};
-ghost use Rattle.interpreter.specs.Owing.{Owes};
-ghost use Rattle.interpreter.specs.Serving.{Opened, Gives};
+ghost use Rattle.programs.specs.{Openings.table, Found.subsOf};
+ghost use Rattle.runs.specs.{declared.Budget.the-variants.Whole, declared.Budget.the-variants.First, Run.runTable, Run.outcome};
+ghost use Rattle.interpreter.specs.{Owing.Owes, Serving.Opened, Serving.Gives};
 
 // What stays as it is while a data set runs.
 pub struct Task {

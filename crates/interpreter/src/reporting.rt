@@ -8,17 +8,12 @@ use runs::Report;
 use runs::Standing;
 use settings::State;
 use setup::Setup;
-ghost use mathlib.Core.Path.{_≡_};
-ghost use mathlib.Core.Bool.{true};
-ghost use Prim.Native.Nat.{_^_};
+ghost use Rattle.terms.specs.Common.{_≡_, true, _^_};
 ghost use Rattle.lengths.specs.Near.{Near};
-ghost use Rattle.setup.specs.Limits.{validSetup};
-ghost use Rattle.setup.specs.Frame.{offset};
+ghost use Rattle.setup.specs.{Limits.validSetup, Frame.offset};
 ghost use Rattle.settings.specs.Settings.{stateMoved};
-ghost use Rattle.runs.specs.Walk.{Going, just, refusedAt};
-ghost use Rattle.runs.specs.Run.{firstOf, answerBy};
-ghost use Rattle.interpreter.specs.Progressing.{howBy, nextBy};
-ghost use Rattle.interpreter.specs.Serving.{reportBy};
+ghost use Rattle.runs.specs.{Walk.Going, Walk.just, Walk.refusedAt, Run.firstOf, Run.answerBy};
+ghost use Rattle.interpreter.specs.{Progressing.howBy, Progressing.nextBy, Serving.reportBy};
 
 // The settings that a run starts with.
 pub fn first_state(setup: Setup) -> State

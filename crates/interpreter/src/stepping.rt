@@ -2,10 +2,7 @@
 use crate::Progress;
 use blocks::Done;
 use runs::Budget;
-ghost use mathlib.Core.Path.{_≡_};
-ghost use mathlib.Core.Bool.{false};
-ghost use Prim.Native.Nat.{_+_, _≤_, _<_, _^_};
-ghost use lib.ListN.{length, drop};
+ghost use Rattle.terms.specs.Common.{_≡_, false, _+_, _≤_, _<_, _^_, length, drop};
 ghost use Rattle.runs.specs.Walk.{isSpent, oneLess};
 ghost use Rattle.interpreter.specs.Progressing.{programEnds, progressBy};
 

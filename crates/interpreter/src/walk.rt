@@ -18,17 +18,11 @@ use programs::Programs;
 use refusals::Place;
 use refusals::Refusal;
 use settings::State;
-ghost use mathlib.Core.Path.{_≡_};
-ghost use Prim.Native.Nat.{ℕ, _+_, _-_, _≤_, _<_};
-ghost use lib.ListN.{length, drop};
+ghost use Rattle.terms.specs.Common.{_≡_, ℕ, _+_, _-_, _≤_, _<_, length, drop};
 ghost use Rattle.lines.specs.Blocks.{lengthFrom, blockFrom};
 ghost use Rattle.setup.specs.Fair.{Fair};
-ghost use Rattle.programs.specs.declared.Programs.{Programs};
-ghost use Rattle.programs.specs.Openings.{known};
-ghost use Rattle.programs.specs.Found.{subsOf, WellFound};
-ghost use Rattle.programs.specs.Places.{Begins, Placed};
-ghost use Rattle.blocks.specs.Reach.{Reachable};
-ghost use Rattle.blocks.specs.Doing.{Does};
+ghost use Rattle.programs.specs.{declared.Programs.Programs, Openings.known, Found.subsOf, Found.WellFound, Places.Begins, Places.Placed};
+ghost use Rattle.blocks.specs.{Reach.Reachable, Doing.Does};
 ghost use Rattle.interpreter.specs.Progressing.{taskOn, walkFrom, verdictAt, calleeBy, Goes, Ran, Sound, Fits};
 
 // The block at a place: skipped unread, which is accepted with nothing done, or executed, a slash before its words left out.

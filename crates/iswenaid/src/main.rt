@@ -1,7 +1,5 @@
 // The program for the shops: its arguments are a command.
-ghost use mathlib.Core.Path.{_≡_};
-ghost use Prim.Native.Nat.{_≤_};
-ghost use lib.ListN.{length};
+ghost use Rattle.terms.specs.Common.{_≡_, _≤_, length};
 ghost use Rattle.io.specs.Counts.{Counts};
 use libc::STDERR_FILENO;
 

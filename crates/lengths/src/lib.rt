@@ -7,12 +7,9 @@ pub use points::in_plane;
 pub use points::is_inside;
 pub use points::moved;
 pub use points::moved_back;
-ghost use mathlib.Core.Path.{_≡_};
-ghost use Prim.Native.Nat.{_+_, _<_, _^_};
-ghost use lib.Signed.{leZ, ltZ};
-ghost use Rattle.lengths.specs.Units.{len, sq, halved, fitsFour, fourBytes};
-ghost use Rattle.lengths.specs.View.{over, under, Within, Short};
+ghost use Rattle.terms.specs.Common.{_≡_, _+_, _<_, _^_, leZ, ltZ};
 ghost use Rattle.lengths.specs.Serving.{Room, Is, Counted, Sum, Difference, Negation, Apart, Product, Read};
+ghost use Rattle.lengths.specs.{Units.len, Units.sq, Units.halved, Units.fitsFour, Units.fourBytes, View.over, View.under, View.Within, View.Short};
 
 pub struct Len {
     pub v: i64,

@@ -4,10 +4,8 @@ use crate::Len;
 use crate::Point;
 use crate::Travel;
 use codes::Plane;
-ghost use mathlib.Core.Path.{_≡_};
-ghost use Prim.Native.Nat.{_^_};
-ghost use Rattle.lengths.specs.Points.{atHeight, flat, inside};
-ghost use Rattle.lengths.specs.Near.{Near, Moved, MovedBack};
+ghost use Rattle.terms.specs.Common.{_≡_, _^_};
+ghost use Rattle.lengths.specs.{Points.atHeight, Points.flat, Points.inside, Near.Near, Near.Moved, Near.MovedBack};
 
 // X and Y of a point, at another height.
 pub fn at_height(p: Point, level: Len) -> Point

@@ -1,9 +1,9 @@
 -- How large the values of a block's words are, none of them being refused: each is within the limit of its letter's use. Assumes
 -- nothing.
-use Rattle.terms.proofs.Common.{ℕ, _≤_, min, _≡_, refl, _∙_, ap, Bool, true, false, not, _&&_, none, some, List, [], _∷_, arith, leb, eqb, ℤ, pos, leZ, ltZ, leb-true, eqb-true}
+use Rattle.terms.proofs.Common.{ℕ, _≤_, min, _≡_, refl, _∙_, ap, Bool, true, false, not, _&&_, none, some, List, [], _∷_, arith, leb, eqb, ℤ, pos, ltZ, leb-true, eqb-true}
 use Rattle.terms.specs.Terms.{if_then_else_, byte, bytes, first, lookup, between}
 use Rattle.terms.proofs.Laws.{both-left, both-right, everyPlace, every-place}
-use Rattle.lengths.{specs.declared.Len.Len, specs.Units.len, specs.View.Within, proofs.Laws.view}
+use Rattle.lengths.{specs.declared.Len.Len, specs.Units.len, specs.View.Within, proofs.Tests.between-near}
 use Rattle.codes.specs.declared.Cycle.{Cycle, the-variants.G81, the-variants.G82, the-variants.G85, the-variants.G89}
 use Rattle.codes.specs.declared.{Motion.Motion, Plane.Plane, Plane.the-variants.G17, Plane.the-variants.G18, Plane.the-variants.G19, Unit.Unit}
 use Rattle.codes.specs.declared.Motion.the-variants.{Off, G00, G01, G02, G03, Drilling}
@@ -36,12 +36,6 @@ count-near n =
     elim (ltZ (signed (n .sign) (n .digits)) (pos 0)) as (λ t. Within 9_999 (pos (if t then 0 else min (n .digits) 9_999)))
     [ true ↦ omega arith | false ↦ omega arith ]
 
-between-within : (n : ℕ) (a b z : ℤ) → Within n a → Within n b → between a b z ≡ true → Within n z
-between-within n a b z h k e =
-    let f : leZ a z ≡ true = both-left (leZ a z) (leZ z b) e in
-    let g : leZ z b ≡ true = both-right (leZ a z) (leZ z b) e in
-    omega (arith, view)
-
 more-within : {m n : ℕ} (z : ℤ) → leb m n ≡ true → Within m z → Within n z
 more-within {m} {n} z e h = let f : m ≤ n = leb-true m n e in omega arith
 
@@ -51,7 +45,7 @@ module _ (u : Unit) (lowest highest : ℤ) (low : Within 99_999 lowest) (high : 
   speed-near e =
       let z = pos (number .digits) in
       let t = tested (isPlain number && between lowest highest z) z v e in
-      rw (t .is) (between-within 99_999 lowest highest z low high (both-right (isPlain number) (between lowest highest z) (t .passed)))
+      rw (t .is) (between-near 99_999 lowest highest z low high (both-right (isPlain number) (between lowest highest z) (t .passed)))
 
   counted-near : valueOf u lowest highest Count number ≡ Fit v → Within 9_999 (v .v)
   unfolding valueOf
@@ -61,7 +55,7 @@ module _ (u : Unit) (lowest highest : ℤ) (low : Within 99_999 lowest) (high : 
 
   dwell-near : valueOf u lowest highest Dwell number ≡ Fit v → Within 3_600_000 (v .v)
   dwell-near e =
-      between-within 3_600_000 (pos 0) (pos 3_600_000) (v .v) (omega arith) (omega arith)
+      between-near 3_600_000 (pos 0) (pos 3_600_000) (v .v) (omega arith) (omega arith)
       (dwell-between u lowest highest number v e)
 
   nothing-near : Fit (len (pos 0)) ≡ Fit v → Within n (v .v)

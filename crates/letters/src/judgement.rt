@@ -8,16 +8,10 @@ use words::Given;
 use words::Use;
 use words::Value;
 use words::Values;
-ghost use Prim.Native.Nat.{_<_};
-ghost use mathlib.Core.Path.{_≡_};
-ghost use mathlib.Core.Bool.{_&&_, _||_};
-ghost use lib.Dec.{eqb};
-ghost use lib.ListN.{take};
+ghost use Rattle.terms.specs.Common.{_<_, _≡_, _&&_, _||_, eqb, take};
 ghost use Rattle.terms.specs.Terms.{byte};
 ghost use Rattle.words.specs.Packed.{wordsIn};
-ghost use Rattle.letters.specs.Letters.{isNothing};
-ghost use Rattle.letters.specs.Judging.{judgedBy, Stored};
-ghost use Rattle.letters.specs.Places.{givenAt, valuesIn, IsPlace};
+ghost use Rattle.letters.specs.{Letters.isNothing, Judging.judgedBy, Judging.Stored, Places.givenAt, Places.valuesIn, Places.IsPlace};
 
 fn is_nothing(meaning: Use) -> bool
     ensures { λ r. ⌜ r ≡ isNothing meaning ⌝ }

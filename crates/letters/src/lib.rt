@@ -9,12 +9,11 @@ pub use judgement::judge;
 use lengths::Len;
 use words::Use;
 use words::Values;
-ghost use mathlib.Core.Path.{_≡_};
-ghost use mathlib.Core.List.{List, [], _∷_, _++_};
 ghost use Rattle.words.specs.declared.Use.the-variants as Use;
+ghost use Rattle.terms.specs.Common.{_≡_, List, [], _∷_, _++_};
 ghost use Rattle.words.specs.declared.Word.{Word};
-ghost use Rattle.letters.specs.Judging.{CentreSeen};
 ghost use Rattle.letters.specs.Letters.{usedIn, each, straightLetters, endLetters, centreLetters, turns, isArc, namesCentre, hasCentre, arcLetters, cycleLetters, dwellingCycleLetters, drillingLetters, motionLetters, dwellLetters, callLetters, feedAndSpeed, useOf, codeUnder};
+ghost use Rattle.letters.specs.Judging.{CentreSeen};
 
 // The code of a block that decides its letters.
 pub enum BlockCode {

@@ -1,10 +1,6 @@
 // Blanks and comments, which may stand between words and after an opening's number.
-ghost use mathlib.Core.Path.{_≡_};
-ghost use Prim.Native.Nat.{_+_, _≤_, _<_};
-ghost use lib.ListN.{length, drop};
-ghost use Rattle.lines.specs.Blocks.{textFrom};
-ghost use Rattle.lines.specs.Gaps.{onlyGaps};
-ghost use Rattle.lines.specs.Closing.{commentAt};
+ghost use Rattle.terms.specs.Common.{_≡_, _+_, _≤_, _<_, length, drop};
+ghost use Rattle.lines.specs.{Blocks.textFrom, Gaps.onlyGaps, Closing.commentAt};
 use crate::Comment;
 
 // Looks for the closing parenthesis of a comment whose bytes begin at a place. A CR before the block's LF is passed like

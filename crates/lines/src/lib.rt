@@ -3,10 +3,7 @@ mod gaps;
 
 pub use gaps::comment_end;
 pub use gaps::only_gaps;
-ghost use mathlib.Core.Path.{_≡_};
-ghost use mathlib.Core.Bool.{false};
-ghost use Prim.Native.Nat.{_+_, _≤_, _<_};
-ghost use lib.ListN.{length, drop};
+ghost use Rattle.terms.specs.Common.{_≡_, false, _+_, _≤_, _<_, length, drop};
 ghost use Rattle.lines.specs.Blocks.{noText, textFrom, lengthFrom, beginsWith, isPercent};
 
 // What follows an opening parenthesis: the place after the closing one, or none in the block.

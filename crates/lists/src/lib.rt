@@ -6,9 +6,7 @@ use refusals::count_of;
 use runs::Report;
 use runs::Standing;
 use setup::Setup;
-ghost use mathlib.Core.Path.{_≡_};
-ghost use Prim.Native.Nat.{_≤_};
-ghost use lib.ListN.{length};
+ghost use Rattle.terms.specs.Common.{_≡_, _≤_, length};
 ghost use Rattle.interpreter.specs.Owing.{Owes};
 ghost use Rattle.lists.specs.Lists.{budgetOf, endAfter, Makes, isWritten};
 

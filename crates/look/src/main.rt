@@ -2,18 +2,11 @@
 // openings give, or the opening that is refused, and then a line for each block after the first, with the values of its
 // words or the refusal that they get by themselves. Blocks are read one after the other, each as one of the main program,
 // so that a block's codes hold for the next; none is executed. The skip switch is off, and the speeds are 3000 to 8000.
-ghost use mathlib.Core.Path.{_≡_};
-ghost use Prim.Native.Nat.{_≤_, _<_};
-ghost use mathlib.Core.Bool.{false};
-ghost use lib.IntN.{pos};
-ghost use mathlib.Core.List.{List};
-ghost use lib.ListN.{length, getD, take};
-ghost use Rattle.words.specs.declared.Word.{Word};
-ghost use Rattle.words.specs.Packed.{wordsIn};
+ghost use Rattle.terms.specs.Common.{_≡_, _≤_, _<_, false, pos, List, length, getD, take};
+ghost use Rattle.words.specs.{declared.Word.Word, Packed.wordsIn};
 ghost use Rattle.lengths.specs.Units.{len};
 ghost use Rattle.settings.specs.Settings.{firstModes};
-ghost use Rattle.letters.specs.Letters.{codeUnder, hasCentre};
-ghost use Rattle.letters.specs.Judging.{CentreSeen, Stored, judgedBy};
+ghost use Rattle.letters.specs.{Letters.codeUnder, Letters.hasCentre, Judging.CentreSeen, Judging.Stored, Judging.judgedBy};
 use lengths::Len;
 use lengths::Point;
 use letters::Judged;

@@ -5,9 +5,6 @@ use Rattle.lines.{specs.Blocks.beginsWith, specs.Blocks.textFrom, proofs.Lines.
 use Rattle.words.{specs.Numbers.isDigit, specs.Numbers.run, specs.Numbers.digitsAfter, proofs.Numbers.ten-more}
 use Rattle.programs.specs.{Found.IsDigits, Openings.figuresOf}
 
-pub digit-is : (b : ℕ) → 48 ≤ b → b ≤ 57 → isDigit b ≡ true
-digit-is b h k = rw (le-leb 48 b h, le-leb b 57 k)
-
 pub digit-low : (b : ℕ) → b < 48 → isDigit b ≡ false
 digit-low b h = rw (lt-leb 48 b h)
 

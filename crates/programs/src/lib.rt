@@ -5,13 +5,9 @@ pub use openings::find;
 pub use openings::find_programs;
 use refusals::Place;
 use refusals::Refusal;
-ghost use mathlib.Core.Path.{_≡_};
-ghost use mathlib.Core.Bool.{true};
-ghost use Prim.Native.Nat.{_+_, _≤_, _<_};
-ghost use lib.ListN.{length, drop};
+ghost use Rattle.terms.specs.Common.{_≡_, true, _+_, _≤_, _<_, length, drop};
 ghost use Rattle.lines.specs.Blocks.{textFrom};
-ghost use Rattle.programs.specs.Openings.{numberAfterO, isTaken, entryOf};
-ghost use Rattle.programs.specs.Found.{IsDigits, subsOf, WellFound, Empty};
+ghost use Rattle.programs.specs.{Openings.numberAfterO, Openings.isTaken, Openings.entryOf, Found.IsDigits, Found.subsOf, Found.WellFound, Found.Empty};
 
 // A program of the data: its number, and the block and byte that follow its opening.
 pub struct Program {

@@ -8,14 +8,9 @@ use crate::Scanned;
 use crate::Verdict;
 use refusals::Place;
 use refusals::Refusal;
-ghost use mathlib.Core.Path.{_≡_};
-ghost use Prim.Native.Nat.{_+_, _≤_, _<_};
-ghost use lib.ListN.{length};
-ghost use Rattle.lines.specs.Blocks.{lengthFrom, blockFrom};
-ghost use Rattle.lines.specs.Serving.{blocksFrom};
-ghost use Rattle.programs.specs.Openings.{scan, programsFrom, known};
-ghost use Rattle.programs.specs.Found.{subsOf, WellFound, Entered};
-ghost use Rattle.programs.specs.Answers.{Gives, foundAs};
+ghost use Rattle.terms.specs.Common.{_≡_, _+_, _≤_, _<_, length};
+ghost use Rattle.lines.specs.{Blocks.lengthFrom, Blocks.blockFrom, Serving.blocksFrom};
+ghost use Rattle.programs.specs.{Openings.scan, Openings.programsFrom, Openings.known, Found.subsOf, Found.WellFound, Found.Entered, Answers.Gives, Answers.foundAs};
 
 // The table with one subprogram more: its number, and the block and byte that follow its opening.
 fn with_program(t: Programs, number: u64, block: usize, byte: usize) -> Programs

@@ -7,9 +7,7 @@ use crate::Status;
 use codes::Misc;
 use refusals::Refusal;
 use settings::Modes;
-ghost use mathlib.Core.Path.{_≡_};
-ghost use Prim.Native.Nat.{_≤_};
-ghost use lib.ListN.{length};
+ghost use Rattle.terms.specs.Common.{_≡_, _≤_, length};
 ghost use Rattle.words.specs.Packed.{wordsIn};
 ghost use Rattle.reading.specs.Whole.{IsRead};
 

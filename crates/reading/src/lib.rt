@@ -9,16 +9,11 @@ use refusals::Refusal;
 use settings::Modes;
 use words::Numbered;
 use words::Word;
-ghost use mathlib.Core.Path.{_≡_};
-ghost use mathlib.Core.Bool.{Bool, true, false};
-ghost use mathlib.Core.List.{List};
-ghost use Prim.Native.Nat.{_+_, _≤_, _<_};
-ghost use lib.ListN.{length, drop, getD};
+ghost use Rattle.terms.specs.Common.{_≡_, Bool, true, false, List, _+_, _≤_, _<_, length, drop, getD};
 ghost use Rattle.lines.specs.Blocks.{textFrom};
 ghost use Rattle.words.specs.Words.{isCapital, itemAt};
 ghost use Rattle.letters.specs.Letters.{isKnown, isG, isMisc, codeIn, miscIn, standsAlone, wrongProgram};
-ghost use Rattle.reading.specs.Items.{placed};
-ghost use Rattle.reading.specs.Seen.{letterPlace, Tells, TellsG, badMisc};
+ghost use Rattle.reading.specs.{Items.placed, Seen.letterPlace, Seen.Tells, Seen.TellsG, Seen.badMisc};
 
 // What begins at a place of a block: a blank or a comment, or a word, each with the place after it; or what is refused,
 // being unreadable.

@@ -1,9 +1,7 @@
 // An arc displaced: its end and its centre by the numbers of a point, every other number as it is.
-ghost use Prim.Native.Nat.{_^_};
-ghost use mathlib.Core.Path.{_≡_};
+ghost use Rattle.terms.specs.Common.{_^_, _≡_};
 ghost use Rattle.lengths.specs.Near.{Near};
-ghost use Rattle.records.specs.Displacing.{LooseArc};
-ghost use Rattle.records.specs.Path.{arcMoved};
+ghost use Rattle.records.specs.{Displacing.LooseArc, Path.arcMoved};
 use crate::Arc;
 use lengths::Point;
 

@@ -1,6 +1,5 @@
 // What all records of a kind share: the mark, and how many bytes they take.
-ghost use Prim.Native.Nat.{_≤_};
-ghost use mathlib.Core.Path.{_≡_};
+ghost use Rattle.terms.specs.Common.{_≤_, _≡_};
 ghost use Rattle.records.specs.Layout.{kindOf, markOf, hasPlane, numbersIn, headLength, kindLength};
 use crate::Kind;
 use crate::Record;

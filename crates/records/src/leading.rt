@@ -1,5 +1,5 @@
 // Where records lead.
-ghost use mathlib.Core.Path.{_≡_};
+ghost use Rattle.terms.specs.Common.{_≡_};
 ghost use Rattle.records.specs.Path.{pathOf, pathEnd};
 use crate::Record;
 use lengths::Point;

@@ -5,15 +5,10 @@ use crate::Record;
 use codes::Plane;
 use lengths::Len;
 use lengths::Point;
-ghost use Prim.Native.Nat.{_+_, _≤_};
-ghost use mathlib.Core.Path.{_≡_};
-ghost use mathlib.Core.List.{[], _∷_, _++_};
-ghost use lib.ListN.{length};
+ghost use Rattle.terms.specs.Common.{_+_, _≤_, _≡_, [], _∷_, _++_, length};
 ghost use Rattle.lengths.specs.View.{Short};
-ghost use Rattle.records.specs.declared.Record.the-variants.{RP, LN};
 ghost use Rattle.records.specs.Layout.{markOf, planeByte, pointNumbers, arcNumbers, numberBytes};
-ghost use Rattle.records.specs.Writing.{AllShort, movedBytes, RoomFor};
-ghost use Rattle.records.specs.Serving.{Wrote};
+ghost use Rattle.records.specs.{declared.Record.the-variants.RP, declared.Record.the-variants.LN, Writing.AllShort, Writing.movedBytes, Writing.RoomFor, Serving.Wrote};
 
 pub fn put_number(list: &mut [u8], at: usize, n: Len) -> usize
     requires { ⌜ at + 4 ≤ length (now list) ⌝ }

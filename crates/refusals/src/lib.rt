@@ -1,7 +1,6 @@
 // The sixteen refusals of document 01's table, in its order, the place that a refusal names, and what a run answers.
-ghost use mathlib.Core.Path.{_≡_};
-ghost use Rattle.refusals.specs.Numbers.{numberOf};
-ghost use Rattle.refusals.specs.Answers.{countOf};
+ghost use Rattle.terms.specs.Common.{_≡_};
+ghost use Rattle.refusals.specs.{Numbers.numberOf, Answers.countOf};
 
 pub enum Refusal {
     BadParameter,

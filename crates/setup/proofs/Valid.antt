@@ -3,7 +3,7 @@
 use Rattle.terms.proofs.Common.{ℕ, zero, suc, _^_, _≡_, _∙_, Bool, true, _&&_, List, [], _∷_, map, arith, ℤ, pos, _+ℤ_, _-ℤ_, leZ, length, getD, length-map}
 use Rattle.terms.{specs.Terms.all, specs.Terms.between, specs.Terms.within, proofs.Laws.both-left, proofs.Laws.both-right}
 use Rattle.lengths.specs.{Units.len, View.Within, declared.Point.Point, Points.moved, Points.movedBack, Points.inside, Near.Near}
-use Rattle.lengths.proofs.{Laws.view, Laws.sum-bal, Laws.diff-bal, Tests.within-near}
+use Rattle.lengths.proofs.{Laws.view, Laws.sum-bal, Laws.diff-bal, Tests.within-near, Tests.between-near}
 use Rattle.setup.specs.{declared.Axes.Axes, declared.Setup.Setup, Fair.Fair}
 use Rattle.setup.specs.Limits.{axisFits, travelFits, axesWithin, offsetsFit, feedFits, speedsFit, switchFits, validSetup}
 use Rattle.setup.specs.Frame.{pointOf, offset, startOf, travelOf, bedOf, originAt}
@@ -12,13 +12,6 @@ use Rattle.setup.specs.Frame.{pointOf, offset, startOf, travelOf, bedOf,
 
 both : (a b : Bool) → (a && b) ≡ true → (a ≡ true) × (b ≡ true)
 both a b e = (both-left a b e, both-right a b e)
-
--- a number between two that are bounded
-between-near : (n : ℕ) (a b z : ℤ) → Within n a → Within n b → between a b z ≡ true → Within n z
-between-near n a b z h k e =
-    let low = both-left (leZ a z) (leZ z b) e in
-    let high = both-right (leZ a z) (leZ z b) e in
-    omega (arith, view)
 
 -- a number between two, all three displaced
 between-shifted : (a b z d : ℤ) → between a b z ≡ true → between (a -ℤ d) (b -ℤ d) (z -ℤ d) ≡ true

@@ -15,7 +15,7 @@ use crate::speed_fits;
 use crate::switch_fits;
 use lengths::Len;
 use lengths::Point;
-ghost use mathlib.Core.Path.{_≡_};
+ghost use Rattle.terms.specs.Common.{_≡_};
 ghost use Rattle.setup.specs.Faults.{firstBroken, axisLimits, travelLimits, placeLimits, originLimits, numberLimits, faultOf};
 
 fn axis_fault(axis: Axis, low: Len, high: Len, start: Len) -> Fault

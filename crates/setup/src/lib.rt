@@ -7,13 +7,11 @@ use lengths::Len;
 use lengths::Point;
 use lengths::Travel;
 pub use numbers_to_try::setup_t;
-ghost use mathlib.Core.Path.{_≡_};
-ghost use mathlib.Core.Bool.{true};
-ghost use mathlib.Core.List.{map};
+ghost use Rattle.terms.specs.Common.{_≡_, true, map};
 ghost use Rattle.terms.specs.Terms.{between, within};
 ghost use Rattle.lengths.specs.Units.{len};
-ghost use Rattle.setup.specs.Limits.{feedFits, rangeFits, speedFits, switchFits, validSetup};
 ghost use Rattle.setup.specs.Frame.{pointOf, startOf, travelOf, bedOf, switchOn};
+ghost use Rattle.setup.specs.Limits.{feedFits, rangeFits, speedFits, switchFits, validSetup};
 
 // How far from 0 an end of the travel may be, and how far the common offset and an origin.
 pub const TRAVEL_LIMIT: u64 = 100_000_000;

@@ -1,7 +1,7 @@
 // Document 01's setup T, for the programs that run under it.
 use crate::Axes;
 use crate::Setup;
-ghost use mathlib.Core.Path.{_≡_};
+ghost use Rattle.terms.specs.Common.{_≡_};
 ghost use Rattle.setup.specs.Examples.{setupT};
 
 // The setup of "Numbers to try".

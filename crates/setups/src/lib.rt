@@ -4,10 +4,7 @@ use setup::Axes;
 use setup::Setup;
 use texts::Worth;
 use texts::Wrong;
-ghost use mathlib.Core.Path.{_≡_};
-ghost use Prim.Native.Nat.{_+_, _≤_, _<_};
-ghost use mathlib.Core.List.{[]};
-ghost use lib.ListN.{length, getD};
+ghost use Rattle.terms.specs.Common.{_≡_, _+_, _≤_, _<_, [], length, getD};
 ghost use Rattle.texts.specs.Texts.{next};
 ghost use Rattle.setups.specs.Setups.{names, nameOf, plan, isNamed, nameAt, numberAt, entryAt, ended, axesOf, setupOf, refused, answered, setupIn};
 

@@ -19,7 +19,7 @@ use running::run;
 use setup::Fault;
 use setup::Setup;
 use setup_files::setup_in;
-ghost use mathlib.Core.Path.{_≡_};
+ghost use Rattle.terms.specs.Common.{_≡_};
 ghost use Rattle.shop.specs.Asking.{askedBy};
 
 // A setup is of use only where all is fine. Else a line has said what is wrong.

@@ -15,7 +15,7 @@ use lists::Made;
 use lists::is_written;
 use lists::make_list;
 use setup::Setup;
-ghost use Prim.Native.Nat.{_≤_};
+ghost use Rattle.terms.specs.Common.{_≤_};
 
 // Answers whether standard output took what there was to print.
 pub fn run(line: &[u8], count: usize, err: i32) -> bool {

@@ -4,7 +4,7 @@ use files::begin_line;
 use files::write_line;
 use texts::Wrong;
 use texts::none_wrong;
-ghost use mathlib.Core.Path.{_≡_};
+ghost use Rattle.terms.specs.Common.{_≡_};
 ghost use Rattle.texts.specs.Texts.{noneWrong};
 ghost use Rattle.setups.specs.Setups.{setupIn};
 ghost use Rattle.shop.specs.Knowing.{knownBy, lineOf};

@@ -15,13 +15,10 @@ use lengths::Flat;
 use lengths::Len;
 use lengths::Point;
 use records::Arc;
-ghost use mathlib.Core.Path.{_≡_};
-ghost use lib.IntN.{pos};
-ghost use Rattle.arcs.specs.Arcs.{towards};
-ghost use Rattle.arcs.specs.Bounds.{Small};
-ghost use Rattle.svg.specs.Text.{Fills};
-ghost use Rattle.svg.specs.Turns.{Drawable};
+ghost use Rattle.terms.specs.Common.{_≡_, pos};
+ghost use Rattle.arcs.specs.{Arcs.towards, Bounds.Small};
 ghost use Rattle.svg.specs.ArcText.{Ready, isRound, turnSeen, piece, seenArc, seenOn, quarters, passes, extremes, bend, arc};
+ghost use Rattle.svg.specs.{Text.Fills, Turns.Drawable};
 
 fn is_round(view: View, plane: Plane) -> bool
     ensures { λ r. ⌜ r ≡ isRound view plane ⌝ }

@@ -2,8 +2,7 @@
 // the place after it, so that a writer of many parts tests the room once, at the end.
 use lengths::Flat;
 use lengths::Len;
-ghost use mathlib.Core.Path.{_≡_};
-ghost use mathlib.Core.List.{[], _∷_};
+ghost use Rattle.terms.specs.Common.{_≡_, [], _∷_};
 ghost use Rattle.svg.specs.Text.{Fills, digits, number, across, filled};
 
 fn put_byte(out: &mut [u8], at: usize, b: u8) -> usize

@@ -4,8 +4,7 @@ use lengths::Flat;
 use lengths::Len;
 use lengths::Point;
 use records::Arc;
-ghost use Prim.Native.Nat.{_≤_};
-ghost use mathlib.Core.Path.{_≡_};
+ghost use Rattle.terms.specs.Common.{_≤_, _≡_};
 ghost use Rattle.arcs.specs.Bounds.{Small};
 ghost use Rattle.svg.specs.Turns.{quarterOn, onward, soon, pointOn, radiusOf, near, drawable, Drawable};
 

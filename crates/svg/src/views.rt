@@ -3,9 +3,8 @@ use crate::View;
 use crate::forms::put_form;
 use lengths::Flat;
 use lengths::Point;
-ghost use mathlib.Core.Path.{_≡_};
-ghost use Rattle.svg.specs.Text.{Fills};
-ghost use Rattle.svg.specs.Lines.{seenFrom, line};
+ghost use Rattle.terms.specs.Common.{_≡_};
+ghost use Rattle.svg.specs.{Text.Fills, Lines.seenFrom, Lines.line};
 
 pub fn seen(view: View, p: Point) -> Flat
     ensures { λ r. ⌜ r ≡ seenFrom view p ⌝ }

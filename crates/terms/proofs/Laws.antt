@@ -1,6 +1,6 @@
 -- Laws of the words that definitions are written in.
 use Rattle.terms.proofs.Common.{ℕ, zero, suc, _+_, _≤_, _<_, _≡_, refl, sym, _∙_, ap, List, [], _∷_, _++_, add-zero, zero-add, arith, add-one, length, drop, getD, drop-of-length-le, drop-cons, Bool, true, false, false≢true, _&&_, _||_, or-false, or-true, or-assoc}
-use Rattle.terms.specs.Terms.{any, all}
+use Rattle.terms.specs.Terms.{any}
 
 -- the halves of two tests that both passed
 pub both-left : (a b : Bool) → (a && b) ≡ true → a ≡ true
@@ -33,20 +33,6 @@ module _ {ℓ} {A : Type ℓ} (test : A → Bool) (l : List A) (i : ℕ) (d : A)
   pub any-past : i < length l → test (getD l i d) ≡ false → any test (drop i l) ≡ any test (drop (i + 1) l)
   unfolding any
   any-past h e = rw (add-one, drop-cons l i d h) (rw e)
-
--- the same of a test that each of a list must pass
-module _ {ℓ} {A : Type ℓ} (test : A → Bool) (l : List A) (i : ℕ) (d : A) where
-  pub all-end : length l ≤ i → all test (drop i l) ≡ true
-  unfolding all
-  all-end h = rw (drop-of-length-le l h)
-
-  pub all-fails : i < length l → test (getD l i d) ≡ false → all test (drop i l) ≡ false
-  unfolding all
-  all-fails h e = rw (drop-cons l i d h) (rw e)
-
-  pub all-past : i < length l → test (getD l i d) ≡ true → all test (drop i l) ≡ all test (drop (i + 1) l)
-  unfolding all
-  all-past h e = rw (add-one, drop-cons l i d h) (rw e)
 
 -- a test of a list with one more at its end
 pub any-snoc {ℓ} : {A : Type ℓ} (test : A → Bool) (l : List A) (a : A) → any test (l ++ a ∷ []) ≡ (any test l || test a)

@@ -1,10 +1,8 @@
 // The words of a text, apart by blanks and comments, and what one is worth as a number.
 use lengths::Len;
 use words::Sign;
-ghost use mathlib.Core.Path.{_≡_};
-ghost use Prim.Native.Nat.{_+_, _^_, _≤_, _<_};
-ghost use lib.ListN.{length};
 ghost use lib.Seq.{slice};
+ghost use Rattle.terms.specs.Common.{_≡_, _+_, _^_, _≤_, _<_, length};
 ghost use Rattle.words.specs.declared.Sign.the-variants.{Plain, Minus};
 ghost use Rattle.texts.specs.Texts.{noneWrong, isBlank, spaceOf, next, inWord, wordAt, sameBytes};
 ghost use Rattle.texts.specs.Figures.{digitsIn, fitted, worthOf};

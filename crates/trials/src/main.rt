@@ -1,7 +1,6 @@
 // Commands for the shops' program that come on standard input, one to a line, words with one blank between. Each is printed
 // after `$ ` and done, wrong uses being told on standard output; `print FILE` prints a file's bytes.
-ghost use Prim.Native.Nat.{_≤_, _<_};
-ghost use lib.ListN.{length};
+ghost use Rattle.terms.specs.Common.{_≤_, _<_, length};
 ghost use Rattle.io.specs.Counts.{Counts};
 use libc::STDIN_FILENO;
 use libc::STDOUT_FILENO;

@@ -1,6 +1,5 @@
 // Numbers past 64 bits, as two words: a product of two numbers of 64 bits, and its division by a third.
-ghost use mathlib.Core.Path.{_≡_};
-ghost use Prim.Native.Nat.{_*_, _^_, _≤_, _<_};
+ghost use Rattle.terms.specs.Common.{_≡_, _*_, _^_, _≤_, _<_};
 ghost use Rattle.wide.specs.Wide.{worth, Divides};
 
 pub struct Wide {

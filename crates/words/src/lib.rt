@@ -6,17 +6,11 @@ use lengths::Len;
 pub use numerals::read_number;
 pub use numerals::sign_length;
 pub use numerals::sign_of;
-ghost use mathlib.Core.Path.{_≡_};
-ghost use Prim.Native.Nat.{_^_, _≤_, _<_};
-ghost use mathlib.Core.Bool.{not, _&&_};
-ghost use lib.IntN.{pos};
-ghost use lib.ListN.{length};
-ghost use lib.Signed.{ltZ};
+ghost use Rattle.terms.specs.Common.{_≡_, _^_, _≤_, _<_, not, _&&_, pos, length, ltZ};
 ghost use Rattle.terms.specs.Terms.{byte, between};
 ghost use Rattle.lengths.specs.Units.{len};
-ghost use Rattle.words.specs.Serving.{Written, Steps};
-ghost use Rattle.words.specs.Packed.{signNumber, signAt, packed, unpacked};
 ghost use Rattle.words.specs.Values.{isPlain, signed, placesOf, unitsOf, lengthOf, isLength, dwellOf, isDwell, countOf, checked, valueOf};
+ghost use Rattle.words.specs.{Serving.Written, Serving.Steps, Packed.signNumber, Packed.signAt, Packed.packed, Packed.unpacked};
 
 // The sign that a number is written with.
 pub enum Sign {

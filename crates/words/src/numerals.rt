@@ -2,11 +2,8 @@
 use crate::Number;
 use crate::Numbered;
 use crate::Sign;
-ghost use mathlib.Core.Path.{_≡_};
-ghost use Prim.Native.Nat.{_+_, _≤_};
-ghost use mathlib.Core.List.{[], _∷_};
-ghost use lib.ListN.{length, drop};
 ghost use lib.Seq.{slice};
+ghost use Rattle.terms.specs.Common.{_≡_, _+_, _≤_, [], _∷_, length, drop};
 ghost use Rattle.words.specs.Numbers.{isFigure, signOf, signLength, run, numberBy, numberIn};
 
 // The sign of a number that begins with this byte.

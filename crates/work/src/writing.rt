@@ -7,14 +7,10 @@ use cycles::Hole;
 use lengths::Len;
 use lengths::Point;
 use records::Kind;
-ghost use Prim.Native.Nat.{_+_, _≤_};
-ghost use lib.ListN.{length};
-ghost use Rattle.records.specs.Serving.{Wrote};
+ghost use Rattle.terms.specs.Common.{_+_, _≤_, length};
+ghost use Rattle.records.specs.{Serving.Wrote, Layout.listBytes, Layout.roomOf, Writing.ListShort, Writing.movedBytes, Writing.RoomFor};
 ghost use Rattle.cycles.specs.Cycles.{passTo};
-ghost use Rattle.records.specs.Layout.{listBytes, roomOf};
-ghost use Rattle.records.specs.Writing.{ListShort, movedBytes, RoomFor};
-ghost use Rattle.work.specs.Work.{workRecords, drilled, briefRecords};
-ghost use Rattle.work.specs.Needs.{Writable};
+ghost use Rattle.work.specs.{Work.workRecords, Work.drilled, Work.briefRecords, Needs.Writable};
 
 // A record that leads nowhere is the same in machine units.
 pub fn put_brief(list: &mut [u8], at: usize, b: Brief) -> usize
