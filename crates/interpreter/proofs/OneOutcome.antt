@@ -1,17 +1,16 @@
 -- "no two different outcomes may satisfy one statement": for each entry point, two outcomes that satisfy its statement for the same
 -- input are equal. Assumes nothing.
-use Rattle.terms.proofs.Common.{ℕ, _≡_, sym, _∙_, ap₂, List}
+use Rattle.terms.proofs.Common.{ℕ, _≡_, sym, _∙_, List}
 use Rattle.setup.specs.declared.Setup.{Setup}
 use Rattle.records.specs.{declared.Listed.Listed, Reading.readAt}
-use Rattle.refusals.specs.declared.Answer.{Answer}
-use Rattle.runs.specs.declared.{Budget.Budget, Standing.Standing, Budget.the-variants.Whole, Budget.the-variants.First, Report.Report}
+use Rattle.runs.specs.declared.{Budget.Budget, Budget.the-variants.Whole, Budget.the-variants.First, Report.Report}
 use Rattle.interpreter.specs.Owing.{Owes}
 
 one :
     {s : Setup} {l : List ℕ} {budget : Budget} {was is is′ : List ℕ} {r r′ : Report}
     → Owes s l budget was is r → Owes s l budget was is′ r′ → (r ≡ r′) × (is ≡ is′)
 one o u = (
-  ap₂ (λ (a : Answer) (b : Standing). record { answer = a; standing = b }) (o .answer ∙ sym (u .answer)) (o .standing ∙ sym (u .standing)),
+  λ i. record { answer = (o .answer ∙ sym (u .answer)) i; standing = (o .standing ∙ sym (u .standing)) i; end = (o .end ∙ sym (u .end)) i },
   o .bytes ∙ sym (u .bytes),
 )
 

@@ -76,12 +76,12 @@ module _ {bed : Bed} {o : Outcome} {p : Progress} {was is : List ℕ} {e : Endin
 
   pub main-gives :
       {u : Outcome} {by : Point} {r : Report} → bed .offset ≡ by → p .next ≡ 0 → p .count ≡ 0 → o ≡ u
-      → ((room : ℕ) (made : List Record) → length made ≡ e .progress .count → r ≡ reportBy by (outcomeBy room e made))
+      → ((room : ℕ) (made : List Record) → length made ≡ e .progress .count → roomOf made ≡ e .progress .next → r ≡ reportBy by (outcomeBy room e made))
       → Gives by u was is r
   main-gives {by = by} b n k f told =
       rw (← f)
       (record {
-        report = told (length was) (o .made) (omega (arith, ran .count)) ∙ sym (ap (reportBy by) (ran .outcome));
+        report = told (length was) (o .made) (omega (arith, ran .count)) (omega (arith, ran .next)) ∙ sym (ap (reportBy by) (ran .outcome));
         bytes = ran .bytes ∙ rw (n, b) refl;
         room = omega (arith, ran .next, ran .fits .next);
       })
@@ -111,9 +111,9 @@ start-is s = points (again (s .start .x) (s .exofs .x)) (again (s .start .y) (s 
 pub stands-at-start :
     (s : Setup) (refusal : Refusal) (place : Place) {start : Point} {feed speed : Len} {state : State} → start ≡ pointOf (s .start) → feed ≡ len (s .feed)
     → speed ≡ len (s .speed) → state ≡ firstState start feed speed
-    → record { answer = Refused refusal place 0; standing = record { state = state; next = nowhere } }
+    → record { answer = Refused refusal place 0; standing = record { state = state; next = nowhere }; end = 0 }
     ≡ reportBy (offset s) (just (Walk.refusedAt refusal place) (firstOf s))
-unfolding reportBy answerBy stateMoved firstOf firstState
+unfolding reportBy answerBy stateMoved firstOf firstState roomOf
 stands-at-start s refusal place e f g h = rw (h, e, f, g, start-is s)
 
 -- ---- "Order: 13, 12, 11; then per opening 1, 8, 7."
@@ -245,5 +245,6 @@ owed s l budget {was} g =
     record {
       answer = ap (λ (r : Report). r .answer) (g .report);
       standing = ap (λ (r : Report). r .standing) (g .report);
+      end = ap (λ (r : Report). r .end) (g .report) ∙ sym (moved-length (offset s) made);
       bytes = g .bytes ∙ rw none at (sets-eq bytes was 0 fits);
     }

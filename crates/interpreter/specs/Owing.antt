@@ -5,10 +5,12 @@ use Rattle.records.specs.{declared.Record.Record, declared.Listed.the-variants.
 use Rattle.runs.specs.{Run.answerOf, Run.standingOf, Run.recordsOf, declared.Budget.Budget, declared.Report.Report}
 use Rattle.refusals.specs.{declared.Answer.Answer, Answers.countOf}
 
--- What a run owes: its answer, where it stands, and the list buffer's final bytes in full. The whole buffer is the room.
+-- What a run owes: its answer, where it stands, the place where its records end, and the list buffer's final bytes in full. The whole
+-- buffer is the room.
 pub record Owes (s : Setup) (l : List ℕ) (budget : Budget) (was is : List ℕ) (r : Report) : Type 0 where
   pub answer : r .answer ≡ answerOf s l (length was) budget
   pub standing : r .standing ≡ standingOf s l (length was) budget
+  pub end : r .end ≡ length (listBytes (recordsOf s l (length was) budget))
   pub bytes :
       is
       ≡ listBytes (recordsOf s l (length was) budget)

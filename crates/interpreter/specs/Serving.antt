@@ -13,6 +13,7 @@ reportBy offset o =
     record {
       answer = answerBy (o .how) (length (o .made));
       standing = record { state = stateMoved offset (o .last); next = o .next };
+      end = roomOf (o .made);
     }
 
 -- "Order: .. 11; then per opening 1, 8, 7.": the data begin with `%` alone, and these are their programs

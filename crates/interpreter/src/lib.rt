@@ -107,6 +107,7 @@ fn run_main(
     Report {
         answer: reporting::answer_by(how, ending.place, ending.progress.count),
         standing: Standing { state, next },
+        end: ending.progress.next,
     }
 }
 

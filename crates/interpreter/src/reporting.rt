@@ -35,6 +35,7 @@ pub fn refused(setup: Setup, refusal: Refusal, place: Place) -> Report
     Report {
         answer: Answer::Refused(refusal, place, 0),
         standing: Standing { state, next },
+        end: 0,
     }
 }
 

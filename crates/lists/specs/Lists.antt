@@ -1,10 +1,9 @@
 -- The list that a run leaves for a file, by the rules of the run.
-use Rattle.terms.specs.Common.{ℕ, zero, suc, _≤_, _≡_, Bool, _&&_, List, _++_, length, take, drop}
+use Rattle.terms.specs.Common.{ℕ, _≤_, _≡_, Bool, _&&_, List, _++_, length, take, drop}
 use Rattle.terms.specs.Terms.{if_then_else_}
 use Rattle.refusals.specs.declared.Answer.{Answer, the-variants.Done, the-variants.Unfinished, the-variants.Refused}
 use Rattle.setup.specs.declared.Setup.{Setup}
-use Rattle.records.specs.declared.Listed.{Listed, the-variants.Next, the-variants.End, the-variants.Faulty}
-use Rattle.records.specs.{declared.Record.Record, Layout.listBytes, Reading.readAt}
+use Rattle.records.specs.{declared.Record.Record, Layout.listBytes}
 use Rattle.commands.specs.declared.options.Options.{Options}
 use Rattle.runs.specs.{Run.answerOf, Run.standingOf, Run.recordsOf, declared.Budget.Budget, declared.Budget.the-variants.Whole, declared.Budget.the-variants.First}
 use Rattle.lists.specs.declared.Made.{Made}
@@ -16,16 +15,6 @@ budgetOf o = if o .whole then Whole else First (o .blocks)
 -- the records of a run with these options
 abbrev pub madeBy : Setup → List ℕ → Options → List Record
 madeBy s bytes o = recordsOf s bytes (o .room) (budgetOf o)
-
--- where the reader stands after so many records from a place on, or where it finds none any more
-unfoldable pub endBy : Listed → ℕ → (ℕ → ℕ) → ℕ
-endBy (Next r next) at go = go next
-endBy End at go = at
-endBy (Faulty fault place) at go = at
-
-unfoldable pub endAfter : ℕ → List ℕ → ℕ → ℕ
-endAfter zero l at = at
-endAfter (suc n) l at = endBy (readAt l at) at (endAfter n l)
 
 -- What such a run owes: its answer, and where it stands; its records from the first byte of the buffer on, within the room, and every byte after
 -- them as it was; and where they end, so that the bytes before it are the records'.

@@ -1,14 +1,12 @@
 // The list that a run leaves for a file: the run with a part of a buffer as its room, and where its records end there.
 use commands::Options;
-use records::Listed;
 use refusals::Answer;
-use refusals::count_of;
 use runs::Report;
 use runs::Standing;
 use setup::Setup;
 ghost use Rattle.terms.specs.Common.{_≡_, _≤_, length};
 ghost use Rattle.interpreter.specs.Owing.{Owes};
-ghost use Rattle.lists.specs.Lists.{budgetOf, endAfter, Makes, isWritten};
+ghost use Rattle.lists.specs.Lists.{budgetOf, Makes, isWritten};
 
 // The answer of a run, where it stands, and where its records end in the buffer.
 pub struct Made {
@@ -27,29 +25,6 @@ fn report_in(setup: Setup, bytes: &[u8], list: &mut [u8], options: Options) -> R
     interpreter::run_blocks(setup, bytes, list, options.blocks)
 }
 
-// Where the first records of a list end, as many as it is told.
-fn records_end(list: &[u8], count: usize) -> usize
-    ensures { λ r. ⌜ r ≡ endAfter count (now (list .entry)) 0 ⌝ }
-{
-    let mut at: usize = 0;
-    let mut left = count;
-    while 0 < left {
-        match records::read(list, at) {
-            Listed::Next(_, next) => {
-                at = next;
-            }
-            Listed::End => {
-                return at;
-            }
-            Listed::Faulty(_, _) => {
-                return at;
-            }
-        }
-        left -= 1;
-    }
-    at
-}
-
 // Runs the data into a buffer. What stands before the end are the records, and nothing else.
 pub fn make_list(setup: Setup, bytes: &[u8], list: &mut [u8], options: Options) -> Made
     requires { ⌜ options .room ≤ length (now list) ⌝ }
@@ -59,11 +34,10 @@ pub fn make_list(setup: Setup, bytes: &[u8], list: &mut [u8], options: Options) 
     let report = report_in(setup, bytes, &mut list[..room], options);
     let answer = report.answer;
     let standing = report.standing;
-    let end = records_end(list, count_of(answer));
     Made {
         answer,
         standing,
-        end,
+        end: report.end,
     }
 }
 

@@ -15,8 +15,9 @@ pub struct Standing {
     pub next: Place,
 }
 
-// What a run tells its caller.
+// What a run tells its caller: its answer, where it stands, and how many bytes of the list its records take.
 pub struct Report {
     pub answer: Answer,
     pub standing: Standing,
+    pub end: usize,
 }

@@ -45,8 +45,8 @@ returns c =
     let a = s .args in
     main-gives (ran .run-program .ensures) (ap (λ (b : Bed). b .offset) (bed .bed-of .ensures)) refl refl
     (main-walk (s .pre .1) (a .setup) (length (a .list .now)) (a .budget) (bed .bed-of .ensures) (first .first-state .ensures) (skips .skips .ensures))
-    (λ room made e.
-    rw (c .answer-by .ensures (goingOf room (ran .run-program .result .progress)), c .before .next-by .ensures, moved .state-moved .ensures, point .point-of .ensures, e))
+    (λ room made e f.
+    rw (c .answer-by .ensures (goingOf room (ran .run-program .result .progress)), c .before .next-by .ensures, moved .state-moved .ensures, point .point-of .ensures, e, f))
 
 pub run-main-spec : {M : Type 1} → statement M
 run-main-spec =

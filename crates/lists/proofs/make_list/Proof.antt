@@ -10,15 +10,12 @@ slice-aggregate-report-in c =
 
 returns : tie.Need-returns
 returns c =
-    let r = c .before .before .before .before .before .before in
+    let r = c .before .before .before in
     let s = r .before .before .before .before in
     let a = s .args in
     let known = s .good .0 .1 .1 .1 .1 .1 .1 .0 .1 .0 .1 in
     let six : length (a .setup .origins) ≡ 6 = sym (length-map (a .setup .origins) _) ∙ known in
-    made (a .setup) six (a .bytes .now) (a .options) (s .pre) (r .report-in .ensures) (c .before .count-of .ensures) (c .records-end .ensures)
+    made (a .setup) six (a .bytes .now) (a .options) (s .pre) (r .report-in .ensures)
 
 pub make-list-spec : {M : Type 1} → statement M
-make-list-spec =
-    tie.close
-    (tie.spec (λ c. search needs) slice-aggregate-report-in (λ c κs. search needs) (λ c κs. search needs) (λ c κs. search needs)
-    (λ c. search needs) returns)
+make-list-spec = tie.close (tie.spec (λ c. search needs) slice-aggregate-report-in (λ c κs. search needs) (λ c. search needs) returns)
