@@ -55,8 +55,8 @@ module _ (bed : Bed) (s : State) (read : Reading) (ws held : List Word) (says : 
         {values : Values}
         (e : Fine values ≡ judgedBy (machineOf bed .speeds) (said .modes) (said .code) (hasCentre (said .code) (said .modes .plane) ws) ws)
       where
-        abbrev heard : Said
-        heard =
+        abbrev found : Said
+        found =
             record {
               modes = read .seen .modes;
               code = code;
@@ -65,12 +65,12 @@ module _ (bed : Bed) (s : State) (read : Reading) (ws held : List Word) (says : 
               values = values;
             }
 
-        pub said-is : (calls : Calls) (room start : ℕ) → heard ≡ said
+        pub said-is : (calls : Calls) (room start : ℕ) → found ≡ said
         unfolding saidBy machineOf
         said-is calls room start =
             rw (code-is, named-is, says .seen .misc, says .seen .modes, values-past (machineOf bed) calls room s start ws e .1 .are)
 
-        pub steady : Fair bed → Reachable bed s → (calls : Calls) (room start : ℕ) → Steady bed s heard
+        pub steady : Fair bed → Reachable bed s → (calls : Calls) (room start : ℕ) → Steady bed s found
         unfolding saidBy machineOf
         steady fair state calls room start =
             rw (said-is calls room start)

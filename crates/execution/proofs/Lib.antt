@@ -2,6 +2,6 @@ pub mod Opened
 pub mod Verdicts
 pub mod Small
 pub mod Judged
-pub mod Listening
+pub mod Found
 pub mod Ready
 pub mod Written

@@ -1,7 +1,7 @@
 // One block, from its words to its verdict and its records.
+mod block_reading;
 mod checking;
 mod effects;
-mod hearing;
 mod order;
 
 use blocks::Control;
@@ -33,8 +33,8 @@ pub struct Spot {
     pub from: usize,
 }
 
-// What is heard of a block's words: a refusal with the byte that it names, or what they say, and where the block's text ends.
-pub enum Heard {
+// What is read of a block's words: a refusal with the byte that it names, or what they say, and where the block's text ends.
+pub enum BlockRead {
     Refused(Refusal, usize),
     Says(Said, usize),
 }
@@ -102,10 +102,10 @@ pub fn exec(
     ensures { λ r. ⌜ Does (ground .bed .offset) (exec (machineOf (ground .bed)) (freely (ground .left)) (length (now (list .entry)) - at) state (spot .start) (spot .from) (textFrom (drop (spot .from) (now (s .entry))))) (now (list .entry)) at (spot .from + lengthFrom (drop (spot .from) (now (s .entry)))) (now (list .exit)) r ⌝ }
 {
     let bed = ground.bed;
-    let heard = hearing::hear_block(s, spot.from, ground.left, bed, state);
-    match heard {
-        Heard::Refused(refusal, byte) => Executed::Refused(refusal, byte),
-        Heard::Says(said, end) => {
+    let found = block_reading::read_block(s, spot.from, ground.left, bed, state);
+    match found {
+        BlockRead::Refused(refusal, byte) => Executed::Refused(refusal, byte),
+        BlockRead::Says(said, end) => {
             let after = lines::next_block(s, end);
             check_block(list, at, bed, spot.start, after, state, said)
         }

@@ -7,8 +7,8 @@ use lengths::Len;
 use lengths::Point;
 ghost use Rattle.terms.specs.Common.{_+_, _≤_, _≡_, [], _∷_, _++_, length};
 ghost use Rattle.lengths.specs.View.{Short};
-ghost use Rattle.records.specs.Layout.{markOf, planeByte, pointNumbers, arcNumbers, numberBytes};
 ghost use Rattle.records.specs.{declared.Record.the-variants.RP, declared.Record.the-variants.LN, Writing.AllShort, Writing.movedBytes, Writing.RoomFor, Serving.Wrote};
+ghost use Rattle.records.specs.Layout.{markOf, planeByte, pointNumbers, arcNumbers, numberBytes};
 
 pub fn put_number(list: &mut [u8], at: usize, n: Len) -> usize
     requires { ⌜ at + 4 ≤ length (now list) ⌝ }

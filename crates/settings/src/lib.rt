@@ -11,8 +11,8 @@ use words::Given;
 use words::Values;
 ghost use Rattle.terms.specs.Common.{_≡_};
 ghost use Rattle.codes.specs.declared.Code.the-variants.{GroupA, GroupB, GroupC, GroupD, GroupE, GroupF};
-ghost use Rattle.settings.specs.Bounds.{Sized, Aims, Aimed};
 ghost use Rattle.settings.specs.{Settings.firstModes, Settings.firstState, Settings.switched, Settings.orElse, Target.base, Target.aimed};
+ghost use Rattle.settings.specs.Bounds.{Sized, Aims, Aimed};
 
 // The code that is on in each of the groups A to F; origin is the place in the table of origins, from 0.
 pub struct Modes {

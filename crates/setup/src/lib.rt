@@ -7,11 +7,10 @@ use lengths::Len;
 use lengths::Point;
 use lengths::Travel;
 pub use numbers_to_try::setup_t;
-ghost use Rattle.terms.specs.Common.{_≡_, true, map};
-ghost use Rattle.terms.specs.Terms.{between, within};
+ghost use Rattle.terms.specs.{Common._≡_, Common.true, Common.map, Terms.between, Terms.within};
 ghost use Rattle.lengths.specs.Units.{len};
-ghost use Rattle.setup.specs.Frame.{pointOf, startOf, travelOf, bedOf, switchOn};
 ghost use Rattle.setup.specs.Limits.{feedFits, rangeFits, speedFits, switchFits, validSetup};
+ghost use Rattle.setup.specs.Frame.{pointOf, startOf, travelOf, bedOf, switchOn};
 
 // How far from 0 an end of the travel may be, and how far the common offset and an origin.
 pub const TRAVEL_LIMIT: u64 = 100_000_000;

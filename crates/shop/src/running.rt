@@ -11,9 +11,9 @@ use files::list_room;
 use files::show_text;
 use files::spot_for;
 use libc::STDOUT_FILENO;
-use lists::Made;
-use lists::is_written;
-use lists::make_list;
+use list_files::Made;
+use list_files::is_written;
+use list_files::make_list;
 use setup::Setup;
 ghost use Rattle.terms.specs.Common.{_≤_};
 

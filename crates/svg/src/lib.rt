@@ -1,10 +1,10 @@
 // Shapes as SVG text, in units: numbers in the blanks of a text, and lines and arcs as they are seen from above or from the side.
-mod bends;
+mod arc_text;
 mod forms;
 mod quarters;
 mod views;
 
-pub use bends::put_arc;
+pub use arc_text::put_arc;
 pub use forms::put_form;
 pub use forms::put_text;
 use lengths::Flat;
