@@ -4,29 +4,13 @@ use Rattle.terms.specs.Terms.{firstOf, stands}
 use Rattle.refusals.specs.declared.Refusal.{Refusal, the-variants.NumberNotFound, the-variants.NestOver}
 use Rattle.lines.specs.Serving.{blocksFrom}
 use Rattle.records.specs.Layout.{roomOf, listBytes}
-use Rattle.programs.specs.declared.{Program.Program, Found.Found, Found.the-variants.At, Found.the-variants.Missing}
-use Rattle.programs.{specs.Answers.foundAs, specs.Openings.known, specs.Found.subsOf, specs.Places.Placed, proofs.Finding.found-at, proofs.Finding.found-none}
+use Rattle.programs.specs.{declared.Program.Program, declared.Callee.Callee, Answers.calleeBy, Openings.known, Found.subsOf, Places.Placed}
 use Rattle.blocks.specs.{Exec.callsIn, Exec.callTo, Exec.unknownCall, Exec.tooDeep, Exec.atStart, Exec.unless, Calling.called}
 use Rattle.runs.specs.Walk.{Going, refusedAt, Outcome, just, goingOn, after, thenRest, follow, obey, walk, blocksFor, callees}
-use Rattle.interpreter.specs.declared.{Task.Task, Progress.Progress, How.the-variants.Returned, How.the-variants.Refused, Ending.Ending, Leg.Leg, Callee.Callee}
-use Rattle.interpreter.specs.Progressing.{jobOf, goingOf, walkFrom, callFrom, calleeBy, howBy, nextBy, outcomeBy, Ran, Sound, Reaches}
+use Rattle.interpreter.specs.declared.{Task.Task, Progress.Progress, How.the-variants.Returned, How.the-variants.Refused, Ending.Ending, Leg.Leg}
+use Rattle.interpreter.specs.Progressing.{jobOf, goingOf, walkFrom, callFrom, howBy, nextBy, outcomeBy, Ran, Sound, Reaches}
 use Rattle.interpreter.proofs.{Endings.ran-still, Endings.ran-after, Endings.ran-length, Endings.ran-then, Endings.ran-stops, Rounds.Walking}
-use Rattle.interpreter.specs.declared.Callee.the-variants as Callee
-
--- what a call of a number leads to, by what is found
-module _ (o : Option Program) (left : ℕ) {found : Found} (f : found ≡ foundAs o) where
-  pub callee-unknown : found ≡ Missing → Callee.Refused NumberNotFound ≡ calleeBy o left
-  unfolding calleeBy
-  callee-unknown e = rw (found-none o (sym e ∙ f))
-
-  module _ {program : Program} (e : found ≡ At program) where
-    pub callee-deep : left ≡ 0 → Callee.Refused NestOver ≡ calleeBy o left
-    unfolding calleeBy
-    callee-deep h = rw (found-at o (sym e ∙ f), eq-eqb left 0 h)
-
-    pub callee-found : (left ≡ 0 → ⊥) → Callee.Found program ≡ calleeBy o left
-    unfolding calleeBy
-    callee-found h = rw (found-at o (sym e ∙ f), ne-eqb left 0 h)
+use Rattle.programs.specs.declared.Callee.the-variants as Callee
 
 -- a subprogram that a call leads to is the one of the number, and a level is left for it
 found-is : {program : Program} (o : Option Program) (left : ℕ) → Callee.Found program ≡ calleeBy o left → (o ≡ some program) × (1 ≤ left)

@@ -1,7 +1,7 @@
 -- What the code of the run answers and leaves in the list, by the rules of the walk.
 use Rattle.terms.specs.Common.{ℕ, _+_, _-_, _≤_, _<_, _≡_, Bool, true, _&&_, _||_, Option, none, some, List, [], _∷_, eqb, length, drop, sets}
 use Rattle.terms.specs.Terms.{if_then_else_, byte}
-use Rattle.refusals.specs.declared.{Refusal.the-variants.NumberNotFound, Refusal.the-variants.NestOver, Place.Place}
+use Rattle.refusals.specs.declared.Place.{Place}
 use Rattle.lines.specs.{Blocks.Block, Blocks.blockFrom, Blocks.blocksOf, Blocks.beginsWith, Blocks.isPercent, Blocks.isSlashed, Blocks.textFrom, Serving.blocksFrom}
 use Rattle.setup.specs.{declared.Bed.Bed, Fair.Fair}
 use Rattle.records.specs.{declared.Record.Record, Layout.roomOf, Writing.movedBytes}
@@ -12,10 +12,9 @@ use Rattle.blocks.specs.{declared.Done.Done, Exec.Verdict, Exec.accepted, Exec.
 use Rattle.runs.specs.Run.{finishOf}
 use Rattle.runs.specs.Walk.{Job, Going, ended, returned, unfinished, refusedAt, Outcome, nowhere, goingOn, oneLess, slashLength, obey, walk, callees}
 use Rattle.execution.specs.declared.Ground.{Ground}
-use Rattle.interpreter.specs.declared.{Task.Task, Progress.Progress, How.How, Ending.Ending, Turn.Turn, Turn.the-variants.Calls, Turn.the-variants.Over, Leg.Leg, Callee.Callee}
+use Rattle.interpreter.specs.declared.{Task.Task, Progress.Progress, How.How, Ending.Ending, Turn.Turn, Turn.the-variants.Calls, Turn.the-variants.Over, Leg.Leg}
 use Rattle.interpreter.specs.declared.How.the-variants.{Ended, Returned, Unfinished, Refused}
 use Rattle.runs.specs.Walk as Walk
-use Rattle.interpreter.specs.declared.Callee.the-variants as Callee
 
 -- the job that the code's task is, on the bytes of the data
 unfoldable pub jobOf : List ℕ → Task → Job
@@ -64,11 +63,6 @@ verdictAt ground skips b room s =
 -- the progress after an accepted block, by the code's answer
 unfoldable pub progressBy : Progress → Done → Progress
 progressBy p d = record { state = d .state; next = d .next; count = p .count + d .count; budget = oneLess (p .budget) }
-
--- "5; 6": what a call of a number leads to, by the subprogram that has it
-unfoldable pub calleeBy : Option Program → ℕ → Callee
-calleeBy none left = Callee.Refused NumberNotFound
-calleeBy (some program) left = if eqb left 0 then Callee.Refused NestOver else Callee.Found program
 
 -- how a walk ends, in the words of the rules: a return with what goes on, and a refusal with its place
 unfoldable pub howBy : How → Place → Going → Walk.How

@@ -71,12 +71,6 @@ pub struct Leg {
     pub after: Progress,
 }
 
-// What a call leads to: a subprogram, or a refusal.
-pub enum Callee {
-    Found(Program),
-    Refused(Refusal),
-}
-
 // Runs the main program, all four levels left.
 fn run_main(
     setup: Setup,
@@ -102,7 +96,7 @@ fn run_main(
     };
     let ending = walk::run_program(bytes, list, task, 4, programs.main, first);
     let how = ending.how;
-    let state = reporting::state_moved(setup::point_of(setup.exofs), ending.progress.state);
+    let state = settings::state_moved(setup::point_of(setup.exofs), ending.progress.state);
     let next = reporting::next_by(how, ending.place);
     Report {
         answer: reporting::answer_by(how, ending.place, ending.progress.count),

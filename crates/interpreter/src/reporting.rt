@@ -1,6 +1,5 @@
 // What a run tells: where it starts, where it stands and what it answers.
 use crate::How;
-use lengths::Point;
 use refusals::Answer;
 use refusals::Place;
 use refusals::Refusal;
@@ -8,10 +7,8 @@ use runs::Report;
 use runs::Standing;
 use settings::State;
 use setup::Setup;
-ghost use Rattle.terms.specs.Common.{_≡_, true, _^_};
-ghost use Rattle.lengths.specs.Near.{Near};
+ghost use Rattle.terms.specs.Common.{_≡_, true};
 ghost use Rattle.setup.specs.{Limits.validSetup, Frame.offset};
-ghost use Rattle.settings.specs.Settings.{stateMoved};
 ghost use Rattle.runs.specs.{Walk.Going, Walk.just, Walk.refusedAt, Run.firstOf, Run.answerBy};
 ghost use Rattle.interpreter.specs.{Progressing.howBy, Progressing.nextBy, Serving.reportBy};
 
@@ -36,24 +33,6 @@ pub fn refused(setup: Setup, refusal: Refusal, place: Place) -> Report
         answer: Answer::Refused(refusal, place, 0),
         standing: Standing { state, next },
         end: 0,
-    }
-}
-
-// The settings in machine units.
-pub fn state_moved(by: Point, s: State) -> State
-    requires { ⌜ (Near (2 ^ 61) by) × (Near (2 ^ 61) (s .at)) ⌝ }
-    ensures { λ r. ⌜ r ≡ stateMoved by s ⌝ }
-{
-    let at = lengths::moved(by, s.at);
-    let modes = s.modes;
-    let feed = s.feed;
-    let speed = s.speed;
-    State {
-        at,
-        modes,
-        feed,
-        speed,
-        turning: s.turning,
     }
 }
 

@@ -1,30 +1,9 @@
 // From block to block: the budget, where a program ends, and the progress after a block.
 use crate::Progress;
 use blocks::Done;
-use runs::Budget;
 ghost use Rattle.terms.specs.Common.{_≡_, false, _+_, _≤_, _<_, _^_, length, drop};
-ghost use Rattle.runs.specs.Walk.{isSpent, oneLess};
+ghost use Rattle.runs.specs.Walk.{isSpent};
 ghost use Rattle.interpreter.specs.Progressing.{programEnds, progressBy};
-
-pub fn is_spent(b: Budget) -> bool
-    ensures { λ r. ⌜ r ≡ isSpent b ⌝ }
-{
-    match b {
-        Budget::Whole => false,
-        Budget::First(n) => n == 0,
-    }
-}
-
-// Every block reached takes one.
-fn one_less(b: Budget) -> Budget
-    requires { ⌜ isSpent b ≡ false ⌝ }
-    ensures { λ r. ⌜ r ≡ oneLess b ⌝ }
-{
-    match b {
-        Budget::Whole => Budget::Whole,
-        Budget::First(n) => Budget::First(n - 1),
-    }
-}
 
 // Whether a program has no more blocks at a place.
 pub fn program_ends(s: &[u8], at: usize) -> bool
@@ -52,6 +31,6 @@ pub fn progress_after(p: Progress, done: Done) -> Progress
         state,
         next: done.next,
         count: p.count + done.count,
-        budget: one_less(budget),
+        budget: runs::one_less(budget),
     }
 }

@@ -1,5 +1,4 @@
 // The walk through the blocks of a program. A call walks the subprogram by the same function, with one level less.
-use crate::Callee;
 use crate::Ending;
 use crate::How;
 use crate::Leg;
@@ -12,7 +11,7 @@ use blocks::Done;
 use blocks::Executed;
 use execution::Ground;
 use execution::Spot;
-use programs::Found;
+use programs::Callee;
 use programs::Program;
 use programs::Programs;
 use refusals::Place;
@@ -21,9 +20,10 @@ use settings::State;
 ghost use Rattle.terms.specs.Common.{_≡_, ℕ, _+_, _-_, _≤_, _<_, length, drop};
 ghost use Rattle.lines.specs.Blocks.{lengthFrom, blockFrom};
 ghost use Rattle.setup.specs.Fair.{Fair};
-ghost use Rattle.programs.specs.{declared.Programs.Programs, Openings.known, Found.subsOf, Found.WellFound, Places.Begins, Places.Placed};
+ghost use Rattle.programs.specs.{declared.Programs.Programs, Places.Begins, Places.Placed};
 ghost use Rattle.blocks.specs.{Reach.Reachable, Doing.Does};
-ghost use Rattle.interpreter.specs.Progressing.{taskOn, walkFrom, verdictAt, calleeBy, Goes, Ran, Sound, Fits};
+ghost use Rattle.interpreter.specs.declared.Turn.the-variants.{Over};
+ghost use Rattle.interpreter.specs.Progressing.{taskOn, walkFrom, verdictAt, Goes, Ran, Sound, Fits};
 
 // The block at a place: skipped unread, which is accepted with nothing done, or executed, a slash before its words left out.
 fn do_block(
@@ -57,6 +57,19 @@ fn do_block(
     execution::exec(s, list, next, ground, Spot { start: at, from }, state)
 }
 
+// The walk is over at a place, with no more done.
+fn over(how: How, place: Place, byte: usize, p: Progress) -> Leg
+    ensures { λ r. ⌜ r ≡ record { turn = Over how; place = place; byte = byte; before = p; after = p } ⌝ }
+{
+    Leg {
+        turn: Turn::Over(how),
+        place,
+        byte,
+        before: p,
+        after: p,
+    }
+}
+
 // Walks a program's blocks from a place on, up to one that does not lead to the next. It knows no table of programs and does not call
 // itself, so that the compiler works on the loop alone.
 fn run_leg(
@@ -78,37 +91,14 @@ fn run_leg(
     loop {
         let place = Place { block, byte: at };
         let budget = p.budget;
-        if stepping::is_spent(budget) {
-            let turn = Turn::Over(How::Unfinished);
-            return Leg {
-                turn,
-                place,
-                byte: at,
-                before: p,
-                after: p,
-            };
+        if runs::is_spent(budget) {
+            return over(How::Unfinished, place, at, p);
         }
         if stepping::program_ends(s, at) {
-            let turn = Turn::Over(How::Refused(Refusal::NoEnd));
-            return Leg {
-                turn,
-                place,
-                byte: at,
-                before: p,
-                after: p,
-            };
+            return over(How::Refused(Refusal::NoEnd), place, at, p);
         }
         match do_block(s, list, ground, skips, at, p.next, p.state) {
-            Executed::Refused(refusal, byte) => {
-                let turn = Turn::Over(How::Refused(refusal));
-                return Leg {
-                    turn,
-                    place,
-                    byte,
-                    before: p,
-                    after: p,
-                };
-            }
+            Executed::Refused(refusal, byte) => return over(How::Refused(refusal), place, byte, p),
             Executed::Accepted(done) => {
                 let control = done.control;
                 let after = stepping::progress_after(p, done);
@@ -133,20 +123,6 @@ fn run_leg(
             }
         }
     }
-}
-
-// The subprogram of a number: 5 where there is none, and then 6 where no level is left for it.
-fn find_callee(programs: Programs, left: usize, number: u64) -> Callee
-    requires { ⌜ WellFound programs ⌝ }
-    ensures { λ r. ⌜ r ≡ calleeBy (known (subsOf programs) number) left ⌝ }
-{
-    let Found::At(program) = programs::find(programs, number) else {
-        return Callee::Refused(Refusal::NumberNotFound);
-    };
-    if left == 0 {
-        return Callee::Refused(Refusal::NestOver);
-    }
-    Callee::Found(program)
 }
 
 // Walks a program's blocks from its first one on, with so many levels left for calls: from call to call, each followed by this
@@ -187,7 +163,7 @@ pub fn run_program(
             }
             Turn::Calls(number) => number,
         };
-        match find_callee(task.programs, left, number) {
+        match programs::find_callee(task.programs, left, number) {
             Callee::Refused(refusal) => {
                 let place = leg.place;
                 let progress = leg.before;

@@ -1,8 +1,10 @@
 -- The subprogram of a number, searched by the places of the table. Assumes nothing.
-use Rattle.terms.proofs.Common.{ℕ, _+_, _≤_, _<_, _≡_, refl, _∙_, ap, Option, none, some, List, arith, add-one, eq-eqb, ne-eqb, length, take, drop, getD, drop-of-length-le, length-take-le, getD-take, drop-cons}
+use Rattle.terms.proofs.Common.{ℕ, _+_, _≤_, _<_, _≡_, refl, sym, _∙_, ap, Option, none, some, List, arith, add-one, eq-eqb, ne-eqb, length, take, drop, getD, drop-of-length-le, length-take-le, getD-take, drop-cons}
 use Rattle.terms.specs.Terms.{first}
-use Rattle.programs.specs.{Openings.Table, Openings.known, Answers.Gives, Answers.foundAs, declared.Program.Program, declared.Scanned.Scanned}
-use Rattle.programs.specs.declared.Found.the-variants.{At, Missing}
+use Rattle.refusals.specs.declared.Refusal.the-variants.{NumberNotFound, NestOver}
+use Rattle.programs.specs.{Openings.Table, Openings.known, Answers.Gives, Answers.foundAs, Answers.calleeBy, declared.Program.Program, declared.Scanned.Scanned}
+use Rattle.programs.specs.declared.Found.{Found, the-variants.At, the-variants.Missing}
+use Rattle.programs.specs.declared.Callee.the-variants as Callee
 
 -- a scan's answer, by another name of its table
 pub gives-as : {t u : Table} {r : Scanned} → Gives t r → t ≡ u → Gives u r
@@ -63,3 +65,18 @@ pub found-none : (o : Option Program) → Missing ≡ foundAs o → o ≡ none
 unfolding foundAs
 found-none none e = refl
 found-none (some q) e = let never : _≡_ {A = ℕ} 0 1 = cc in absurd (omega arith)
+
+-- what a call of a number leads to, by what is found
+module _ (o : Option Program) (left : ℕ) {found : Found} (f : found ≡ foundAs o) where
+  pub callee-unknown : found ≡ Missing → Callee.Refused NumberNotFound ≡ calleeBy o left
+  unfolding calleeBy
+  callee-unknown e = rw (found-none o (sym e ∙ f))
+
+  module _ {program : Program} (e : found ≡ At program) where
+    pub callee-deep : left ≡ 0 → Callee.Refused NestOver ≡ calleeBy o left
+    unfolding calleeBy
+    callee-deep h = rw (found-at o (sym e ∙ f), eq-eqb left 0 h)
+
+    pub callee-found : (left ≡ 0 → ⊥) → Callee.Found program ≡ calleeBy o left
+    unfolding calleeBy
+    callee-found h = rw (found-at o (sym e ∙ f), ne-eqb left 0 h)

@@ -1,7 +1,7 @@
 // The programs of a data set: its openings, and the table of subprograms.
 mod openings;
 
-pub use openings::find;
+pub use openings::find_callee;
 pub use openings::find_programs;
 use refusals::Place;
 use refusals::Refusal;
@@ -50,6 +50,12 @@ pub enum Opening {
 pub enum Entry {
     Enters(u64),
     Refuses(Refusal),
+}
+
+// What a call leads to: a subprogram, or a refusal.
+pub enum Callee {
+    Found(Program),
+    Refused(Refusal),
 }
 
 // What a call of a number finds.

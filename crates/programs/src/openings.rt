@@ -1,4 +1,5 @@
 // The programs of a data set, found by one scan over its blocks, and a program by its number.
+use crate::Callee;
 use crate::Entry;
 use crate::Found;
 use crate::Opening;
@@ -10,7 +11,7 @@ use refusals::Place;
 use refusals::Refusal;
 ghost use Rattle.terms.specs.Common.{_≡_, _+_, _≤_, _<_, length};
 ghost use Rattle.lines.specs.{Blocks.lengthFrom, Blocks.blockFrom, Serving.blocksFrom};
-ghost use Rattle.programs.specs.{Openings.scan, Openings.programsFrom, Openings.known, Found.subsOf, Found.WellFound, Found.Entered, Answers.Gives, Answers.foundAs};
+ghost use Rattle.programs.specs.{Openings.scan, Openings.programsFrom, Openings.known, Found.subsOf, Found.WellFound, Found.Entered, Answers.Gives, Answers.foundAs, Answers.calleeBy};
 
 // The table with one subprogram more: its number, and the block and byte that follow its opening.
 fn with_program(t: Programs, number: u64, block: usize, byte: usize) -> Programs
@@ -112,7 +113,7 @@ pub fn find_programs(s: &[u8]) -> Scanned
 }
 
 // The subprogram of a number. The main program is none.
-pub fn find(t: Programs, n: u64) -> Found
+fn find(t: Programs, n: u64) -> Found
     requires { ⌜ WellFound t ⌝ }
     ensures { λ r. ⌜ r ≡ foundAs (known (subsOf t) n) ⌝ }
 {
@@ -127,4 +128,18 @@ pub fn find(t: Programs, n: u64) -> Found
         i += 1;
     }
     Found::Missing
+}
+
+// The subprogram of a number: 5 where there is none, and then 6 where no level is left for it.
+pub fn find_callee(programs: Programs, left: usize, number: u64) -> Callee
+    requires { ⌜ WellFound programs ⌝ }
+    ensures { λ r. ⌜ r ≡ calleeBy (known (subsOf programs) number) left ⌝ }
+{
+    let Found::At(program) = find(programs, number) else {
+        return Callee::Refused(Refusal::NumberNotFound);
+    };
+    if left == 0 {
+        return Callee::Refused(Refusal::NestOver);
+    }
+    Callee::Found(program)
 }

@@ -9,9 +9,10 @@ use lengths::Len;
 use lengths::Point;
 use words::Given;
 use words::Values;
-ghost use Rattle.terms.specs.Common.{_≡_};
+ghost use Rattle.terms.specs.Common.{_≡_, _^_};
+ghost use Rattle.lengths.specs.Near.{Near};
 ghost use Rattle.codes.specs.declared.Code.the-variants.{GroupA, GroupB, GroupC, GroupD, GroupE, GroupF};
-ghost use Rattle.settings.specs.{Settings.firstModes, Settings.firstState, Settings.switched, Settings.orElse, Target.base, Target.aimed};
+ghost use Rattle.settings.specs.{Settings.firstModes, Settings.firstState, Settings.stateMoved, Settings.switched, Settings.orElse, Target.base, Target.aimed};
 ghost use Rattle.settings.specs.Bounds.{Sized, Aims, Aimed};
 
 // The code that is on in each of the groups A to F; origin is the place in the table of origins, from 0.
@@ -206,5 +207,23 @@ pub fn target_point(d: Distance, origin: Point, from: Point, v: Values) -> Point
         x: aimed(d, origin.x, from.x, v.x),
         y: aimed(d, origin.y, from.y, v.y),
         z: aimed(d, origin.z, from.z, v.z),
+    }
+}
+
+// The settings in machine units.
+pub fn state_moved(by: Point, s: State) -> State
+    requires { ⌜ (Near (2 ^ 61) by) × (Near (2 ^ 61) (s .at)) ⌝ }
+    ensures { λ r. ⌜ r ≡ stateMoved by s ⌝ }
+{
+    let at = lengths::moved(by, s.at);
+    let modes = s.modes;
+    let feed = s.feed;
+    let speed = s.speed;
+    State {
+        at,
+        modes,
+        feed,
+        speed,
+        turning: s.turning,
     }
 }

@@ -4,15 +4,15 @@ use Rattle.terms.proofs.Common.{ℕ, _-_, _<_, _≡_, sym, _∙_, subst, [], _�
 use denote.Enum.Declared.{tagOf}
 use types.Run.{OneOf, miss}
 use borrow.Fn.{Kinds.In, PlainCycle.Measures, PlainCycle.is, PlainCycle.falls, PlainCycle.and}
-use Rattle.programs.specs.{Openings.known, Found.subsOf}
-use Rattle.interpreter.specs.{Progressing.walkFrom, Progressing.calleeBy, Progressing.Goes, declared.How.How, declared.How.the-variants.Returned, declared.Turn.Turn}
+use Rattle.programs.specs.{Openings.known, Found.subsOf, Answers.calleeBy}
+use Rattle.interpreter.specs.{Progressing.walkFrom, Progressing.Goes, declared.How.How, declared.How.the-variants.Returned, declared.Turn.Turn}
 use Rattle.interpreter.proofs.{How.the-type, Endings.ran-length, Rounds.Walking, Rounds.walking-starts, walk.+run_program.statement, walk.+run_program.Tie.close}
 use Rattle.interpreter.proofs.Calling.{Comes, caller-kept, caller-less, call-refused, call-level, call-placed, call-kept, walking-stops, walking-back}
-use Rattle.interpreter.specs.declared.Callee.the-variants as Callee
+use Rattle.programs.specs.declared.Callee.the-variants as Callee
 use Rattle.interpreter.proofs.walk.run_program.Reads as run-program
 use Rattle.interpreter.proofs.walk.run_program.Kinds as run-program-kinds
 use Rattle.interpreter.proofs.walk.+run_program.Lts-run_program as run-program-lts
-use Rattle.interpreter.proofs.walk.find_callee.Reads as find-callee-reads
+use Rattle.programs.proofs.find_callee.Reads as find-callee-reads
 use Rattle.interpreter.proofs.walk.run_leg.Reads as run-leg-reads
 
 -- the levels left

@@ -26,28 +26,30 @@ loop-holds c =
     )
 
 same-length : tie.Need-same-length Inv μ
-same-length c = c .before .before .loop .inv .1 noPrograms .kept
+same-length c = c .before .before .before .loop .inv .1 noPrograms .kept
 
 returns : tie.Need-returns Inv μ
 returns c programs =
-    let head = c .before .before in
+    let head = c .before .before .before in
     let a = head .before .before .before .args in
-    walking-spent (a .s .now) (taskOn (a .ground) (a .skips) programs) (a .ground .left) (head .loop .inv .1 programs)
-    (sym (c .before .is-spent .ensures) ∙ c .if1 .taken)
+    rw (c .over .ensures)
+    (walking-spent (a .s .now) (taskOn (a .ground) (a .skips) programs) (a .ground .left) (head .loop .inv .1 programs)
+    (sym (c .before .before .is-spent .ensures) ∙ c .before .if1 .taken))
 
 program-ends-requires : tie.Need-program-ends-requires Inv μ
 program-ends-requires c κs = c .before .before .loop .inv .1 noPrograms .begins .inside
 
 same-length-2 : tie.Need-same-length-2 Inv μ
-same-length-2 c = c .before .before .before .before .loop .inv .1 noPrograms .kept
+same-length-2 c = c .before .before .before .before .before .loop .inv .1 noPrograms .kept
 
 returns-2 : tie.Need-returns-2 Inv μ
 returns-2 c programs =
-    let spent = c .before .before .before in
+    let spent = c .before .before .before .before in
     let head = spent .before in
     let a = head .before .before .before .args in
-    walking-ends (a .s .now) (taskOn (a .ground) (a .skips) programs) (a .ground .left) (head .loop .inv .1 programs)
-    (sym (spent .is-spent .ensures) ∙ c .before .before .if1 .left) (sym (c .before .program-ends .ensures) ∙ c .if2 .taken)
+    rw (c .over2 .ensures)
+    (walking-ends (a .s .now) (taskOn (a .ground) (a .skips) programs) (a .ground .left) (head .loop .inv .1 programs)
+    (sym (spent .is-spent .ensures) ∙ c .before .before .before .if1 .left) (sym (c .before .before .program-ends .ensures) ∙ c .before .if2 .taken))
 
 -- there is budget for the block, and the program does not end
 module _ (c : tie.Else2 Inv μ) where
@@ -84,10 +86,11 @@ module _ (c : tie.After-do-block Inv μ) (programs : Programs) where
       }
 
 same-length-3 : tie.Need-same-length-3 Inv μ
-same-length-3 c = did-kept (meets (c .before .before .before .before .before) noPrograms)
+same-length-3 c = did-kept (meets (c .before .before .before .before .before .before) noPrograms)
 
 returns-3 : tie.Need-returns-3 Inv μ
-returns-3 c programs = did-refused (meets (c .before .before .before .before .before) programs) (c .before .refusal .given .1)
+returns-3 c programs =
+    rw (c .over3 .ensures) (did-refused (meets (c .before .before .before .before .before .before) programs) (c .before .before .refusal .given .1))
 
 progress-after-requires : tie.Need-progress-after-requires Inv μ
 unfolding progressBy
@@ -153,6 +156,6 @@ returns-6 c programs =
 pub run-leg-spec : {M : Type 1} → statement M
 run-leg-spec =
     tie.close
-    (tie.spec Inv μ loop-holds (λ c κs. search needs) same-length returns program-ends-requires same-length-2 returns-2 do-block-requires
-    (λ c. search needs) same-length-3 returns-3 (λ c. search needs) progress-after-requires (λ c. search needs) add-block loop-less loop-again
+    (tie.spec Inv μ loop-holds (λ c κs. search needs) (λ c κs. search needs) same-length returns program-ends-requires (λ c κs. search needs) same-length-2 returns-2 do-block-requires
+    (λ c. search needs) (λ c κs. search needs) same-length-3 returns-3 (λ c. search needs) progress-after-requires (λ c. search needs) add-block loop-less loop-again
     (λ c. search needs) (λ c. search needs) (λ c. search needs) same-length-4 returns-4 same-length-5 returns-5 same-length-6 returns-6)

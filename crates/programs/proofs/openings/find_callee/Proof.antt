@@ -1,8 +1,8 @@
--- `interpreter::walk::find_callee` meets its contract. Assumes nothing.
+-- `programs::openings::find_callee` meets its contract. Assumes nothing.
 use Rattle.terms.proofs.Common.{needs}
 use Rattle.programs.specs.{Openings.known, Found.subsOf}
-use Rattle.interpreter.proofs.{Calling.callee-unknown, Calling.callee-deep, Calling.callee-found, walk.find_callee.Statement.statement}
-use Rattle.interpreter.proofs.walk.find_callee.Tie as tie
+use Rattle.programs.proofs.{Finding.callee-unknown, Finding.callee-deep, Finding.callee-found, openings.find_callee.Statement.statement}
+use Rattle.programs.proofs.openings.find_callee.Tie as tie
 
 returns : tie.Need-returns
 returns c =

@@ -1,8 +1,8 @@
--- `interpreter::stepping::is_spent` meets its contract, budget by budget. Assumes nothing.
+-- `runs::is_spent` meets its contract, budget by budget. Assumes nothing.
 use Rattle.terms.proofs.Common.{sym, ap, needs}
 use Rattle.runs.specs.Walk.{isSpent}
-use Rattle.interpreter.proofs.stepping.is_spent.Statement.{statement}
-use Rattle.interpreter.proofs.stepping.is_spent.Tie as tie
+use Rattle.runs.proofs.is_spent.Statement.{statement}
+use Rattle.runs.proofs.is_spent.Tie as tie
 
 pub is-spent-spec : {M : Type 1} → statement M
 unfolding isSpent

@@ -1,8 +1,8 @@
--- `interpreter::stepping::one_less` meets its contract, budget by budget. Assumes nothing.
+-- `runs::one_less` meets its contract, budget by budget. Assumes nothing.
 use Rattle.terms.proofs.Common.{sym, ap, _∙_, arith, needs, eqb-false}
 use Rattle.runs.specs.Walk.{isSpent, oneLess}
-use Rattle.interpreter.proofs.stepping.one_less.Statement.{statement}
-use Rattle.interpreter.proofs.stepping.one_less.Tie as tie
+use Rattle.runs.proofs.one_less.Statement.{statement}
+use Rattle.runs.proofs.one_less.Tie as tie
 
 sub-t4 : tie.Need-sub-t4
 unfolding isSpent
