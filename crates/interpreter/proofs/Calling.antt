@@ -1,5 +1,5 @@
 -- The loop from call to call: what a call of a number leads to, and the walk of the subprogram. Assumes nothing.
-use Rattle.terms.proofs.Common.{ℕ, zero, suc, _+_, _-_, _≤_, _<_, _≡_, refl, sym, _∙_, Bool, true, false, Option, none, some, List, [], arith, eq-eqb, ne-eqb, eqb, length}
+use Rattle.terms.proofs.Common.{ℕ, zero, suc, _+_, _-_, _≤_, _<_, _≡_, refl, _∙_, Bool, true, false, Option, none, some, List, [], arith, ne-eqb, eqb, length}
 use Rattle.terms.specs.Terms.{firstOf, stands}
 use Rattle.refusals.specs.declared.Refusal.{Refusal, the-variants.NumberNotFound, the-variants.NestOver}
 use Rattle.lines.specs.Serving.{blocksFrom}

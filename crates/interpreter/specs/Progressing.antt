@@ -1,5 +1,5 @@
 -- What the code of the run answers and leaves in the list, by the rules of the walk.
-use Rattle.terms.specs.Common.{ℕ, _+_, _-_, _≤_, _<_, _≡_, Bool, true, _&&_, _||_, Option, none, some, List, [], _∷_, eqb, length, drop, sets}
+use Rattle.terms.specs.Common.{ℕ, _+_, _-_, _≤_, _<_, _≡_, Bool, true, _&&_, _||_, some, List, [], _∷_, length, drop, sets}
 use Rattle.terms.specs.Terms.{if_then_else_, byte}
 use Rattle.refusals.specs.declared.Place.{Place}
 use Rattle.lines.specs.{Blocks.Block, Blocks.blockFrom, Blocks.blocksOf, Blocks.beginsWith, Blocks.isPercent, Blocks.isSlashed, Blocks.textFrom, Serving.blocksFrom}

@@ -2,8 +2,8 @@
 use Rattle.terms.proofs.Common.{ℕ, _+_, _≤_, _<_, _≡_, refl, sym, _∙_, ap, Option, none, some, List, arith, add-one, eq-eqb, ne-eqb, length, take, drop, getD, drop-of-length-le, length-take-le, getD-take, drop-cons}
 use Rattle.terms.specs.Terms.{first}
 use Rattle.refusals.specs.declared.Refusal.the-variants.{NumberNotFound, NestOver}
-use Rattle.programs.specs.{Openings.Table, Openings.known, Answers.Gives, Answers.foundAs, Answers.calleeBy, declared.Program.Program, declared.Scanned.Scanned}
-use Rattle.programs.specs.declared.Found.{Found, the-variants.At, the-variants.Missing}
+use Rattle.programs.specs.{Openings.Table, Openings.known, Answers.Gives, Answers.foundAs, Answers.calleeBy}
+use Rattle.programs.specs.declared.{Program.Program, Scanned.Scanned, Found.Found, Found.the-variants.At, Found.the-variants.Missing}
 use Rattle.programs.specs.declared.Callee.the-variants as Callee
 
 -- a scan's answer, by another name of its table

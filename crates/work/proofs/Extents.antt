@@ -1,5 +1,5 @@
 -- Where records lead and what they come to, one after the other. Assumes nothing.
-use Rattle.terms.proofs.Common.{ℕ, zero, suc, _+_, _*_, _≤_, _<_, _≡_, refl, sym, _∙_, ap, Bool, true, false, _&&_, List, [], _∷_, _++_, arith, length, drop, length-append}
+use Rattle.terms.proofs.Common.{ℕ, _+_, _*_, _≤_, _<_, _≡_, refl, sym, _∙_, ap, Bool, true, false, _&&_, List, [], _∷_, _++_, arith, length, drop, drop-of-length-le, length-append}
 use Rattle.lengths.specs.{declared.Len.Len, declared.Point.Point, declared.Travel.Travel, Points.inside}
 use Rattle.records.specs.{declared.Record.Record, Layout.kindOf, Layout.kindLength, Layout.roomOf, Path.pathOf, Path.pathEnd, Path.endOf, Path.pathStaysIn}
 use Rattle.records.proofs.Moved.{room-append, kind-few}
@@ -96,12 +96,6 @@ module _ (t : Travel) (e : Extent) (r : Record) where
 
 -- ---- one pass, record by record
 
-pub drop-all : (rs : List Record) (i : ℕ) → length rs ≤ i → drop i rs ≡ []
-drop-all [] zero k = refl
-drop-all [] (suc i) k = refl
-drop-all (r ∷ rs) zero k = absurd (omega arith)
-drop-all (r ∷ rs) (suc i) k = drop-all rs i (omega (arith, k))
-
 -- the tool is at a point after the first i records, which take some bytes: what is left leads to where all lead
 pub record Tested (t : Travel) (e : Extent) (rs : List Record) (i : ℕ) (end : Point) (room : ℕ) : Type 0 where
   pub most : i ≤ length rs
@@ -124,7 +118,7 @@ module _ (t : Travel) (e : Extent) (rs : List Record) where
     pub tested-ends : {n : ℕ} → n ≡ length rs → n ≤ i → Ends (record { end = end; room = room; count = e .count + n }) ≡ wayOf t e rs
     tested-ends {n} f g =
         let same : i ≡ n = omega (arith, f, g, h .most) in
-        let gone : drop i rs ≡ [] = drop-all rs i (omega (arith, f, g)) in
+        let gone : drop i rs ≡ [] = drop-of-length-le rs {i = i} (omega (arith, f, g)) in
         rw (← same) (sym (h .way ∙ rw gone (way-none t so-far)))
 
     module _ {r : Record} (s : Stands rs i r) where

@@ -1,8 +1,8 @@
 -- `work::writing::put_pass` meets its contract: the records that are left, written here, leave what all of them leave. Assumes nothing.
-use Rattle.terms.proofs.Common.{needs, arith, _+_, _-_, refl, [], _∷_, drop}
+use Rattle.terms.proofs.Common.{needs, arith, _+_, _-_, refl, [], _∷_, drop, drop-of-length-le}
 use Rattle.records.proofs.Written.{wrote-length}
 use Rattle.cycles.specs.{Cycles.passTo, Bounds.rowRecord}
-use Rattle.work.proofs.{Extents.drop-all, Passing.Going, Passing.going-starts, Passing.going-ends, Passing.going-asks, Passing.going-on, writing.put_pass.Statement.statement}
+use Rattle.work.proofs.{Passing.Going, Passing.going-starts, Passing.going-ends, Passing.going-asks, Passing.going-on, writing.put_pass.Statement.statement}
 use Rattle.work.proofs.writing.put_pass.Tie as tie
 
 abbrev Inv-loop : tie.InvT-loop
@@ -32,7 +32,7 @@ returns : tie.Need-returns Inv-loop μ-loop
 returns c =
     let a = c .before .before .before .before .args in
     going-ends (a .offset) (c .before .loop .inv)
-    (drop-all (passTo (a .h) (a .level) (a .to)) (c .before .loop .i) (omega (arith, c .before .before .row-count .ensures .is (a .level) (a .to))))
+    (drop-of-length-le (passTo (a .h) (a .level) (a .to)) {i = c .before .loop .i} (omega (arith, c .before .before .row-count .ensures .is (a .level) (a .to))))
 
 pub put-pass-spec : {M : Type 1} → statement M
 put-pass-spec =
