@@ -4,15 +4,15 @@ mod staying;
 use lengths::Flat;
 use lengths::Point;
 use records::Arc;
-use records::Record;
 pub use staying::from_centre;
 pub use staying::is_left;
 pub use staying::is_on_left_way;
-pub use staying::path_stays;
+pub use staying::left_arc_stays;
+pub use staying::right_arc_stays;
 ghost use Rattle.terms.specs.Common.{_≡_, _&&_, _*_, _^_, _≤_};
 ghost use Rattle.lengths.specs.{Units.fitsFour, Near.Near, Points.flat};
-ghost use Rattle.records.specs.{Path.pathOf, Path.recordMoved, Displacing.Loose};
-ghost use Rattle.arcs.specs.Arcs.{distance², centreOf, radius², roundEnough, arcHolds, centreFits};
+ghost use Rattle.records.specs.{Path.arcMoved, Displacing.LooseArc};
+ghost use Rattle.arcs.specs.Arcs.{distance², centreOf, radius², roundEnough, arcHolds};
 ghost use Rattle.arcs.specs.{Root.root, Turning.left, Bounds.Reach};
 
 // The root as taught by hand, in binary: two digits of q at a time are brought down to what is left of the number, and
@@ -88,9 +88,8 @@ pub fn arc_holds(from: Point, a: Arc) -> bool
     ensures { λ r. ⌜ r ≡ arcHolds from a ⌝ }
 {
     let plane = a.plane;
-    let end = a.end;
     let centre = centre_of(a);
-    let at = lengths::in_plane(plane, end);
+    let at = lengths::in_plane(plane, a.end);
     let r = root_of(squared_radius(from, a));
     if r + 1000 < at.first.apart(centre.first) {
         return false;
@@ -101,21 +100,11 @@ pub fn arc_holds(from: Point, a: Arc) -> bool
     is_round_enough(r, squared_distance(centre, at))
 }
 
-// Whether a record can be written in machine units: an arc's centre fits four bytes there.
-pub fn centre_fits(by: Point, r: Record) -> bool
-    requires { ⌜ (Near (2 ^ 61) by) × Loose (pathOf r) ⌝ }
-    ensures { λ b. ⌜ b ≡ centreFits (pathOf (recordMoved by r)) ⌝ }
+// Whether an arc can be written in machine units: the numbers of its centre fit four bytes there.
+pub fn centre_fits(by: Point, a: Arc) -> bool
+    requires { ⌜ (Near (2 ^ 61) by) × LooseArc a ⌝ }
+    ensures { λ b. ⌜ b ≡ (fitsFour (arcMoved by a .first .v) && fitsFour (arcMoved by a .second .v)) ⌝ }
 {
-    match r {
-        Record::AR(a) => is_written(records::displaced_arc(by, a)),
-        Record::AL(a) => is_written(records::displaced_arc(by, a)),
-        _ => true,
-    }
-}
-
-// Whether four bytes hold the numbers of an arc's centre.
-fn is_written(a: Arc) -> bool
-    ensures { λ b. ⌜ b ≡ (fitsFour (a .first .v) && fitsFour (a .second .v)) ⌝ }
-{
-    a.first.fits_four() & a.second.fits_four()
+    let moved = records::displaced_arc(by, a);
+    moved.first.fits_four() & moved.second.fits_four()
 }

@@ -1,15 +1,13 @@
-// Paths and the travel: a path stays in it where its end does and, of an arc, every extreme that it passes.
+// Arcs and the travel: an arc stays in it where its end does and every extreme that it passes.
 use lengths::Flat;
 use lengths::Len;
 use lengths::Point;
 use lengths::Travel;
 use records::Arc;
-use records::Record;
 ghost use Rattle.terms.specs.Common.{_≡_, ltZ, pos};
 ghost use Rattle.lengths.specs.Points.{flat};
-ghost use Rattle.records.specs.Path.{pathOf};
-ghost use Rattle.arcs.specs.Arcs.{centreOf, notAbove, notBelow, coordinateInside, extremeInside, towards, extremesInside, leftWay, rightWay, arcStays, pathStays};
-ghost use Rattle.arcs.specs.Bounds.{Close, Reach, Small, Bounds, Accepted, PathBounds, Direction, Framed};
+ghost use Rattle.arcs.specs.Arcs.{centreOf, notAbove, notBelow, coordinateInside, extremeInside, towards, extremesInside, leftWay, rightWay, arcStays};
+ghost use Rattle.arcs.specs.Bounds.{Close, Reach, Small, Bounds, Accepted, Direction, Framed};
 ghost use Rattle.arcs.specs.{Root.root, Turning.dot, Turning.left, Turning.onLeftWay};
 
 // From the centre of an arc to a point.
@@ -126,10 +124,9 @@ fn way_stays(t: Travel, from: Point, a: Arc, u: Flat, w: Flat) -> bool
     ensures { λ r. ⌜ r ≡ arcStays (λ p b. onLeftWay u w) t from a ⌝ }
 {
     let plane = a.plane;
-    let end = a.end;
     let low = lengths::in_plane(plane, t.low);
     let high = lengths::in_plane(plane, t.high);
-    lengths::is_inside(t, end)
+    lengths::is_inside(t, a.end)
         & are_extremes_inside(
             u,
             w,
@@ -145,8 +142,7 @@ pub fn left_arc_stays(t: Travel, from: Point, a: Arc) -> bool
     requires { ⌜ Accepted t from a ⌝ }
     ensures { λ r. ⌜ r ≡ arcStays leftWay t from a ⌝ }
 {
-    let end = a.end;
-    way_stays(t, from, a, from_centre(a, from), from_centre(a, end))
+    way_stays(t, from, a, from_centre(a, from), from_centre(a, a.end))
 }
 
 // Clockwise the path is the same as counter-clockwise from the end to the start.
@@ -154,20 +150,5 @@ pub fn right_arc_stays(t: Travel, from: Point, a: Arc) -> bool
     requires { ⌜ Accepted t from a ⌝ }
     ensures { λ r. ⌜ r ≡ arcStays rightWay t from a ⌝ }
 {
-    let end = a.end;
-    way_stays(t, from, a, from_centre(a, end), from_centre(a, from))
-}
-
-// Whether the path that a record tells stays in the travel.
-pub fn path_stays(t: Travel, from: Point, r: Record) -> bool
-    requires { ⌜ PathBounds t from (pathOf r) ⌝ }
-    ensures { λ b. ⌜ b ≡ pathStays t from (pathOf r) ⌝ }
-{
-    match r {
-        Record::RP(p) => lengths::is_inside(t, p),
-        Record::LN(p, _) => lengths::is_inside(t, p),
-        Record::AR(a) => right_arc_stays(t, from, a),
-        Record::AL(a) => left_arc_stays(t, from, a),
-        _ => true,
-    }
+    way_stays(t, from, a, from_centre(a, a.end), from_centre(a, from))
 }

@@ -45,8 +45,7 @@ pub fn hole_of(cycle: Cycle, s: State, origin: Point, v: Values) -> Hole
     let at = s.at;
     let initial = at.z;
     let r = settings::aimed(d, origin.z, initial, v.r);
-    let g = v.z;
-    let depth = settings::aimed(d, origin.z, r, g);
+    let depth = settings::aimed(d, origin.z, r, v.z);
     let dwell = v.p;
     let feed = s.feed;
     Hole {
@@ -55,7 +54,7 @@ pub fn hole_of(cycle: Cycle, s: State, origin: Point, v: Values) -> Hole
         initial,
         r,
         z: Given {
-            stands: g.stands,
+            stands: v.z.stands,
             v: depth,
         },
         dwell,
@@ -67,8 +66,7 @@ pub fn hole_of(cycle: Cycle, s: State, origin: Point, v: Values) -> Hole
 pub fn levels_hold(h: Hole) -> bool
     ensures { λ b. ⌜ b ≡ levelsHold h ⌝ }
 {
-    let z = h.z;
-    (!z.stands | z.v.at_most(h.r)) & h.r.at_most(h.initial)
+    (!h.z.stands | h.z.v.at_most(h.r)) & h.r.at_most(h.initial)
 }
 
 pub fn return_level(h: Hole) -> Len
@@ -107,14 +105,12 @@ fn up_count(cycle: Cycle, back: Return) -> usize
 pub fn row_count(h: Hole) -> usize
     ensures { λ n. ⌜ PassLength h n ⌝ }
 {
-    let z = h.z;
-    let dwell = h.dwell;
     let cycle = h.cycle;
     let back = h.back;
-    if !z.stands {
+    if !h.z.stands {
         return 1;
     }
-    if dwell.stands {
+    if h.dwell.stands {
         return 4 + up_count(cycle, back);
     }
     3 + up_count(cycle, back)
@@ -159,9 +155,8 @@ pub fn row_at(h: Hole, i: usize, level: Len, p: Point) -> Row
     requires { ⌜ i < length (passTo h level p) ⌝ }
     ensures { λ r. ⌜ Stands (passTo h level p) i (rowRecord r) ⌝ }
 {
-    let z = h.z;
     let feed = h.feed;
-    if !z.stands {
+    if !h.z.stands {
         return Row::Rapid(lengths::at_height(p, h.initial));
     }
     if i == 0 {
@@ -171,7 +166,7 @@ pub fn row_at(h: Hole, i: usize, level: Len, p: Point) -> Row
         return Row::Rapid(lengths::at_height(p, h.r));
     }
     if i == 2 {
-        return Row::Cut(lengths::at_height(p, z.v), feed);
+        return Row::Cut(lengths::at_height(p, h.z.v), feed);
     }
     row_after_cut(h, i - 3, p)
 }
@@ -180,8 +175,7 @@ pub fn row_at(h: Hole, i: usize, level: Len, p: Point) -> Row
 pub fn pass_end(h: Hole, p: Point) -> Point
     ensures { λ e. ⌜ ((level : Len) (from : Point) → e ≡ endOf from (passTo h level p)) ⌝ }
 {
-    let z = h.z;
-    if z.stands {
+    if h.z.stands {
         lengths::at_height(p, return_level(h))
     } else {
         lengths::at_height(p, h.initial)

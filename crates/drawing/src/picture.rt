@@ -46,23 +46,20 @@ fn put_marks(out: &mut [u8], at: usize, view: View, sh: Sheet) -> usize
 fn put_view(out: &mut [u8], at: usize, view: View, sh: Sheet, list: &[u8]) -> usize
     ensures { λ next. ⌜ Fills (now (out .entry)) at (viewOf view sh (recordsFrom (now (list .entry)) 0)) (now (out .exit)) next ⌝ }
 {
-    let start = sh.start;
     let rapids = put_marks(out, at, view, sh);
-    let end = put_path(out, rapids, view, true, start, list);
+    let end = put_path(out, rapids, view, true, sh.start, list);
     let cuts = put_text(out, end, b"</g>\n<g class=\"c\">\n");
-    put_path(out, cuts, view, false, start, list)
+    put_path(out, cuts, view, false, sh.start, list)
 }
 
 fn corner_of(sh: Sheet) -> Flat
     requires { ⌜ Fair sh ⌝ }
     ensures { λ r. ⌜ r ≡ cornerOf sh ⌝ }
 {
-    let low = sh.low;
-    let high = sh.high;
     let gap = Len::of_count(sh.gap);
     Flat {
-        first: low.x.minus(gap),
-        second: high.y.plus(gap).negated(),
+        first: sh.low.x.minus(gap),
+        second: sh.high.y.plus(gap).negated(),
     }
 }
 
@@ -70,13 +67,15 @@ fn size_of(sh: Sheet) -> Flat
     requires { ⌜ Fair sh ⌝ }
     ensures { λ r. ⌜ r ≡ sizeOf sh ⌝ }
 {
-    let low = sh.low;
-    let high = sh.high;
     let two = Len::of_count(2 * sh.gap);
     let three = Len::of_count(3 * sh.gap);
     Flat {
-        first: high.x.minus(low.x).plus(two),
-        second: high.y.minus(low.y).plus(high.z.minus(low.z)).plus(three),
+        first: sh.high.x.minus(sh.low.x).plus(two),
+        second: sh.high
+            .y
+            .minus(sh.low.y)
+            .plus(sh.high.z.minus(sh.low.z))
+            .plus(three),
     }
 }
 
@@ -84,11 +83,9 @@ fn down_of(sh: Sheet) -> Flat
     requires { ⌜ Fair sh ⌝ }
     ensures { λ r. ⌜ r ≡ downOf sh ⌝ }
 {
-    let low = sh.low;
-    let high = sh.high;
     Flat {
         first: Len::zero(),
-        second: high.z.minus(low.y).plus(Len::of_count(sh.gap)),
+        second: sh.high.z.minus(sh.low.y).plus(Len::of_count(sh.gap)),
     }
 }
 

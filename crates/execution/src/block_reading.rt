@@ -56,10 +56,9 @@ pub fn read_block(s: &[u8], from: usize, left: usize, bed: Bed, state: State) ->
     requires { ⌜ Reachable bed state ⌝ }
     ensures { λ r. ⌜ BlockReadAs bed left state (now (s .entry)) from r ⌝ }
 {
-    let modes = state.modes;
     let mut words = [0u64; 13];
     let mut places = [0usize; 13];
-    let read = reading::read_words(s, from, left == 4, modes, &mut words, &mut places);
+    let read = reading::read_words(s, from, left == 4, state.modes, &mut words, &mut places);
     let status = read.status;
     match status {
         Status::Refused(refusal, byte) => BlockRead::Refused(refusal, byte),

@@ -59,14 +59,12 @@ fn check_motion(bed: Bed, p: Planned) -> Checked
 {
     let works = p.works;
     let from = works.at;
-    let work = p.work;
-    let aim = p.aim;
     let first = p.first;
     let last = p.last;
-    if !work.sound {
+    if !p.work.sound {
         return Checked::Refused(Refusal::BadParameter);
     }
-    if !work::work_fits(bed.offset, work) {
+    if !work::work_fits(bed.offset, p.work) {
         return Checked::Refused(Refusal::CentreTooFar);
     }
     let nothing = Extent {
@@ -74,7 +72,7 @@ fn check_motion(bed: Bed, p: Planned) -> Checked
         room: 0,
         count: 0,
     };
-    let Way::Ends(e) = work::check_work(bed.travel, work, aim, work::with_brief(nothing, first))
+    let Way::Ends(e) = work::check_work(bed.travel, p.work, p.aim, work::with_brief(nothing, first))
     else {
         return Checked::Refused(Refusal::LeavesTravel);
     };
@@ -87,13 +85,10 @@ fn put_block(list: &mut [u8], at: usize, offset: Point, p: Planned) -> usize
     requires { ⌜ Writable (p .work) (p .aim) (p .works .at) ⌝ }
     ensures { λ next. ⌜ Wrote (now (list .entry)) at (movedBytes offset (plannedRecords p)) (now (list .exit)) next ⌝ }
 {
-    let works = p.works;
-    let work = p.work;
-    let aim = p.aim;
     let first = p.first;
     let last = p.last;
     let spun = work::put_brief(list, at, first);
-    let moved = work::put_work(list, spun, offset, work, aim, works.at);
+    let moved = work::put_work(list, spun, offset, p.work, p.aim, p.works.at);
     work::put_brief(list, moved, last)
 }
 
@@ -111,7 +106,6 @@ pub fn write_block(
     requires { ⌜ Able bed p ⌝ }
     ensures { λ r. ⌜ ((s : State) (b : Said) → Plans bed s b p → b .misc ≡ misc → (left : ℕ) (ws : List Word) → Does (bed .offset) (judgedFrom 7 (machineOf bed) (freely left) (length (now (list .entry)) - at) s start ws b) (now (list .entry)) at after (now (list .exit)) r) ⌝ }
 {
-    let works = p.works;
     let control = p.control;
     match check_motion(bed, p) {
         Checked::Refused(refusal) => Executed::Refused(refusal, start),
@@ -120,7 +114,7 @@ pub fn write_block(
                 return Executed::Refused(Refusal::NoRoom, start);
             }
             let next = put_block(list, at, bed.offset, p);
-            let state = effects::settled(works, misc, e.end);
+            let state = effects::settled(p.works, misc, e.end);
             Executed::Accepted(Done {
                 state,
                 control,

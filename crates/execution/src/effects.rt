@@ -19,9 +19,8 @@ pub fn working(s: State, b: Said) -> State
     let at = s.at;
     let modes = b.modes;
     let misc = b.misc;
-    let values = b.values;
-    let feed = settings::or_else(values.f, s.feed);
-    let speed = settings::or_else(values.s, s.speed);
+    let feed = settings::or_else(b.values.f, s.feed);
+    let speed = settings::or_else(b.values.s, s.speed);
     let turning = s.turning | (codes::misc_number(misc) == 3);
     State {
         at,
@@ -38,9 +37,7 @@ pub fn spindle_record(s: State, b: Said, speed: Len) -> Brief
     ensures { λ r. ⌜ briefRecords r ≡ spindleRecords s b ⌝ }
 {
     let misc = b.misc;
-    let values = b.values;
-    let word = values.s;
-    if (s.turning & word.stands) | (codes::misc_number(misc) == 3) {
+    if (s.turning & b.values.s.stands) | (codes::misc_number(misc) == 3) {
         return Brief::Speed(speed);
     }
     Brief::Nothing
@@ -74,10 +71,9 @@ pub fn control_of(b: Said) -> Control
     ensures { λ r. ⌜ r ≡ controlOf b ⌝ }
 {
     let misc = b.misc;
-    let values = b.values;
     let n = codes::misc_number(misc);
     if n == 98 {
-        return Control::Call(called(values.p));
+        return Control::Call(called(b.values.p));
     }
     if n == 99 {
         return Control::Back;

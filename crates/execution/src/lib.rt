@@ -73,8 +73,7 @@ fn check_block(
 {
     let code = b.code;
     let misc = b.misc;
-    let v = b.values;
-    if order::lacks_parameter(code, v) {
+    if order::lacks_parameter(code, b.values) {
         return Executed::Refused(Refusal::ParameterUndefined, start);
     }
     let works = effects::working(s, b);
@@ -101,13 +100,12 @@ pub fn exec(
     requires { ⌜ Reachable (ground .bed) state ⌝ }
     ensures { λ r. ⌜ Does (ground .bed .offset) (exec (machineOf (ground .bed)) (freely (ground .left)) (length (now (list .entry)) - at) state (spot .start) (spot .from) (textFrom (drop (spot .from) (now (s .entry))))) (now (list .entry)) at (spot .from + lengthFrom (drop (spot .from) (now (s .entry)))) (now (list .exit)) r ⌝ }
 {
-    let bed = ground.bed;
-    let found = block_reading::read_block(s, spot.from, ground.left, bed, state);
+    let found = block_reading::read_block(s, spot.from, ground.left, ground.bed, state);
     match found {
         BlockRead::Refused(refusal, byte) => Executed::Refused(refusal, byte),
         BlockRead::Says(said, end) => {
             let after = lines::next_block(s, end);
-            check_block(list, at, bed, spot.start, after, state, said)
+            check_block(list, at, ground.bed, spot.start, after, state, said)
         }
     }
 }

@@ -23,11 +23,10 @@ fn lacks_centre(motion: Motion, v: Values) -> bool
 pub fn lacks_parameter(code: BlockCode, v: Values) -> bool
     ensures { λ r. ⌜ r ≡ lacksParameter code v ⌝ }
 {
-    let p = v.p;
     match code {
-        BlockCode::Calling => !p.stands,
+        BlockCode::Calling => !v.p.stands,
         BlockCode::Returning => false,
-        BlockCode::Dwelling => !p.stands,
+        BlockCode::Dwelling => !v.p.stands,
         BlockCode::Moving(motion) => lacks_centre(motion, v),
     }
 }
@@ -67,6 +66,5 @@ pub fn cannot_drill(b: Said, turning: bool) -> bool
     let code = b.code;
     let modes = b.modes;
     let plane = modes.plane;
-    let v = b.values;
-    drills(code, b.named, v) & (!is_g17(plane) | !turning)
+    drills(code, b.named, b.values) & (!is_g17(plane) | !turning)
 }

@@ -6,8 +6,9 @@ use Rattle.lines.specs.Serving.{blocksFrom}
 use Rattle.records.specs.Layout.{roomOf, listBytes}
 use Rattle.programs.specs.{declared.Program.Program, declared.Callee.Callee, Answers.calleeBy, Openings.known, Found.subsOf, Places.Placed}
 use Rattle.blocks.specs.{Exec.callsIn, Exec.callTo, Exec.unknownCall, Exec.tooDeep, Exec.atStart, Exec.unless, Calling.called}
+use Rattle.runs.specs.declared.Progress.{Progress}
 use Rattle.runs.specs.Walk.{Going, refusedAt, Outcome, just, goingOn, after, thenRest, follow, obey, walk, blocksFor, callees}
-use Rattle.interpreter.specs.declared.{Task.Task, Progress.Progress, How.the-variants.Returned, How.the-variants.Refused, Ending.Ending, Leg.Leg}
+use Rattle.interpreter.specs.declared.{Task.Task, How.the-variants.Returned, How.the-variants.Refused, Ending.Ending, Leg.Leg}
 use Rattle.interpreter.specs.Progressing.{jobOf, goingOf, walkFrom, callFrom, howBy, nextBy, outcomeBy, Ran, Sound, Reaches}
 use Rattle.interpreter.proofs.{Endings.ran-still, Endings.ran-after, Endings.ran-length, Endings.ran-then, Endings.ran-stops, Rounds.Walking}
 use Rattle.programs.specs.declared.Callee.the-variants as Callee

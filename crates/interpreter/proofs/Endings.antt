@@ -6,8 +6,9 @@ use Rattle.records.specs.{declared.Record.Record, Layout.kindOf, Layout.roomOf,
 use Rattle.records.proofs.{Laid.mark-room, Laid.list-length, Moved.room-append, Moved.moved-room, Moved.put-then}
 use Rattle.settings.specs.declared.State.{State}
 use Rattle.refusals.specs.declared.Place.{Place}
+use Rattle.runs.specs.declared.Progress.{Progress}
 use Rattle.runs.specs.Walk.{Going, returned, Outcome, after, thenRest}
-use Rattle.interpreter.specs.declared.{Progress.Progress, How.How, Ending.Ending}
+use Rattle.interpreter.specs.declared.{How.How, Ending.Ending}
 use Rattle.interpreter.specs.Progressing.{goingOf, howBy, nextBy, outcomeBy, Ran, Fits}
 use Rattle.interpreter.specs.declared.How.the-variants.{Ended, Returned, Unfinished, Refused}
 

@@ -11,9 +11,10 @@ use Rattle.programs.{specs.declared.Programs.Programs, specs.Found.subsOf, spec
 use Rattle.blocks.specs.{declared.Control.Control, declared.Done.Done, declared.Executed.Executed, Calling.called, Doing.madeOf, Doing.Does}
 use Rattle.blocks.specs.declared.Control.the-variants.{On, Call, Back, Stop}
 use Rattle.blocks.specs.Exec.{Verdict, accepted, callsIn, callTo, unknownCall, tooDeep, atStart, unless}
+use Rattle.runs.specs.{declared.Progress.Progress, Serving.progressBy}
 use Rattle.runs.specs.Walk.{Going, Outcome, goingOn, isSpent, after, follow, obey, walk, callees}
-use Rattle.interpreter.specs.declared.{Task.Task, Progress.Progress, Ending.Ending, Turn.the-variants.Calls}
-use Rattle.interpreter.specs.Progressing.{jobOf, goingOf, walkFrom, callFrom, programEnds, progressBy, howBy, nextBy, outcomeBy, Ran, Fits, Reaches}
+use Rattle.interpreter.specs.declared.{Task.Task, Ending.Ending, Turn.the-variants.Calls}
+use Rattle.interpreter.specs.Progressing.{jobOf, goingOf, walkFrom, callFrom, programEnds, howBy, nextBy, outcomeBy, Ran, Fits, Reaches}
 use Rattle.interpreter.specs.declared.How.the-variants.{Ended, Returned, Unfinished, Refused}
 use Rattle.interpreter.proofs.Endings.{count-room, ran-still, ran-after}
 use Rattle.interpreter.proofs.Walking.{freeVerdict, goes-inside, walk-spent, walk-ends, walk-goes}

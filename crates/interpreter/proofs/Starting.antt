@@ -1,21 +1,20 @@
 -- What a run starts with, and what it answers. Assumes nothing.
-use Rattle.terms.proofs.Common.{ℕ, _+_, _-_, _≤_, _<_, _^_, _≡_, refl, sym, _∙_, ap, Bool, true, false, some, List, [], _∷_, arith, decLt, lt-ltb, le-ltb, length, drop, sets-eq, ℤ, _+ℤ_, _-ℤ_}
-use Rattle.refusals.specs.declared.{Refusal.Refusal, Refusal.the-variants.FirstBlock, Refusal.the-variants.BadSetup, Refusal.the-variants.DataTooLong, Place.Place, Answer.the-variants.Refused}
+use Rattle.terms.proofs.Common.{ℕ, _+_, _-_, _≤_, _<_, _^_, _≡_, refl, sym, _∙_, ap, Bool, true, false, some, List, [], _∷_, arith, decLt, lt-ltb, le-ltb, length, drop, sets-eq}
+use Rattle.refusals.specs.declared.{Refusal.Refusal, Refusal.the-variants.FirstBlock, Refusal.the-variants.BadSetup, Refusal.the-variants.DataTooLong, Place.Place}
 use Rattle.lines.specs.Blocks.{Block, blockFrom, blocksOf, lengthFrom, isPercent, textFrom}
 use Rattle.lines.{specs.Serving.blocksFrom, proofs.Lines.blocks-step, proofs.Lines.blocks-end, proofs.Lines.percent-end}
-use Rattle.lengths.specs.{declared.Len.Len, Units.len, declared.Point.Point, Points.moved, Points.movedBack, Near.Near}
-use Rattle.lengths.proofs.Ring.{var, _⊞_, _⊟_, same}
-use Rattle.setup.specs.{declared.Bed.Bed, declared.Setup.Setup, Limits.validSetup, Frame.pointOf, Frame.offset, Frame.startOf, Frame.bedOf, Frame.switchOn, Fair.Fair}
+use Rattle.lengths.specs.{declared.Point.Point, Near.Near}
+use Rattle.setup.specs.{declared.Bed.Bed, declared.Setup.Setup, Limits.validSetup, Frame.offset, Frame.bedOf, Frame.switchOn, Fair.Fair}
 use Rattle.setup.proofs.Valid.{valid-feed, valid-speed, start-inside}
 use Rattle.records.specs.{declared.Record.Record, Layout.roomOf, Layout.listBytes, Writing.movedBytes}
-use Rattle.settings.specs.{declared.State.State, Settings.firstState, Settings.firstModes, Settings.stateMoved}
+use Rattle.settings.specs.{declared.State.State, Settings.firstState, Settings.firstModes}
 use Rattle.programs.specs.declared.{Programs.Programs, Scanned.Scanned, Verdict.Verdict}
 use Rattle.programs.specs.{Openings.Table, Openings.table, Openings.refusedAt, Openings.programsFrom, Found.subsOf, Found.tableBy, Found.tableOf, Places.Placed, Places.TablePlaced}
 use Rattle.programs.proofs.Places.{found-placed, main-placed, subs-placed, known-placed}
 use Rattle.blocks.{specs.Reach.Reachable, proofs.Nearness.inside-sums}
-use Rattle.runs.specs.{Walk.How, Walk.Outcome, Walk.nowhere, Walk.just, declared.Budget.Budget, declared.Report.Report}
-use Rattle.runs.specs.Run.{firstOf, runTable, runBlocks, outcome, recordsOf, answerBy, answerOf, standingOf}
-use Rattle.interpreter.specs.{Owing.Owes, Serving.Opened, Serving.Gives, Serving.reportBy, declared.Progress.Progress, declared.Ending.Ending}
+use Rattle.runs.specs.{Walk.How, Walk.Outcome, Walk.nowhere, Walk.just, Serving.reportBy, declared.Budget.Budget, declared.Progress.Progress, declared.Report.Report}
+use Rattle.runs.specs.Run.{firstOf, runTable, runBlocks, outcome, recordsOf, answerOf, standingOf}
+use Rattle.interpreter.specs.{Owing.Owes, Serving.Opened, Serving.Gives, declared.Ending.Ending}
 use Rattle.interpreter.specs.Progressing.{jobOf, goingOf, walkFrom, outcomeBy, Ran, Sound, Fits}
 use Rattle.interpreter.proofs.Endings.{moved-length}
 use Rattle.programs.specs.declared.Verdict.the-variants as Verdict
@@ -96,25 +95,6 @@ gives-just was e f = rw (e, f) (record { report = refl; bytes = refl; room = ome
 pub gives-as :
     {by : Point} {o u : Outcome} {was is : List ℕ} {r : Report} → o ≡ u → Gives by u was is r → Gives by o was is r
 gives-as e g = rw e g
-
--- A run that is refused before any block stands at the setup's start: what the frame takes off, the machine's units add again.
-start-is : (s : Setup) → pointOf (s .start) ≡ moved (offset s) (startOf s)
-unfolding moved startOf movedBack offset
-start-is s = points (again (s .start .x) (s .exofs .x)) (again (s .start .y) (s .exofs .y)) (again (s .start .z) (s .exofs .z))
-  where
-    again : (a d : ℤ) → a ≡ (a -ℤ d) +ℤ d
-    again a d = same (var a) (var a ⊟ var d ⊞ var d) (omega arith)
-
-    points : {a b c d e f : ℤ} → a ≡ d → b ≡ e → c ≡ f → pointOf (record { x = a; y = b; z = c }) ≡ pointOf (record { x = d; y = e; z = f })
-    points h j k = rw (h, j, k)
-
-pub stands-at-start :
-    (s : Setup) (refusal : Refusal) (place : Place) {start : Point} {feed speed : Len} {state : State} → start ≡ pointOf (s .start) → feed ≡ len (s .feed)
-    → speed ≡ len (s .speed) → state ≡ firstState start feed speed
-    → record { answer = Refused refusal place 0; standing = record { state = state; next = nowhere }; end = 0 }
-    ≡ reportBy (offset s) (just (Walk.refusedAt refusal place) (firstOf s))
-unfolding reportBy answerBy stateMoved firstOf firstState roomOf
-stands-at-start s refusal place e f g h = rw (h, e, f, g, start-is s)
 
 -- ---- "Order: 13, 12, 11; then per opening 1, 8, 7."
 

@@ -8,11 +8,11 @@ use Rattle.records.specs.{declared.Record.Record, Layout.roomOf, Writing.movedB
 use Rattle.settings.specs.declared.State.{State}
 use Rattle.programs.specs.{declared.Program.Program, declared.Programs.Programs, Openings.known, Found.subsOf, Found.WellFound, Places.Begins, Places.Placed}
 use Rattle.blocks.specs.{Machine.machineOf, declared.Control.the-variants.On, declared.Control.the-variants.Call}
-use Rattle.blocks.specs.{declared.Done.Done, Exec.Verdict, Exec.accepted, Exec.exec, Exec.callsIn, Calling.freely, Calling.called, Reach.Reachable}
-use Rattle.runs.specs.Run.{finishOf}
-use Rattle.runs.specs.Walk.{Job, Going, ended, returned, unfinished, refusedAt, Outcome, nowhere, goingOn, oneLess, slashLength, obey, walk, callees}
+use Rattle.blocks.specs.{Exec.Verdict, Exec.accepted, Exec.exec, Exec.callsIn, Calling.freely, Calling.called, Reach.Reachable}
+use Rattle.runs.specs.{Run.finishOf, declared.Progress.Progress}
+use Rattle.runs.specs.Walk.{Job, Going, ended, returned, unfinished, refusedAt, Outcome, nowhere, goingOn, slashLength, obey, walk, callees}
 use Rattle.execution.specs.declared.Ground.{Ground}
-use Rattle.interpreter.specs.declared.{Task.Task, Progress.Progress, How.How, Ending.Ending, Turn.Turn, Turn.the-variants.Calls, Turn.the-variants.Over, Leg.Leg}
+use Rattle.interpreter.specs.declared.{Task.Task, How.How, Ending.Ending, Turn.Turn, Turn.the-variants.Calls, Turn.the-variants.Over, Leg.Leg}
 use Rattle.interpreter.specs.declared.How.the-variants.{Ended, Returned, Unfinished, Refused}
 use Rattle.runs.specs.Walk as Walk
 
@@ -59,10 +59,6 @@ verdictAt ground skips b room s =
     else
     exec (machineOf (ground .bed)) (freely (ground .left)) room s (b .start) (b .start + slashLength b)
     (drop (slashLength b) (b .text))
-
--- the progress after an accepted block, by the code's answer
-unfoldable pub progressBy : Progress → Done → Progress
-progressBy p d = record { state = d .state; next = d .next; count = p .count + d .count; budget = oneLess (p .budget) }
 
 -- how a walk ends, in the words of the rules: a return with what goes on, and a refusal with its place
 unfoldable pub howBy : How → Place → Going → Walk.How

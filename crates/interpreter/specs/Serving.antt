@@ -4,17 +4,7 @@ use Rattle.lines.specs.{Blocks.blockFrom, Blocks.lengthFrom, Serving.blocksFrom
 use Rattle.lengths.specs.declared.Point.{Point}
 use Rattle.records.specs.{Layout.roomOf, Writing.movedBytes}
 use Rattle.programs.specs.{declared.Programs.Programs, Openings.table, Openings.programsFrom, Found.subsOf, Found.WellFound}
-use Rattle.settings.specs.Settings.{stateMoved}
-use Rattle.runs.specs.{Walk.Outcome, Run.answerBy, declared.Report.Report}
-
--- what an outcome tells the caller, the point in machine units
-unfoldable pub reportBy : Point → Outcome → Report
-reportBy offset o =
-    record {
-      answer = answerBy (o .how) (length (o .made));
-      standing = record { state = stateMoved offset (o .last); next = o .next };
-      end = roomOf (o .made);
-    }
+use Rattle.runs.specs.{Walk.Outcome, Serving.reportBy, declared.Report.Report}
 
 -- "Order: .. 11; then per opening 1, 8, 7.": the data begin with `%` alone, and these are their programs
 pub record Opened (l : List ℕ) (t : Programs) : Type 0 where

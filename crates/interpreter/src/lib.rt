@@ -1,6 +1,5 @@
 // Running a data set under a setup.
 mod reporting;
-mod stepping;
 mod walk;
 
 use programs::Program;
@@ -10,9 +9,9 @@ use records::Listed;
 use refusals::Place;
 use refusals::Refusal;
 use runs::Budget;
+use runs::Progress;
 use runs::Report;
 use runs::Standing;
-use settings::State;
 use setup::Bed;
 use setup::Setup;
 ghost use Rattle.terms.specs.Common.{_≡_, true, length};
@@ -28,15 +27,6 @@ pub struct Task {
     pub bed: Bed,
     pub programs: Programs,
     pub skips: bool,
-}
-
-// What changes from block to block: the settings, the place in the list after the records, their count, and the blocks that
-// may still be executed.
-pub struct Progress {
-    pub state: State,
-    pub next: usize,
-    pub count: usize,
-    pub budget: Budget,
 }
 
 // How the walk through a program ends: at the program's end, by a return, by the budget's end, or by a refusal.
@@ -89,7 +79,7 @@ fn run_main(
         skips: setup::skips(setup),
     };
     let first = Progress {
-        state: reporting::first_state(setup),
+        state: runs::first_state(setup),
         next: 0,
         count: 0,
         budget,
@@ -111,18 +101,18 @@ fn run_within(setup: Setup, bytes: &[u8], list: &mut [u8], budget: Budget) -> Re
 {
     let nowhere = Place { block: 0, byte: 0 };
     if 65_535 < bytes.len() {
-        return reporting::refused(setup, Refusal::DataTooLong, nowhere);
+        return runs::refused(setup, Refusal::DataTooLong, nowhere);
     }
     if !setup::is_valid(setup) {
-        return reporting::refused(setup, Refusal::BadSetup, nowhere);
+        return runs::refused(setup, Refusal::BadSetup, nowhere);
     }
     if !lines::is_percent(bytes, 0) {
-        return reporting::refused(setup, Refusal::FirstBlock, Place { block: 1, byte: 0 });
+        return runs::refused(setup, Refusal::FirstBlock, Place { block: 1, byte: 0 });
     }
     let found = programs::find_programs(bytes);
     let verdict = found.verdict;
     match verdict {
-        Verdict::Refused(refusal, place) => reporting::refused(setup, refusal, place),
+        Verdict::Refused(refusal, place) => runs::refused(setup, refusal, place),
         Verdict::Fine => run_main(setup, bytes, list, found.programs, budget),
     }
 }

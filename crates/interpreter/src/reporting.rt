@@ -1,40 +1,10 @@
-// What a run tells: where it starts, where it stands and what it answers.
+// What the main program's ending tells: the answer, and the place of the next block.
 use crate::How;
 use refusals::Answer;
 use refusals::Place;
-use refusals::Refusal;
-use runs::Report;
-use runs::Standing;
-use settings::State;
-use setup::Setup;
-ghost use Rattle.terms.specs.Common.{_≡_, true};
-ghost use Rattle.setup.specs.{Limits.validSetup, Frame.offset};
-ghost use Rattle.runs.specs.{Walk.Going, Walk.just, Walk.refusedAt, Run.firstOf, Run.answerBy};
-ghost use Rattle.interpreter.specs.{Progressing.howBy, Progressing.nextBy, Serving.reportBy};
-
-// The settings that a run starts with.
-pub fn first_state(setup: Setup) -> State
-    requires { ⌜ validSetup setup ≡ true ⌝ }
-    ensures { λ r. ⌜ r ≡ firstOf setup ⌝ }
-{
-    let start = setup::start_of(setup);
-    settings::first_state(start, setup::feed_of(setup), setup::speed_of(setup))
-}
-
-// A refusal before any block: the run stands where it would have started, by the setup's own numbers, with no sum of them, since those
-// of a refused setup may be any.
-pub fn refused(setup: Setup, refusal: Refusal, place: Place) -> Report
-    ensures { λ r. ⌜ r ≡ reportBy (offset setup) (just (refusedAt refusal place) (firstOf setup)) ⌝ }
-{
-    let start = setup::point_of(setup.start);
-    let state = settings::first_state(start, setup::feed_of(setup), setup::speed_of(setup));
-    let next = Place { block: 0, byte: 0 };
-    Report {
-        answer: Answer::Refused(refusal, place, 0),
-        standing: Standing { state, next },
-        end: 0,
-    }
-}
+ghost use Rattle.terms.specs.Common.{_≡_};
+ghost use Rattle.runs.specs.{Walk.Going, Run.answerBy};
+ghost use Rattle.interpreter.specs.Progressing.{howBy, nextBy};
 
 // The answer that the main program's ending gives.
 pub fn answer_by(how: How, place: Place, count: usize) -> Answer

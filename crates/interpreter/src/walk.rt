@@ -2,10 +2,8 @@
 use crate::Ending;
 use crate::How;
 use crate::Leg;
-use crate::Progress;
 use crate::Task;
 use crate::Turn;
-use crate::stepping;
 use blocks::Control;
 use blocks::Done;
 use blocks::Executed;
@@ -16,6 +14,7 @@ use programs::Program;
 use programs::Programs;
 use refusals::Place;
 use refusals::Refusal;
+use runs::Progress;
 use settings::State;
 ghost use Rattle.terms.specs.Common.{_≡_, ℕ, _+_, _-_, _≤_, _<_, length, drop};
 ghost use Rattle.lines.specs.Blocks.{lengthFrom, blockFrom};
@@ -23,7 +22,21 @@ ghost use Rattle.setup.specs.Fair.{Fair};
 ghost use Rattle.programs.specs.{declared.Programs.Programs, Places.Begins, Places.Placed};
 ghost use Rattle.blocks.specs.{Reach.Reachable, Doing.Does};
 ghost use Rattle.interpreter.specs.declared.Turn.the-variants.{Over};
-ghost use Rattle.interpreter.specs.Progressing.{taskOn, walkFrom, verdictAt, Goes, Ran, Sound, Fits};
+ghost use Rattle.interpreter.specs.Progressing.{taskOn, walkFrom, programEnds, verdictAt, Goes, Ran, Sound, Fits};
+
+// Whether a program has no more blocks at a place.
+fn program_ends(s: &[u8], at: usize) -> bool
+    requires { ⌜ at ≤ length (now s) ⌝ }
+    ensures { λ r. ⌜ r ≡ programEnds (drop at (now (s .entry))) ⌝ }
+{
+    if s.len() <= at {
+        return true;
+    }
+    if lines::begins_with(s, at, b'O') {
+        return true;
+    }
+    lines::is_percent(s, at)
+}
 
 // The block at a place: skipped unread, which is accepted with nothing done, or executed, a slash before its words left out.
 fn do_block(
@@ -94,14 +107,14 @@ fn run_leg(
         if runs::is_spent(budget) {
             return over(How::Unfinished, place, at, p);
         }
-        if stepping::program_ends(s, at) {
+        if program_ends(s, at) {
             return over(How::Refused(Refusal::NoEnd), place, at, p);
         }
         match do_block(s, list, ground, skips, at, p.next, p.state) {
             Executed::Refused(refusal, byte) => return over(How::Refused(refusal), place, byte, p),
             Executed::Accepted(done) => {
                 let control = done.control;
-                let after = stepping::progress_after(p, done);
+                let after = runs::progress_after(p, done);
                 let turn = match control {
                     Control::On => {
                         p = after;

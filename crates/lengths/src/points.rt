@@ -42,12 +42,10 @@ pub fn in_plane(plane: Plane, p: Point) -> Flat
 pub fn is_inside(t: Travel, p: Point) -> bool
     ensures { λ r. ⌜ r ≡ inside t p ⌝ }
 {
-    let low = t.low;
-    let high = t.high;
-    low.x.at_most(p.x)
-        & p.x.at_most(high.x)
-        & (low.y.at_most(p.y) & p.y.at_most(high.y))
-        & (low.z.at_most(p.z) & p.z.at_most(high.z))
+    t.low.x.at_most(p.x)
+        & p.x.at_most(t.high.x)
+        & (t.low.y.at_most(p.y) & p.y.at_most(t.high.y))
+        & (t.low.z.at_most(p.z) & p.z.at_most(t.high.z))
 }
 
 // The bound leaves every sum of two coordinates room in 64 bits; a run's coordinates are far below it.

@@ -106,10 +106,8 @@ pub fn judge(
             return Judged::Unused(w.at);
         }
         let unit = m.unit;
-        let lowest = speeds.lowest;
-        let highest = speeds.highest;
-        let number = w.number;
-        let Value::Fit(z) = words::value_of(unit, lowest, highest, meaning, number) else {
+        let Value::Fit(z) = words::value_of(unit, speeds.lowest, speeds.highest, meaning, w.number)
+        else {
             if !bad {
                 bad = true;
                 place = w.at;

@@ -124,9 +124,8 @@ pub fn letter_place(b: u8) -> usize
 pub fn code_in(w: Word) -> Code
     ensures { λ r. ⌜ r ≡ codeIn w ⌝ }
 {
-    let n = w.number;
-    if words::is_plain(n) {
-        codes::code_of(n.digits)
+    if words::is_plain(w.number) {
+        codes::code_of(w.number.digits)
     } else {
         Code::Unknown
     }
@@ -135,9 +134,8 @@ pub fn code_in(w: Word) -> Code
 pub fn misc_in(w: Word) -> Misc
     ensures { λ r. ⌜ r ≡ miscIn w ⌝ }
 {
-    let n = w.number;
-    if words::is_plain(n) {
-        codes::misc_of(n.digits)
+    if words::is_plain(w.number) {
+        codes::misc_of(w.number.digits)
     } else {
         Misc::Other
     }

@@ -7,7 +7,7 @@ use lengths::Len;
 use lengths::Point;
 ghost use Rattle.terms.specs.Common.{_+_, _≤_, _≡_, [], _∷_, _++_, length};
 ghost use Rattle.lengths.specs.View.{Short};
-ghost use Rattle.records.specs.{declared.Record.the-variants.RP, declared.Record.the-variants.LN, Writing.AllShort, Writing.movedBytes, Writing.RoomFor, Serving.Wrote};
+ghost use Rattle.records.specs.{declared.Record.the-variants.RP, declared.Record.the-variants.LN, declared.Record.the-variants.AR, Path.arcMoved, Writing.AllShort, Writing.movedBytes, Writing.RoomFor, Serving.Wrote};
 ghost use Rattle.records.specs.Layout.{markOf, planeByte, pointNumbers, arcNumbers, numberBytes};
 
 pub fn put_number(list: &mut [u8], at: usize, n: Len) -> usize
@@ -49,9 +49,8 @@ fn put_arc(list: &mut [u8], at: usize, a: Arc) -> usize
     ensures { λ next. ⌜ Wrote (now (list .entry)) at (planeByte (a .plane) ∷ numberBytes (arcNumbers a)) (now (list .exit)) next ⌝ }
 {
     let plane = a.plane;
-    let end = a.end;
     list[at] = plane_byte(plane);
-    let first = put_point(list, at + 1, end);
+    let first = put_point(list, at + 1, a.end);
     let second = put_number(list, first, a.first);
     let feed = put_number(list, second, a.second);
     put_number(list, feed, a.feed)
@@ -94,6 +93,15 @@ pub fn put_single(list: &mut [u8], at: usize, kind: Kind, n: Len) -> usize
     put_number(list, body, n)
 }
 
+// An arc in machine units, after the mark of its sense.
+fn put_turn(list: &mut [u8], at: usize, by: Point, kind: Kind, a: Arc) -> usize
+    requires { ⌜ RoomFor (now list) at by (AR a ∷ []) ⌝ }
+    ensures { λ next. ⌜ Wrote (now (list .entry)) at (markOf kind ++ planeByte (a .plane) ∷ numberBytes (arcNumbers (arcMoved by a))) (now (list .exit)) next ⌝ }
+{
+    let body = put_mark(list, at, kind);
+    put_arc(list, body, crate::displaced_arc(by, a))
+}
+
 // Writes a record at a place, in machine units; every other byte of the list stays as it is.
 pub fn put(list: &mut [u8], at: usize, by: Point, r: Record) -> usize
     requires { ⌜ RoomFor (now list) at by (r ∷ []) ⌝ }
@@ -102,18 +110,10 @@ pub fn put(list: &mut [u8], at: usize, by: Point, r: Record) -> usize
     match r {
         Record::RP(p) => put_rapid(list, at, by, p),
         Record::LN(p, feed) => put_cut(list, at, by, p, feed),
-        Record::AR(a) => {
-            let body = put_mark(list, at, Kind::AR);
-            put_arc(list, body, crate::displaced_arc(by, a))
-        }
-        Record::AL(a) => {
-            let body = put_mark(list, at, Kind::AL);
-            put_arc(list, body, crate::displaced_arc(by, a))
-        }
+        Record::AR(a) => put_turn(list, at, by, Kind::AR, a),
+        Record::AL(a) => put_turn(list, at, by, Kind::AL, a),
         Record::DW(ms) => put_single(list, at, Kind::DW, ms),
         Record::SP(speed) => put_single(list, at, Kind::SP, speed),
-        Record::SO => put_mark(list, at, Kind::SO),
-        Record::PA => put_mark(list, at, Kind::PA),
-        Record::EN => put_mark(list, at, Kind::EN),
+        _ => put_mark(list, at, crate::kind_of(r)),
     }
 }

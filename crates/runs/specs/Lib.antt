@@ -1,3 +1,4 @@
 pub mod Walk
 pub mod Run
+pub mod Serving
 pub mod Examples

@@ -159,9 +159,8 @@ fn put_bend(out: &mut [u8], at: usize, s: SeenArc) -> usize
 pub fn put_arc(out: &mut [u8], at: usize, view: View, from: Point, a: Arc, turn: bool) -> usize
     ensures { λ next. ⌜ Fills (now (out .entry)) at (arc view from a turn) (now (out .exit)) next ⌝ }
 {
-    let end = a.end;
     if !is_drawable(from, a) {
-        return put_line(out, at, view, from, end);
+        return put_line(out, at, view, from, a.end);
     }
     let start = seen(view, from);
     let begun = put_form(out, at, b"<path d=\"M_ _", start, start);

@@ -19,9 +19,8 @@ pub fn is_drawable(from: Point, a: Arc) -> bool
     ensures { λ r. ⌜ r ≡ drawable from a ⌝ }
 {
     let plane = a.plane;
-    let end = a.end;
     let start = lengths::in_plane(plane, from);
-    let last = lengths::in_plane(plane, end);
+    let last = lengths::in_plane(plane, a.end);
     is_near(start.first, a.first)
         & is_near(start.second, a.second)
         & (is_near(last.first, a.first) & is_near(last.second, a.second))

@@ -23,29 +23,21 @@ ghost use Rattle.work.specs.Needs.{Poised, Aiming, Fitting, Counted, Mak
 pub fn end_stands(v: Values) -> bool
     ensures { λ r. ⌜ r ≡ endStands v ⌝ }
 {
-    let x = v.x;
-    let y = v.y;
-    let z = v.z;
-    x.stands | y.stands | z.stands
+    v.x.stands | v.y.stands | v.z.stands
 }
 
 // Whether a word of the centre or the radius stands.
 pub fn centre_given(v: Values) -> bool
     ensures { λ r. ⌜ r ≡ centreGiven v ⌝ }
 {
-    let i = v.i;
-    let j = v.j;
-    let k = v.k;
-    let r = v.r;
-    i.stands | j.stands | k.stands | r.stands
+    v.i.stands | v.j.stands | v.k.stands | v.r.stands
 }
 
 // A cycle is done where the block names one, and else where X, Y, Z or R stands.
 pub fn cycle_done(named: bool, v: Values) -> bool
     ensures { λ r. ⌜ r ≡ cycleDone named v ⌝ }
 {
-    let r = v.r;
-    named | end_stands(v) | r.stands
+    named | end_stands(v) | v.r.stands
 }
 
 fn centre_words(v: Values) -> Point
@@ -67,14 +59,12 @@ fn radius_fits(s: State, v: Values, end: Point) -> bool
 {
     let modes = s.modes;
     let plane = modes.plane;
-    let at = s.at;
-    let r = v.r;
-    if !r.stands {
+    if !v.r.stands {
         return true;
     }
     centres::radius_holds(
-        r.v,
-        lengths::in_plane(plane, at),
+        v.r.v,
+        lengths::in_plane(plane, s.at),
         lengths::in_plane(plane, end),
     )
 }
@@ -86,17 +76,15 @@ fn centre_for(left: bool, s: State, v: Values, end: Point) -> Flat
 {
     let modes = s.modes;
     let plane = modes.plane;
-    let at = s.at;
-    let r = v.r;
-    if r.stands {
+    if v.r.stands {
         return centres::centre_by(
             left,
-            r.v,
-            lengths::in_plane(plane, at),
+            v.r.v,
+            lengths::in_plane(plane, s.at),
             lengths::in_plane(plane, end),
         );
     }
-    lengths::in_plane(plane, lengths::moved(centre_words(v), at))
+    lengths::in_plane(plane, lengths::moved(centre_words(v), s.at))
 }
 
 fn arc_to(left: bool, s: State, v: Values, end: Point) -> Arc
@@ -122,8 +110,7 @@ fn arc_to(left: bool, s: State, v: Values, end: Point) -> Arc
 fn is_larger(v: Values) -> bool
     ensures { λ r. ⌜ r ≡ isLarger v ⌝ }
 {
-    let r = v.r;
-    r.v.below(Len::zero())
+    v.r.v.below(Len::zero())
 }
 
 fn no_work(sound: bool) -> Work
@@ -153,12 +140,11 @@ fn straight_work(cuts: bool, s: State, origin: Point, v: Values) -> Work
 {
     let modes = s.modes;
     let d = modes.distance;
-    let at = s.at;
     let feed = s.feed;
     if !end_stands(v) {
         return no_work(true);
     }
-    let end = settings::target_point(d, origin, at, v);
+    let end = settings::target_point(d, origin, s.at, v);
     if cuts {
         return one_work(Record::LN(end, feed), true);
     }
@@ -173,16 +159,15 @@ fn arc_work(clockwise: bool, left: bool, s: State, origin: Point, v: Values) -> 
 {
     let modes = s.modes;
     let d = modes.distance;
-    let at = s.at;
     if !(end_stands(v) | centre_given(v)) {
         return no_work(true);
     }
-    let end = settings::target_point(d, origin, at, v);
+    let end = settings::target_point(d, origin, s.at, v);
     if !radius_fits(s, v, end) {
         return no_work(false);
     }
     let a = arc_to(left, s, v, end);
-    let sound = arcs::arc_holds(at, a);
+    let sound = arcs::arc_holds(s.at, a);
     if clockwise {
         return one_work(Record::AR(a), sound);
     }

@@ -12,11 +12,23 @@ use records::Kind;
 use records::Record;
 ghost use Rattle.terms.specs.Common.{_+_, _^_, _≤_, _≡_, true, [], _∷_};
 ghost use Rattle.lengths.specs.{Near.Near, Points.inside};
-ghost use Rattle.records.specs.Path.{pathOf};
-ghost use Rattle.arcs.specs.Bounds.{PathBounds};
+ghost use Rattle.records.specs.{Path.pathOf, Path.recordMoved, Displacing.Loose};
+ghost use Rattle.arcs.specs.{Arcs.centreFits, Arcs.pathStays, Bounds.PathBounds};
 ghost use Rattle.cycles.specs.Cycles.{passTo};
 ghost use Rattle.work.specs.Work.{workRecords, drilled, briefRecords, passFits, grown, wayOf};
 ghost use Rattle.work.specs.Needs.{PassLoose, Little, Testable};
+
+// Whether a record can be written in machine units: only an arc has a centre, which may lie too far away.
+fn record_fits(by: Point, r: Record) -> bool
+    requires { ⌜ (Near (2 ^ 61) by) × Loose (pathOf r) ⌝ }
+    ensures { λ b. ⌜ b ≡ centreFits (pathOf (recordMoved by r)) ⌝ }
+{
+    match r {
+        Record::AR(a) => arcs::centre_fits(by, a),
+        Record::AL(a) => arcs::centre_fits(by, a),
+        _ => true,
+    }
+}
 
 // Whether the centres of the records fit four bytes in machine units. A hole has none.
 pub fn work_fits(offset: Point, w: Work) -> bool
@@ -25,7 +37,7 @@ pub fn work_fits(offset: Point, w: Work) -> bool
 {
     let pass = w.pass;
     match pass {
-        Pass::One(r) => arcs::centre_fits(offset, r),
+        Pass::One(r) => record_fits(offset, r),
         Pass::Drill(_) => true,
     }
 }
@@ -54,16 +66,29 @@ pub fn with_brief(e: Extent, b: Brief) -> Extent
     }
 }
 
+// Whether the path that a record tells stays in the travel.
+fn path_stays(t: Travel, from: Point, r: Record) -> bool
+    requires { ⌜ PathBounds t from (pathOf r) ⌝ }
+    ensures { λ b. ⌜ b ≡ pathStays t from (pathOf r) ⌝ }
+{
+    match r {
+        Record::RP(p) => lengths::is_inside(t, p),
+        Record::LN(p, _) => lengths::is_inside(t, p),
+        Record::AR(a) => arcs::right_arc_stays(t, from, a),
+        Record::AL(a) => arcs::left_arc_stays(t, from, a),
+        _ => true,
+    }
+}
+
 // One record, from where the tool is.
 fn check_record(t: Travel, r: Record, e: Extent) -> Way
     requires { ⌜ (PathBounds t (e .end) (pathOf r)) × Little e ⌝ }
     ensures { λ w. ⌜ w ≡ wayOf t e (r ∷ []) ⌝ }
 {
-    let from = e.end;
-    if !arcs::path_stays(t, from, r) {
+    if !path_stays(t, e.end, r) {
         return Way::Leaves;
     }
-    Way::Ends(longer(e, records::path_end(from, r), records::room(r)))
+    Way::Ends(longer(e, records::path_end(e.end, r), records::room(r)))
 }
 
 // One pass to X, Y of a point, from where the tool is, inside the travel. It has no arc, so that its path stays where each of its
@@ -100,12 +125,10 @@ fn check_passes(t: Travel, h: Hole, passes: u64, aim: Aim, e: Extent) -> Way
     ensures { λ r. ⌜ r ≡ wayOf t e (workRecords (drilled h passes) aim (e .end)) ⌝ }
 {
     let distance = aim.distance;
-    let origin = aim.origin;
-    let values = aim.values;
     let mut left = passes;
     let mut so_far = e;
     while 0 < left {
-        let to = settings::target_point(distance, origin, so_far.end, values);
+        let to = settings::target_point(distance, aim.origin, so_far.end, aim.values);
         let Way::Ends(next) = check_pass(t, h, to, so_far) else {
             return Way::Leaves;
         };

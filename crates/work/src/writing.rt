@@ -57,13 +57,11 @@ fn put_passes(
     ensures { λ next. ⌜ Wrote (now (list .entry)) at (movedBytes offset (workRecords (drilled h passes) aim from)) (now (list .exit)) next ⌝ }
 {
     let distance = aim.distance;
-    let origin = aim.origin;
-    let values = aim.values;
     let mut left = passes;
     let mut tool = from;
     let mut next = at;
     while 0 < left {
-        let to = settings::target_point(distance, origin, tool, values);
+        let to = settings::target_point(distance, aim.origin, tool, aim.values);
         next = put_pass(list, next, offset, h, tool.z, to);
         tool = cycles::pass_end(h, to);
         left -= 1;

@@ -8,12 +8,12 @@ use Rattle.arcs.proofs.arc_holds.Tie as tie
 -- the root, once it is computed
 r-is :
     (c : tie.After-root-of)
-    → c .root-of .result ≡ root (radius² (c .before .before .before .before .before .args .from) (c .before .before .before .before .before .args .a))
+    → c .root-of .result ≡ root (radius² (c .before .before .before .before .args .from) (c .before .before .before .before .args .a))
 r-is c = c .root-of .ensures ∙ ap root (c .before .squared-radius .ensures)
 
 near : (c : tie.After-root-of) → c .root-of .result ≤ 1_414_213_562
 near c =
-    let s = c .before .before .before .before .before in
+    let s = c .before .before .before .before in
     rw (r-is c) (root-near (s .args .from) (s .args .a) (s .pre))
 
 add-if1 : tie.Need-add-if1
@@ -22,7 +22,7 @@ add-if1 c = omega (arith, near c)
 returns : tie.Need-returns
 returns c =
     let x = c .before .before in
-    let s = x .before .before .before .before .before .args in
+    let s = x .before .before .before .before .args in
     let end = x .before .before .in-plane .ensures in
     let centre = x .before .before .before .centre-of .ensures in
     sym (first-refused (s .from) (s .a) (rw (r-is x, c .before .apart .ensures .is, end, centre) at (c .if1 .taken)))
@@ -33,7 +33,7 @@ add-if2 c = omega (arith, near (c .before .before))
 returns-2 : tie.Need-returns-2
 returns-2 c =
     let x = c .before .before .before .before in
-    let s = x .before .before .before .before .before .args in
+    let s = x .before .before .before .before .args in
     let end = x .before .before .in-plane .ensures in
     let centre = x .before .before .before .centre-of .ensures in
     sym (second-refused (s .from) (s .a) (rw (r-is x, c .before .apart2 .ensures .is, end, centre) at (c .if2 .taken)))

@@ -6,7 +6,7 @@ use Rattle.cycles.proofs.pass_end.Tie as tie
 
 returns : tie.Need-returns
 returns c =
-    let a = c .before .before .before .before .args in
+    let a = c .before .before .before .args in
     λ level from.
     c .at-height .ensures
     ∙ ap (atHeight (a .p)) (c .before .return-level .ensures)
@@ -14,7 +14,7 @@ returns c =
 
 returns-2 : tie.Need-returns-2
 returns-2 c =
-    let a = c .before .before .before .args in
+    let a = c .before .before .args in
     λ level from. c .at-height2 .ensures ∙ sym (ends-without-z (a .h) (a .p) level from (c .before .if1 .left))
 
 pub pass-end-spec : {M : Type 1} → statement M

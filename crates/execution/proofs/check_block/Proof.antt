@@ -8,12 +8,12 @@ use Rattle.execution.proofs.check_block.Tie as tie
 
 returns : tie.Need-returns
 returns c =
-    let a = c .before .before .before .before .args in
+    let a = c .before .before .before .args in
     λ left ws. does-refused ParameterUndefined (a .start) (lacks-stops (machineOf (a .bed)) (freely left) _ (a .s) (a .start) ws (a .b) (c .before .lacks-parameter .ensures) (c .if1 .taken))
 
 returns-2 : tie.Need-returns-2
 returns-2 c =
-    let a = c .before .before .before .before .before .before .before .args in
+    let a = c .before .before .before .before .before .before .args in
     let m = machineOf (a .bed) in
     let call = callTo (controlOf (a .b)) in
     λ left ws.
@@ -24,14 +24,14 @@ returns-2 c =
     ∙ drill-stops m free _ (a .s) (a .start) ws (a .b) (c .before .cannot-drill .ensures (a .s) (rw (c .before .before .working .ensures))) (c .if2 .taken))
 
 plan-block-requires : tie.Need-plan-block-requires
-plan-block-requires c κs = (c .before .before .before .before .before .before .before .pre .1, c .before .before .working .ensures)
+plan-block-requires c κs = (c .before .before .before .before .before .before .pre .1, c .before .before .working .ensures)
 
 write-block-requires : tie.Need-write-block-requires
-write-block-requires c κs = (c .before .before .before .before .before .before .before .before .before .pre .0, record { s = c .before .before .before .before .before .before .before .before .before .args .s; b = c .before .before .before .before .before .before .before .before .before .args .b; plans = c .before .plan-block .ensures })
+write-block-requires c κs = (c .before .before .before .before .before .before .before .before .pre .0, record { s = c .before .before .before .before .before .before .before .before .args .s; b = c .before .before .before .before .before .before .before .before .args .b; plans = c .before .plan-block .ensures })
 
 returns-3 : tie.Need-returns-3
 returns-3 c =
-    let a = c .before .before .before .before .before .before .before .before .before .before .before .before .args in
+    let a = c .before .before .before .before .before .before .before .before .before .before .before .args in
     let m = machineOf (a .bed) in
     let call = callTo (controlOf (a .b)) in
     λ left ws.

@@ -1,7 +1,8 @@
 -- `interpreter::run_main` meets its contract. Assumes nothing.
 use Rattle.terms.proofs.Common.{_≡_, refl, sym, _∙_, ap, needs, length, length-map}
 use Rattle.setup.{specs.declared.Bed.Bed, specs.Frame.offset, specs.Frame.bedOf, specs.Fair.Fair, proofs.Valid.fair}
-use Rattle.interpreter.specs.{Progressing.goingOf, Progressing.outcomeBy, Serving.reportBy}
+use Rattle.runs.specs.Serving.{reportBy}
+use Rattle.interpreter.specs.{Progressing.goingOf, Progressing.outcomeBy}
 use Rattle.interpreter.proofs.{Starting.first-fits, Starting.main-begins, Starting.task-sound, Starting.main-walk, Starting.main-sums, Starting.main-gives, run_main.Statement.statement}
 use Rattle.interpreter.proofs.run_main.Tie as tie
 

@@ -6,7 +6,7 @@ use Rattle.arcs.proofs.staying.left_arc_stays.Tie as tie
 
 from-centre-requires-2 : tie.Need-from-centre-requires-2
 from-centre-requires-2 c κs =
-    let x = c .before .before in
+    let x = c .before in
     end-near (x .args .from) (x .args .a) (x .pre .bounds .centre) (x .pre .holds)
 
 returns : tie.Need-returns

@@ -6,7 +6,7 @@ use Rattle.arcs.proofs.staying.right_arc_stays.Tie as tie
 
 from-centre-requires : tie.Need-from-centre-requires
 from-centre-requires c κs =
-    let x = c .before in
+    let x = c in
     end-near (x .args .from) (x .args .a) (x .pre .bounds .centre) (x .pre .holds)
 
 returns : tie.Need-returns

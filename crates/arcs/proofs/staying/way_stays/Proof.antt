@@ -6,7 +6,7 @@ use Rattle.arcs.proofs.staying.way_stays.Tie as tie
 
 are-extremes-inside-requires : tie.Need-are-extremes-inside-requires
 are-extremes-inside-requires c κs =
-    let x = c .before .before .before .before .before .before in
+    let x = c .before .before .before .before .before in
     let s = x .args in
     rw (c .before .centre-of .ensures, c .before .before .before .before .in-plane .ensures, c .before .before .before .in-plane2 .ensures)
     (bounds-framed (s .t) (s .from) (s .a) (s .u) (s .w) (x .pre .0) (x .pre .1) (x .pre .2))

@@ -6,15 +6,15 @@ use Rattle.drawing.proofs.picture.size_of.Tie as tie
 
 minus-requires-3 : tie.Need-minus-requires-3
 minus-requires-3 c κs =
-    omega (arith, c .before .before .before .before .before .before .before .before .before .pre .low .z, c .before .before .before .before .before .before .before .before .before .pre .high .z)
+    omega (arith, c .before .before .before .before .before .before .before .pre .low .z, c .before .before .before .before .before .before .before .pre .high .z)
 
 plus-requires-2 : tie.Need-plus-requires-2
 plus-requires-2 c κs =
-    omega (arith, c .before .minus2 .ensures .bal, c .minus3 .ensures .bal, c .before .before .before .before .before .before .before .before .before .before .pre .low .y, c .before .before .before .before .before .before .before .before .before .before .pre .high .y, c .before .before .before .before .before .before .before .before .before .before .pre .low .z, c .before .before .before .before .before .before .before .before .before .before .pre .high .z)
+    omega (arith, c .before .minus2 .ensures .bal, c .minus3 .ensures .bal, c .before .before .before .before .before .before .before .before .pre .low .y, c .before .before .before .before .before .before .before .before .pre .high .y, c .before .before .before .before .before .before .before .before .pre .low .z, c .before .before .before .before .before .before .before .before .pre .high .z)
 
 plus-requires-3 : tie.Need-plus-requires-3
 plus-requires-3 c κs =
-    omega (arith, c .plus2 .ensures .bal, c .before .before .minus2 .ensures .bal, c .before .minus3 .ensures .bal, c .before .before .before .before .before .of-count2 .ensures .ups, c .before .before .before .before .before .of-count2 .ensures .downs, c .before .before .before .before .before .before .before .before .before .before .before .pre .gap, c .before .before .before .before .before .before .before .before .before .before .before .pre .low .y, c .before .before .before .before .before .before .before .before .before .before .before .pre .high .y, c .before .before .before .before .before .before .before .before .before .before .before .pre .low .z, c .before .before .before .before .before .before .before .before .before .before .before .pre .high .z)
+    omega (arith, c .plus2 .ensures .bal, c .before .before .minus2 .ensures .bal, c .before .minus3 .ensures .bal, c .before .before .before .before .before .of-count2 .ensures .ups, c .before .before .before .before .before .of-count2 .ensures .downs, c .before .before .before .before .before .before .before .before .before .pre .gap, c .before .before .before .before .before .before .before .before .before .pre .low .y, c .before .before .before .before .before .before .before .before .before .pre .high .y, c .before .before .before .before .before .before .before .before .before .pre .low .z, c .before .before .before .before .before .before .before .before .before .pre .high .z)
 
 returns : tie.Need-returns
 unfolding sizeOf

@@ -8,14 +8,14 @@ use Rattle.execution.proofs.checking.put_block.Tie as tie
 put-brief-requires : tie.Need-put-brief-requires
 unfolding plannedRecords
 put-brief-requires c κs =
-    let a = c .before .before .before .before .before .args in
+    let a = c .before .before .args in
     brief-asks (a .offset) (a .p .first)
-    (first-ready (a .offset) (briefRecords (a .p .first)) (workRecords (a .p .work) (a .p .aim) (a .p .works .at)) (briefRecords (a .p .last)) (c .before .before .before .before .before .pre .0))
+    (first-ready (a .offset) (briefRecords (a .p .first)) (workRecords (a .p .work) (a .p .aim) (a .p .works .at)) (briefRecords (a .p .last)) (c .before .before .pre .0))
 
 put-work-requires : tie.Need-put-work-requires
 unfolding plannedRecords
 put-work-requires c κs =
-    let s = c .before .before .before .before .before .before .before .before .before in
+    let s = c .before .before .before .before .before .before in
     let p = s .args .p in
     let w = brief-put (s .args .offset) (p .first) (c .before .before .before .put-brief .ensures) in
     (second-ready (s .args .offset) (briefRecords (p .first)) (workRecords (p .work) (p .aim) (p .works .at)) (briefRecords (p .last)) w (s .pre .0), s .pre .1)
@@ -23,7 +23,7 @@ put-work-requires c κs =
 put-brief-requires-2 : tie.Need-put-brief-requires-2
 unfolding plannedRecords
 put-brief-requires-2 c κs =
-    let s = c .before .before .before .before .before .before .before .before .before .before .before .before .before in
+    let s = c .before .before .before .before .before .before .before .before .before .before in
     let p = s .args .p in
     let w = brief-put (s .args .offset) (p .first) (c .before .before .before .before .before .before .before .put-brief .ensures) in
     brief-asks (s .args .offset) (p .last)
@@ -32,7 +32,7 @@ put-brief-requires-2 c κs =
 returns : tie.Need-returns
 unfolding plannedRecords
 returns c =
-    let a = c .before .before .before .before .before .before .before .before .before .before .before .before .before .before .before .before .args in
+    let a = c .before .before .before .before .before .before .before .before .before .before .before .before .before .args in
     let w = brief-put (a .offset) (a .p .first) (c .before .before .before .before .before .before .before .before .before .before .put-brief .ensures) in
     three-wrote (a .offset) (briefRecords (a .p .first)) (workRecords (a .p .work) (a .p .aim) (a .p .works .at)) (briefRecords (a .p .last)) w (c .before .before .before .before .before .before .put-work .ensures)
     (brief-put (a .offset) (a .p .last) (c .before .before .put-brief2 .ensures))

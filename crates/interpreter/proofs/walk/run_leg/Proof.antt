@@ -2,7 +2,8 @@
 use Rattle.terms.proofs.Common.{_-_, _≤_, _≡_, refl, sym, _∙_, false, arith, needs, length, drop}
 use Rattle.programs.specs.declared.Programs.{Programs}
 use Rattle.runs.specs.Walk.{isSpent}
-use Rattle.interpreter.specs.Progressing.{taskOn, walkFrom, programEnds, progressBy}
+use Rattle.interpreter.specs.Progressing.{taskOn, walkFrom, programEnds}
+use Rattle.runs.specs.Serving.{progressBy}
 use Rattle.interpreter.proofs.{Walking.goes-inside, walk.run_leg.Statement.statement}
 use Rattle.interpreter.proofs.Rounds.{Walking, Meets, noPrograms, walking-starts, walking-spent, walking-ends, did-kept, did-refused, did-fits, did-less, did-back, did-stop, did-on, did-call}
 use Rattle.interpreter.proofs.walk.run_leg.Tie as tie

@@ -49,7 +49,7 @@ returns c =
 
 value-of-requires : tie.Need-value-of-requires Inv-loop μ-loop
 value-of-requires c κs =
-    let x = c .before .before .before .before .before .before in
+    let x = c .before .before .before in
     let t = x .before .before .before in
     let l = t .before in
     rw (is x) at (l .before .before .pre .written (l .loop .i) (x .unpack .result) (t .loop-test .taken))
@@ -57,7 +57,7 @@ value-of-requires c κs =
 loop-again : tie.Need-loop-again Inv-loop μ-loop
 loop-again c =
     let q = c .before .before .before in
-    let e = q .before .before .before .before in
+    let e = q .before in
     let n = e .before in
     let x = n .before .before in
     let t = x .before .before .before in
@@ -79,7 +79,7 @@ loop-again c =
 loop-again-2 : tie.Need-loop-again-2 Inv-loop μ-loop
 loop-again-2 c =
     let q = c .before .before .before in
-    let e = q .before .before .before .before in
+    let e = q .before in
     let n = e .before in
     let x = n .before .before in
     let t = x .before .before .before in
@@ -110,7 +110,7 @@ loop-again-3 : tie.Need-loop-again-3 Inv-loop μ-loop
 loop-again-3 c =
     let y = c .before .before in
     let q = y .before .before in
-    let e = q .before .before .before .before in
+    let e = q .before in
     let n = e .before in
     let x = n .before .before in
     let t = x .before .before .before in

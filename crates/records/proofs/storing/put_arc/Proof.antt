@@ -6,14 +6,14 @@ use Rattle.records.proofs.storing.put_arc.Tie as tie
 
 put-point-requires : tie.Need-put-point-requires
 put-point-requires c κs =
-    let s = c .before .before .before .before .pre .1 in
+    let s = c .before .before .before .pre .1 in
     (simp length-set (omega arith), (s .0, (s .1 .0, (s .1 .1 .0, tt))))
 
 put-number-requires : tie.Need-put-number-requires
 unfolding numberBytes
 put-number-requires c κs =
     let byte = c .before .before .before .before .before in
-    let start = byte .before .before .before in
+    let start = byte .before .before in
     let h = length-set (start .args .list .now) (start .args .at) (byte .plane-byte .result) in
     (omega arith, start .pre .1 .1 .1 .1 .0)
 
@@ -22,7 +22,7 @@ unfolding numberBytes
 put-number-requires-2 c κs =
     let first = c .before .before .before in
     let byte = first .before .before .before .before .before .before in
-    let start = byte .before .before .before in
+    let start = byte .before .before in
     let h = length-set (start .args .list .now) (start .args .at) (byte .plane-byte .result) in
     (omega arith, start .pre .1 .1 .1 .1 .1 .0)
 
@@ -32,7 +32,7 @@ put-number-requires-3 c κs =
     let second = c .before .before .before in
     let first = second .before .before .before .before in
     let byte = first .before .before .before .before .before .before in
-    let start = byte .before .before .before in
+    let start = byte .before .before in
     let h = length-set (start .args .list .now) (start .args .at) (byte .plane-byte .result) in
     (omega arith, start .pre .1 .1 .1 .1 .1 .1 .0)
 

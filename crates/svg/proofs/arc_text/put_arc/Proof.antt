@@ -10,7 +10,7 @@ returns c = rw (sym (c .before .before .before .before .before .is-drawable .ens
 
 seen-arc-requires : tie.Need-seen-arc-requires
 seen-arc-requires c κs =
-    let x = c .before .before .before .before .before .before .before .before .before .before .before .args in drawable-facts (x .from) (x .a) (sym (c .before .before .before .before .before .before .before .before .is-drawable .ensures) ∙ not-false _ (c .before .before .before .before .before .before .before .if1 .left))
+    let x = c .before .before .before .before .before .before .before .before .before .before .args in drawable-facts (x .from) (x .a) (sym (c .before .before .before .before .before .before .before .before .is-drawable .ensures) ∙ not-false _ (c .before .before .before .before .before .before .before .if1 .left))
 
 returns-2 : tie.Need-returns-2
 unfolding arc

@@ -7,26 +7,26 @@ centre-by-requires : tie.Need-centre-by-requires
 centre-by-requires c κs =
     let p = c .before in
     let t = p .before in
-    let s = t .before .before .before .before in
+    let s = t .before .before in
     spanned (s .args .s) (s .args .v) (s .args .end) (p .in-plane .ensures) (c .in-plane2 .ensures) (s .pre) (t .if1 .taken)
 
 returns : tie.Need-returns
 returns c =
     let p = c .before .before in
     let t = p .before in
-    let a = t .before .before .before .before .args in
+    let a = t .before .before .args in
     by-radius (a .s) (a .v) (a .end) (p .in-plane .ensures) (c .before .in-plane2 .ensures) (a .left) (t .if1 .taken) (c .centre-by .ensures)
 
 moved-requires : tie.Need-moved-requires
 moved-requires c κs =
-    let s = c .before .before .before .before .before in
+    let s = c .before .before .before in
     words-sums (s .args .s) (s .args .v) (s .args .end) (s .pre) (c .centre-words .ensures)
 
 returns-2 : tie.Need-returns-2
 returns-2 c =
     let w = c .before .before in
     let t = w .before in
-    let a = t .before .before .before .before .args in
+    let a = t .before .before .args in
     by-words (a .s) (a .v) (a .end) (a .left) (t .if1 .left)
     (rw (c .in-plane3 .ensures, c .before .moved .ensures .is, w .centre-words .ensures))
 

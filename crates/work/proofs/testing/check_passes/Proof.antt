@@ -6,40 +6,39 @@ use Rattle.work.proofs.Passing.{Leads, leads-starts, leads-aims, leads-
 use Rattle.work.proofs.testing.check_passes.Tie as tie
 
 abbrev Inv-loop : tie.InvT-loop
-Inv-loop t h passes distance origin values left₀ so-far₀ left so-far =
-    Leads t (Drill h) left₀ (record { distance = distance; origin = origin; values = values }) so-far₀ so-far left
+Inv-loop t h passes aim distance left₀ so-far₀ left so-far = Leads t (Drill h) left₀ aim so-far₀ so-far left
 
 abbrev μ-loop : tie.MeasureT-loop
-μ-loop t h passes distance origin values left₀ so-far₀ left so-far = left
+μ-loop t h passes aim distance left₀ so-far₀ left so-far = left
 
 loop-holds : tie.Need-loop-holds Inv-loop μ-loop
-loop-holds c = let s = c .before .before in leads-starts (s .args .t) (drilled (s .args .h) (s .args .passes)) (s .args .aim) (s .args .e) (s .pre)
+loop-holds c = let s = c in leads-starts (s .args .t) (drilled (s .args .h) (s .args .passes)) (s .args .aim) (s .args .e) (s .pre)
 
 target-point-requires : tie.Need-target-point-requires Inv-loop μ-loop
-target-point-requires c κs = let s = c .before .before .before .before in leads-aims (s .args .t) (drilled (s .args .h) (s .args .passes)) (s .args .aim) (s .args .e) (s .pre) (c .before .loop .inv)
+target-point-requires c κs = let s = c .before .before in leads-aims (s .args .t) (drilled (s .args .h) (s .args .passes)) (s .args .aim) (s .args .e) (s .pre) (c .before .loop .inv)
 
 check-pass-requires : tie.Need-check-pass-requires Inv-loop μ-loop
 check-pass-requires c κs =
-    let s = c .before .before .before .before .before in
+    let s = c .before .before .before in
     let l = c .before .before .loop .inv in
     (l .inside, leads-little (s .args .t) (drilled (s .args .h) (s .args .passes)) (s .args .aim) (s .args .e) (s .pre) l)
 
 returns : tie.Need-returns Inv-loop μ-loop
 unfolding rowsOf
 returns c =
-    let s = c .before .before .before .before .before .before .before .before in
+    let s = c .before .before .before .before .before .before in
     leads-leaves (s .args .t) (drilled (s .args .h) (s .args .passes)) (s .args .aim) (s .args .e) (s .pre) (c .before .before .before .before .before .loop .inv) (omega arith) (c .before .before .before .target-point .ensures .is)
     (sym (c .enum-told .given .1) ∙ c .before .before .check-pass .ensures)
 
 loop-again : tie.Need-loop-again Inv-loop μ-loop
 unfolding rowsOf
 loop-again c =
-    let s = c .before .before .before .before .before .before .before .before .before in
+    let s = c .before .before .before .before .before .before .before in
     leads-on (s .args .t) (drilled (s .args .h) (s .args .passes)) (s .args .aim) (s .args .e) (s .pre) (c .before .before .before .before .before .before .loop .inv) (omega arith) (c .before .before .before .before .target-point .ensures .is) (rows-few (Drill (s .args .h)))
     (sym (c .before .next .given .1) ∙ c .before .before .before .check-pass .ensures)
 
 returns-2 : tie.Need-returns-2 Inv-loop μ-loop
-returns-2 c = let s = c .before .before .before .before in leads-ends (s .args .t) (drilled (s .args .h) (s .args .passes)) (s .args .aim) (s .args .e) (s .pre) (c .before .loop .inv) (omega arith)
+returns-2 c = let s = c .before .before in leads-ends (s .args .t) (drilled (s .args .h) (s .args .passes)) (s .args .aim) (s .args .e) (s .pre) (c .before .loop .inv) (omega arith)
 
 pub check-passes-spec : {M : Type 1} → statement M
 check-passes-spec =

@@ -1,13 +1,13 @@
--- `arcs::staying::path_stays` meets its contract, mark by mark. Assumes nothing.
+-- `work::testing::path_stays` meets its contract, mark by mark. Assumes nothing.
 use Rattle.terms.proofs.Common.{_≡_, refl, sym, true, [], _∷_, needs}
 use denote.Enum.Declared.{tagOf}
 use types.Run.{OneOf, miss}
 use Rattle.lengths.specs.declared.{Point.Point, Travel.Travel}
 use Rattle.records.{specs.declared.Record.Record, specs.Path.pathOf, proofs.Record.the-type}
 use Rattle.records.specs.declared.Record.the-variants.{RP, LN, AR, AL, DW, SP, SO, PA, EN}
 use Rattle.arcs.specs.Arcs.{pathStays}
-use Rattle.arcs.proofs.staying.path_stays.Statement.{statement}
-use Rattle.arcs.proofs.staying.path_stays.Tie as tie
+use Rattle.work.proofs.testing.path_stays.Statement.{statement}
+use Rattle.work.proofs.testing.path_stays.Tie as tie
 
 -- the marks that have no arm of their own
 others :

@@ -1,8 +1,8 @@
--- `interpreter::reporting::first_state` meets its contract. Assumes nothing.
+-- `runs::first_state` meets its contract. Assumes nothing.
 use Rattle.terms.proofs.Common.{_∙_, needs}
 use Rattle.runs.specs.Run.{firstOf}
-use Rattle.interpreter.proofs.reporting.first_state.Statement.{statement}
-use Rattle.interpreter.proofs.reporting.first_state.Tie as tie
+use Rattle.runs.proofs.first_state.Statement.{statement}
+use Rattle.runs.proofs.first_state.Tie as tie
 
 returns : tie.Need-returns
 unfolding firstOf

@@ -1,7 +1,7 @@
--- `interpreter::stepping::program_ends` meets its contract. Assumes nothing.
+-- `interpreter::walk::program_ends` meets its contract. Assumes nothing.
 use Rattle.terms.proofs.Common.{sym, _∙_, arith, needs}
-use Rattle.interpreter.proofs.{Walking.ends-past, Walking.ends-opening, Walking.ends-percent, stepping.program_ends.Statement.statement}
-use Rattle.interpreter.proofs.stepping.program_ends.Tie as tie
+use Rattle.interpreter.proofs.{Walking.ends-past, Walking.ends-opening, Walking.ends-percent, walk.program_ends.Statement.statement}
+use Rattle.interpreter.proofs.walk.program_ends.Tie as tie
 
 returns : tie.Need-returns
 returns c = sym (ends-past (c .before .before .args .s .now) (c .before .before .args .at) (omega arith))

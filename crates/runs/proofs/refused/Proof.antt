@@ -1,7 +1,7 @@
--- `interpreter::reporting::refused` meets its contract. Assumes nothing.
+-- `runs::refused` meets its contract. Assumes nothing.
 use Rattle.terms.proofs.Common.{needs}
-use Rattle.interpreter.proofs.{Starting.stands-at-start, reporting.refused.Statement.statement}
-use Rattle.interpreter.proofs.reporting.refused.Tie as tie
+use Rattle.runs.proofs.{Starting.stands-at-start, refused.Statement.statement}
+use Rattle.runs.proofs.refused.Tie as tie
 
 returns : tie.Need-returns
 returns c =

@@ -1,0 +1,27 @@
+-- Where a run stands that is refused before any block. Assumes nothing.
+use Rattle.terms.proofs.Common.{_≡_, arith, ℤ, _+ℤ_, _-ℤ_}
+use Rattle.refusals.specs.declared.{Refusal.Refusal, Place.Place, Answer.the-variants.Refused}
+use Rattle.lengths.{specs.declared.Len.Len, specs.Units.len, specs.declared.Point.Point, specs.Points.moved, specs.Points.movedBack, proofs.Ring.var, proofs.Ring._⊞_, proofs.Ring._⊟_, proofs.Ring.same}
+use Rattle.setup.specs.{declared.Setup.Setup, Frame.pointOf, Frame.offset, Frame.startOf}
+use Rattle.records.specs.Layout.{roomOf}
+use Rattle.settings.specs.{declared.State.State, Settings.firstState, Settings.stateMoved}
+use Rattle.runs.specs.{Walk.nowhere, Walk.just, Walk.refusedAt, Run.firstOf, Run.answerBy, Serving.reportBy}
+
+-- A run that is refused before any block stands at the setup's start: what the frame takes off, the machine's units add again.
+start-is : (s : Setup) → pointOf (s .start) ≡ moved (offset s) (startOf s)
+unfolding moved startOf movedBack offset
+start-is s = points (again (s .start .x) (s .exofs .x)) (again (s .start .y) (s .exofs .y)) (again (s .start .z) (s .exofs .z))
+  where
+    again : (a d : ℤ) → a ≡ (a -ℤ d) +ℤ d
+    again a d = same (var a) (var a ⊟ var d ⊞ var d) (omega arith)
+
+    points : {a b c d e f : ℤ} → a ≡ d → b ≡ e → c ≡ f → pointOf (record { x = a; y = b; z = c }) ≡ pointOf (record { x = d; y = e; z = f })
+    points h j k = rw (h, j, k)
+
+pub stands-at-start :
+    (s : Setup) (refusal : Refusal) (place : Place) {start : Point} {feed speed : Len} {state : State} → start ≡ pointOf (s .start) → feed ≡ len (s .feed)
+    → speed ≡ len (s .speed) → state ≡ firstState start feed speed
+    → record { answer = Refused refusal place 0; standing = record { state = state; next = nowhere }; end = 0 }
+    ≡ reportBy (offset s) (just (refusedAt refusal place) (firstOf s))
+unfolding reportBy answerBy stateMoved firstOf firstState roomOf
+stands-at-start s refusal place e f g h = rw (h, e, f, g, start-is s)
