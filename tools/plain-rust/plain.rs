@@ -5,7 +5,7 @@
 //!     plain list [ROOM] < DATA    writes the list of one run, in so many bytes; a refusal's number, block and byte go to
 //!                                 standard error
 //!
-//! It has the rules of document 01 for `%`, openings, the words F G K M N R S X Y Z, the codes G00 G01 G17 G21 G54 G80 G81
+//! It has the rules of document 01, with document 02's #102, for `%`, openings, the words F G K M N R S X Y Z, the codes G00 G01 G17 G21 G54 G80 G81
 //! G90 G91 G98 G99 and M03 M05 M30, and every refusal that can come of them, under setup T. It has no other code (refused as
 //! unknown, 4), no comment, no slash and no CR (15), and calls no subprogram.
 use std::hint::black_box;
@@ -185,6 +185,10 @@ struct Run<'a> {
     feed: i64,
     speed: i64,
     turning: bool,
+    /// The initial level of the cycle, and its Z and R as they were written, each with whether G90 was on.
+    initial: i64,
+    kept_z: Option<(i64, bool)>,
+    kept_r: Option<(i64, bool)>,
 }
 
 impl Run<'_> {
@@ -250,8 +254,12 @@ impl Run<'_> {
     /// Executes a block; answers its end and whether it ends the program.
     fn block(&mut self, data: &[u8], from: usize) -> Result<(usize, bool), Fault> {
         let words = self.read(data, from)?;
+        let drilled = self.motion == Motion::Drill;
         self.motion = words.motion.unwrap_or(self.motion);
         self.absolute = words.absolute.unwrap_or(self.absolute);
+        if self.motion == Motion::Drill {
+            self.keep(&words, drilled);
+        }
         self.to_initial = words.to_initial.unwrap_or(self.to_initial);
         if words.has(bit(b'F')) {
             self.feed = words.value(b'F');
@@ -279,6 +287,19 @@ impl Run<'_> {
         Ok((words.end, words.m == 30))
     }
 
+    /// What the cycle keeps: its words until it is off, and the Z before it was switched on.
+    fn keep(&mut self, words: &Words, drilled: bool) {
+        if !drilled {
+            (self.initial, self.kept_z, self.kept_r) = (self.at[2], None, None);
+        }
+        if words.has(bit(b'Z')) {
+            self.kept_z = Some((words.value(b'Z'), self.absolute));
+        }
+        if words.has(bit(b'R')) {
+            self.kept_r = Some((words.value(b'R'), self.absolute));
+        }
+    }
+
     fn straight(&mut self, words: &Words, from: usize, beside: usize, spindle: bool) -> Result<(), Fault> {
         let moves = words.has(AXES);
         let cuts = self.motion == Motion::Cut;
@@ -301,11 +322,14 @@ impl Run<'_> {
         if !self.turning {
             return Err((4, from));
         }
-        let initial = self.at[2];
-        let above = |level, letter| words.value(letter) + if self.absolute { self.setup.offset[2] } else { level };
-        let r = if words.has(bit(b'R')) { above(initial, b'R') } else { initial };
-        let with_z = words.has(bit(b'Z'));
-        let z = if with_z { above(r, b'Z') } else { r };
+        let (initial, stood) = (self.initial, self.at[2]);
+        let above = |level, kept: Option<(i64, bool)>| match kept {
+            Some((value, absolute)) => value + if absolute { self.setup.offset[2] } else { level },
+            None => level,
+        };
+        let r = above(initial, self.kept_r);
+        let with_z = self.kept_z.is_some();
+        let z = above(r, self.kept_z);
         if r > initial || z > r {
             return Err((1, from));
         }
@@ -323,7 +347,7 @@ impl Run<'_> {
         let size = if with_z { 60 } else { 14 };
         self.room(beside + passes as usize * size, from)?;
         self.put_spindle(spindle);
-        let back = if with_z && !self.to_initial { r } else { initial };
+        let back = if !with_z { stood } else if self.to_initial { initial } else { r };
         for pass in 0..passes {
             let (x, y) = (first[0] + dx * pass, first[1] + dy * pass);
             self.put(*b"RP", [x, y, self.at[2]]);
@@ -450,6 +474,9 @@ fn run(setup: &Setup, data: &[u8], list: &mut [u8]) -> Outcome {
         feed: setup.feed,
         speed: setup.speed,
         turning: false,
+        initial: 0,
+        kept_z: None,
+        kept_r: None,
     };
     let (mut at, mut number, mut blocks) = (2, 2, 0);
     if byte(data, at) == b'O' {

@@ -1,5 +1,5 @@
 // Where a run stands, on one line: the point in machine units, the code that is on in each of the groups A to F, the feed, the
-// speed, the spindle, and the next block.
+// speed, the spindle, what a cycle keeps, and the next block.
 use crate::listings::say;
 use crate::listings::show_count;
 use crate::listings::show_number;
@@ -9,15 +9,23 @@ use codes::Motion;
 use codes::Plane;
 use codes::Return;
 use codes::Unit;
+use lengths::Len;
 use lengths::Point;
 use refusals::Place;
+use settings::Kept;
 use settings::Modes;
 use settings::State;
 
 pub fn show_state(state: State, next: Place) -> bool {
     let at = state.at;
     let modes = state.modes;
-    show_at(at) && show_modes(modes) && show_values(state) && show_next(next)
+    let motion = modes.motion;
+    let kept = state.kept;
+    show_at(at)
+        && show_modes(modes)
+        && show_values(state)
+        && show_kept(motion, kept)
+        && show_next(next)
 }
 
 fn show_at(at: Point) -> bool {
@@ -113,6 +121,25 @@ fn show_values(state: State) -> bool {
         return said && say(b", spindle on");
     }
     said && say(b", spindle off")
+}
+
+// While a cycle is on: its initial level in machine units, and the words that it keeps, in units and milliseconds as they were written.
+fn show_kept(motion: Motion, kept: Kept) -> bool {
+    let Motion::Drilling(_) = motion else {
+        return true;
+    };
+    let under = kept.under;
+    let under_z = under.z;
+    let under_r = under.r;
+    say(b", initial level")
+        && show_number(kept.initial)
+        && (!kept.stands.z || show_word(b", kept Z", kept.z) && show_distance(under_z))
+        && (!kept.stands.r || show_word(b", kept R", kept.r) && show_distance(under_r))
+        && (!kept.stands.dwell || show_word(b", kept P", kept.dwell))
+}
+
+fn show_word(name: &[u8], v: Len) -> bool {
+    say(name) && show_number(v)
 }
 
 fn show_next(next: Place) -> bool {

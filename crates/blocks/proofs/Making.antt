@@ -16,7 +16,7 @@ use Rattle.letters.specs.declared.BlockCode.{BlockCode, the-variants.Calling, t
 use Rattle.blocks.specs.{declared.Said.Said, Machine.machineOf, Reach.Reachable, Reach.Steady}
 use Rattle.blocks.specs.Motions.{Moves, noMoves, one, impossible, endStands, arcStands, arcTo, radiusFits, arcMoves, isLarger, cycleDone, cycleMoves, motionOf, movesOf}
 use Rattle.blocks.specs.Exec.{working, spindleRecords, movesIn, lastRecords, madeBy, settled}
-use Rattle.blocks.proofs.Nearness.{feed-near, speed-near, hole-feed, hole-dwell}
+use Rattle.blocks.proofs.Nearness.{feed-near, speed-near, kept-near, hole-feed, hole-dwell}
 use Rattle.blocks.proofs.Shortness.{ArcShort, OthersShort, AllOthers, others-both, all-fit, stays-inside, records-short, arc-others}
 
 -- ---- the numbers that the travel does not bound, of each part of a block's records
@@ -59,7 +59,7 @@ module _ (by : Point) where
     pass-others level p =
         either-others (h .z .stands)
         (RP (atHeight p level) ∷ RP (atHeight p (h .r)) ∷ LN (atHeight p (h .z .v)) (h .feed) ∷ dwelling (h .dwell) ++ leaving (h .cycle) h p)
-        (RP (atHeight p (h .initial)) ∷ [])
+        (RP (atHeight p (h .stood)) ∷ [])
         (tt, (tt, (feed, others-both by (dwelling (h .dwell)) (leaving (h .cycle) h p) dwelling-others (leaving-others p (h .cycle)))))
         (tt, tt)
 
@@ -96,12 +96,12 @@ module _ (bed : Bed) (s : State) (b : Said) where
         either-others by (s .turning && v .s .stands || isM 3 (b .misc)) (SP (w .speed) ∷ []) []
         (omega (arith, speed-near bed s b steady), tt) tt
 
-    cycle-others : (cycle : Cycle) → b .code ≡ Moving (Drilling cycle) → AllOthers by (cycleMoves cycle w origin v .records)
+    cycle-others : (cycle : Cycle) → AllOthers by (cycleMoves cycle w origin v .records)
     unfolding cycleMoves passes
-    cycle-others cycle e =
-        let h = holeOf cycle w origin v in
-        passes-others by h (hole-feed bed s b steady cycle e) (hole-dwell bed s b steady cycle e) (passCount (v .k))
-        (λ p. target (w .modes .distance) origin p v) (h .initial) (w .at)
+    cycle-others cycle =
+        let h = holeOf cycle w origin in
+        passes-others by h (hole-feed bed s b steady cycle) (hole-dwell bed s b steady cycle) (passCount (v .k))
+        (λ p. target (w .modes .distance) origin p v) (h .stood) (w .at)
 
     -- an arc, or none where the radius does not fit
     turn-others :
@@ -119,26 +119,26 @@ module _ (bed : Bed) (s : State) (b : Said) where
         go true e = (short a (arc-others bed s b steady left e), tt)
         go false e = tt
 
-    motion-others : (motion : Motion) → b .code ≡ Moving motion → AllOthers by (motionOf motion (b .named) w origin v .records)
+    motion-others : (motion : Motion) → AllOthers by (motionOf motion (b .named) w origin v .records)
     unfolding motionOf
-    motion-others Off e = tt
-    motion-others G00 e = either-moves by (endStands v) (one (RP (target (w .modes .distance) origin (w .at) v))) noMoves (tt, tt) tt
-    motion-others G01 e =
+    motion-others Off = tt
+    motion-others G00 = either-moves by (endStands v) (one (RP (target (w .modes .distance) origin (w .at) v))) noMoves (tt, tt) tt
+    motion-others G01 =
         either-moves by (endStands v) (one (LN (target (w .modes .distance) origin (w .at) v) (w .feed))) noMoves
         (omega (arith, feed-near bed s b steady), tt) tt
-    motion-others G02 e =
+    motion-others G02 =
         either-moves by (arcStands v) (arcMoves AR (isLarger v) w v end) noMoves (turn-others AR (λ a h. h) (isLarger v)) tt
-    motion-others G03 e =
+    motion-others G03 =
         either-moves by (arcStands v) (arcMoves AL (not (isLarger v)) w v end) noMoves (turn-others AL (λ a h. h) (not (isLarger v))) tt
-    motion-others (Drilling cycle) e =
-        either-moves by (cycleDone (b .named) v) (cycleMoves cycle w origin v) noMoves (cycle-others cycle e) tt
+    motion-others (Drilling cycle) =
+        either-moves by (cycleDone (b .named) v) (cycleMoves cycle w origin v) noMoves (cycle-others cycle) tt
 
     code-others : (code : BlockCode) → b .code ≡ code → AllOthers by (movesOf code (b .named) w origin v .records)
     unfolding movesOf
     code-others Calling e = tt
     code-others Returning e = tt
     code-others Dwelling e = (omega (arith, steady .said .sizes .dwell e), tt)
-    code-others (Moving motion) e = motion-others motion e
+    code-others (Moving motion) e = motion-others motion
 
     made-others : AllOthers by made
     unfolding madeBy movesIn machineOf
@@ -162,4 +162,5 @@ module _ (bed : Bed) (s : State) (b : Said) where
             origin = steady .said .origin;
             feed = feed-near bed s b steady;
             speed = speed-near bed s b steady;
+            kept = kept-near bed s b steady;
           }

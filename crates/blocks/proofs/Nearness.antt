@@ -1,18 +1,18 @@
 -- Points of a run and how near they are, in the frame of the common offset and in machine units. Assumes nothing.
-use Rattle.terms.proofs.Common.{ℕ, _^_, _≡_, ap₂, Bool, true, false, not, _&&_, _||_, arith, ℤ, _+ℤ_, leZ}
+use Rattle.terms.proofs.Common.{ℕ, _^_, _≡_, refl, ap₂, Bool, true, false, not, _&&_, _||_, arith, ℤ, _+ℤ_, leZ}
 use Rattle.terms.{specs.Terms.if_then_else_, specs.Terms.between, proofs.Laws.both-left, proofs.Laws.both-right}
-use Rattle.lengths.specs.{declared.Len.Len, Units.fitsFour, View.Within, View.Short, declared.Point.Point, declared.Flat.Flat, Points.moved, Points.flat, Points.inside, Near.Near}
+use Rattle.lengths.specs.{Units.fitsFour, View.Within, View.Short, declared.Point.Point, declared.Flat.Flat, Points.moved, Points.flat, Points.inside, Near.Near}
 use Rattle.lengths.proofs.{Laws.view, Laws.sum-bal, Four.short-four, Near.flat-near}
-use Rattle.codes.specs.declared.{Cycle.Cycle, Motion.the-variants.Drilling, Plane.Plane, Plane.the-variants.G17, Plane.the-variants.G18, Plane.the-variants.G19}
-use Rattle.words.specs.declared.{Given.Given, Values.Values}
+use Rattle.codes.specs.declared.{Cycle.Cycle, Plane.Plane, Plane.the-variants.G17, Plane.the-variants.G18, Plane.the-variants.G19}
+use Rattle.words.specs.declared.Values.{Values}
 use Rattle.records.specs.Path.{arcMoved}
 use Rattle.setup.specs.{declared.Bed.Bed, Frame.originAt, Fair.Fair}
-use Rattle.settings.{specs.declared.State.State, specs.Settings.orElse, specs.Target.target, specs.Bounds.Aims, proofs.Near.target-near}
+use Rattle.settings.{specs.declared.State.State, specs.Target.target, specs.Bounds.Aims, specs.Bounds.KeptNear, proofs.Near.target-near, proofs.Near.or-else-near, proofs.Keeping.under-near}
 use Rattle.arcs.{specs.Bounds.Reach, specs.Bounds.Beside, specs.Bounds.Bounds, proofs.Paths.inside-near}
 use Rattle.centres.{specs.Centres.radiusHolds, specs.Centres.centreBy, specs.Bounds.Chord, proofs.Reaching.centre-reach}
-use Rattle.cycles.specs.{declared.Hole.Hole, Cycles.holeOf, Bounds.Passing}
-use Rattle.letters.specs.declared.BlockCode.the-variants.{Moving}
-use Rattle.blocks.specs.{declared.Said.Said, Motions.centreWords, Motions.centreFor, Motions.arcTo, Motions.radiusFits, Exec.working, Reach.Steady}
+use Rattle.cycles.specs.{declared.Hole.Hole, Cycles.holeOf}
+use Rattle.letters.specs.declared.BlockCode.{BlockCode, the-variants.Calling, the-variants.Returning, the-variants.Dwelling, the-variants.Moving}
+use Rattle.blocks.specs.{declared.Said.Said, Motions.centreWords, Motions.centreFor, Motions.arcTo, Motions.radiusFits, Exec.keptBy, Exec.working, Reach.Steady}
 
 -- ---- points inside the travel
 
@@ -61,11 +61,6 @@ module _ (bed : Bed) (fair : Fair bed) where
     -- it can be moved by the common offset
     pub inside-sums : (Near (2 ^ 61) (bed .offset)) × (Near (2 ^ 61) p)
     inside-sums = omega (arith, fair .offset, near-inside)
-
--- a value that stands, or else one that held before
-or-else-near : (n : ℕ) (g : Given) (other : Len) → Within n (g .v .v) → Within n (other .v) → Within n (orElse g other .v)
-unfolding orElse
-or-else-near n g other h k = elim (g .stands) as (λ t. Within n ((if t then g .v else other) .v)) [ true ↦ h | false ↦ k ]
 
 -- ---- the centre of an arc
 
@@ -153,7 +148,7 @@ module _ (bed : Bed) (s : State) (b : Said) where
   end = target (w .modes .distance) origin (w .at) (b .values)
 
   abbrev hole : Cycle → Hole
-  hole cycle = holeOf cycle w origin (b .values)
+  hole cycle = holeOf cycle w origin
 
   module _ (steady : Steady bed s b) where
     pub from-inside : inside (bed .travel) (w .at) ≡ true
@@ -185,23 +180,28 @@ module _ (bed : Bed) (s : State) (b : Said) where
     pub target-sums : (Near (2 ^ 61) (bed .offset)) × (Near (2 ^ 61) end)
     target-sums = omega (arith, steady .fair .offset, end-near)
 
-    pub passing : (cycle : Cycle) → b .code ≡ Moving (Drilling cycle) → Passing (bed .travel) origin (w .at) (b .values)
-    passing cycle e =
-        record {
-          low = low-near bed (steady .fair);
-          high = high-near bed (steady .fair);
-          aims = aims;
-          k = steady .said .sizes .count cycle e;
-        }
+    code-kept : (code : BlockCode) → b .code ≡ code → KeptNear (keptBy code s (b .modes .distance) (b .values))
+    unfolding keptBy
+    code-kept Calling e = steady .state .kept
+    code-kept Returning e = steady .state .kept
+    code-kept Dwelling e = steady .state .kept
+    code-kept (Moving motion) e =
+        let sizes = steady .said .sizes in
+        under-near s (b .modes .distance) (b .values) (near-inside bed (steady .fair) (s .at) (steady .state .at) .z) (steady .state .kept) motion
+        (sizes .z) (sizes .r) (sizes .moving motion e)
 
-    module _ (cycle : Cycle) (e : b .code ≡ Moving (Drilling cycle)) where
+    pub kept-near : KeptNear (w .kept)
+    unfolding working
+    kept-near = code-kept (b .code) refl
+
+    module _ (cycle : Cycle) where
       pub hole-feed : Short (hole cycle .feed .v)
       unfolding holeOf
       hole-feed = omega (arith, feed-near)
 
       pub hole-dwell : Short (hole cycle .dwell .v .v)
       unfolding holeOf
-      hole-dwell = omega (arith, steady .said .sizes .moving (Drilling cycle) e)
+      hole-dwell = omega (arith, kept-near .dwell)
 
     from-machine : Near 100_000_000 (moved (bed .offset) (w .at))
     from-machine = near-machine bed (steady .fair) (w .at) from-inside

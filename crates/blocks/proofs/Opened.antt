@@ -13,7 +13,7 @@ use Rattle.arcs.proofs.Opened.{opened as arcs-opened}
 use Rattle.centres.proofs.Opened.{opened as centres-opened}
 use Rattle.cycles.proofs.Opened.{opened as cycles-opened}
 use Rattle.blocks.specs.{Machine.machineOf, Doing.madeOf, Doing.executed, Calling.freely, Calling.called}
-use Rattle.blocks.specs.Exec.{saidBy, working, spindleRecords, movesIn, lastRecords, madeBy, settled, controlOf, atWord, lacksCentre, lacksParameter, isG17, drills, cannotDrill, callsIn, callTo, unknownCall, tooDeep, atStart, blames, unless, judged, execWords, exec}
+use Rattle.blocks.specs.Exec.{saidBy, keptBy, working, spindleRecords, movesIn, lastRecords, madeBy, settled, controlOf, atWord, lacksCentre, lacksParameter, isG17, drills, cannotDrill, callsIn, callTo, unknownCall, tooDeep, atStart, blames, unless, judged, execWords, exec}
 use Rattle.blocks.specs.Motions.{centreWords, centreFor, arcTo, radiusFits, arcMoves, cycleDone, cycleMoves, motionOf, movesOf}
 
 unfoldable pub opened : Unit {0}
@@ -32,6 +32,7 @@ unfolding
     centres-opened
     cycles-opened
     saidBy
+    keptBy
     working
     spindleRecords
     movesIn

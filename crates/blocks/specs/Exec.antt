@@ -3,14 +3,14 @@ use Rattle.terms.specs.Common.{ℕ, Bool, true, false, not, _&&_, _||_, Option,
 use Rattle.terms.specs.Terms.{if_then_else_, all, firstOf, stands, when}
 use Rattle.refusals.specs.declared.Refusal.{Refusal}
 use Rattle.refusals.specs.declared.Refusal.the-variants.{BadParameter, AddressUndefined, ParameterUndefined, CannotExecute, NumberNotFound, NestOver, LeavesTravel, NoRoom, Unreadable, CentreTooFar}
-use Rattle.codes.specs.declared.{Misc.Misc, Motion.Motion, Plane.Plane, Plane.the-variants.G17, Plane.the-variants.G18, Plane.the-variants.G19}
+use Rattle.codes.specs.declared.{Misc.Misc, Motion.Motion, Distance.Distance, Plane.Plane, Plane.the-variants.G17, Plane.the-variants.G18, Plane.the-variants.G19}
 use Rattle.codes.specs.Codes.{isM, endsProgram}
 use Rattle.codes.specs.declared.Motion.the-variants.{Off, G00, G01, G02, G03, Drilling}
 use Rattle.programs.specs.{declared.Program.Program, Openings.known}
 use Rattle.words.specs.{declared.Word.Word, declared.Values.Values, Words.Words, Words.these, Words.badAt, Words.wordsOf}
 use Rattle.records.specs.{declared.Record.Record, Layout.roomOf, Path.endOf, Path.pathStaysIn}
 use Rattle.records.specs.declared.Record.the-variants.{SP, SO, PA, EN}
-use Rattle.settings.specs.{declared.Modes.Modes, declared.State.State, Settings.orElse}
+use Rattle.settings.specs.{declared.Modes.Modes, declared.Kept.Kept, declared.State.State, Settings.orElse, CycleWords.keptUnder}
 use Rattle.letters.specs.declared.BlockCode.{BlockCode}
 use Rattle.letters.specs.Letters.{firstThatMayNot, hasCentre, firstUnused, firstBadValue, miscOfBlock, modesIn, namesGroupA, blockCode, valuesOf}
 use Rattle.letters.specs.declared.BlockCode.the-variants.{Calling, Returning, Dwelling, Moving}
@@ -30,9 +30,16 @@ saidBy machine before ws =
       values = valuesOf (machine .speeds) m (blockCode m ws) ws;
     }
 
+-- document 02, #102: what is kept of a cycle. G04, M98 and M99 leave it as it is; their P is not the cycle's.
+unfoldable pub keptBy : BlockCode → State → Distance → Values → Kept
+keptBy Calling s d v = s .kept
+keptBy Returning s d v = s .kept
+keptBy Dwelling s d v = s .kept
+keptBy (Moving motion) s d v = keptUnder motion s d v
+
 -- "Effects in order: groups B to F, the F word, S, M03, motion or dwell, M05, M00, M02 or M30."
 
--- the settings in which the block moves: after groups A to F, the F word, S and M03
+-- the settings in which the block moves: after groups A to F, the F word, S and M03, and with what its cycle keeps
 unfoldable pub working : State → Said → State
 working s b =
     record {
@@ -41,6 +48,7 @@ working s b =
       feed = orElse (b .values .f) (s .feed);
       speed = orElse (b .values .s) (s .speed);
       turning = s .turning || isM 3 (b .misc);
+      kept = keptBy (b .code) s (b .modes .distance) (b .values);
     }
 
 -- "S with the spindle turning, or M03, writes one spindle record"
@@ -71,6 +79,7 @@ settled machine s b =
       feed = working s b .feed;
       speed = working s b .speed;
       turning = working s b .turning && not (isM 5 (b .misc));
+      kept = working s b .kept;
     }
 
 unfoldable pub controlOf : Said → Control

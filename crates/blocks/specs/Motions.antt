@@ -76,7 +76,7 @@ cycleDone named v = named || endStands v || v .r .stands
 
 unfoldable pub cycleMoves : Cycle → State → Point → Values → Moves
 cycleMoves cycle s origin v =
-    let hole = holeOf cycle s origin v in
+    let hole = holeOf cycle s origin in
     record { records = passes hole (s .modes .distance) origin (s .at) v; sound = levelsHold hole }
 
 -- The motion by the code that is on; `named` tells that the block names it.

@@ -4,7 +4,7 @@ use Rattle.terms.specs.Common.{_<_, _≡_, true}
 use Rattle.lengths.specs.{View.Within, Points.inside}
 use Rattle.setup.specs.{declared.Bed.Bed, Fair.Fair}
 use Rattle.letters.specs.Sizes.{Sizes}
-use Rattle.settings.specs.declared.State.{State}
+use Rattle.settings.specs.{declared.State.State, Bounds.KeptNear}
 use Rattle.blocks.specs.declared.Said.{Said}
 
 pub record Reachable (bed : Bed) (s : State) : Type 0 where
@@ -12,6 +12,7 @@ pub record Reachable (bed : Bed) (s : State) : Type 0 where
   pub origin : s .modes .origin < 6
   pub feed : Within 1_000_000_000 (s .feed .v)
   pub speed : Within 99_999 (s .speed .v)
+  pub kept : KeptNear (s .kept)
 
 -- none of the block's values is refused
 pub record Meant (b : Said) : Type 0 where

@@ -7,11 +7,12 @@ use Rattle.setup.specs.{declared.Setup.Setup, Frame.offset}
 use Rattle.records.specs.{declared.Record.Record, Path.recordMoved}
 use Rattle.runs.specs.declared.Budget.{Budget, the-variants.Whole, the-variants.First}
 use Rattle.runs.specs.{Run.outcome, Run.recordsOf, Run.answerBy, Run.answerOf, Run.standingOf, Run.firstOf, declared.Standing.Standing}
+use Rattle.runs.proofs.Starting.{first-is}
+use Rattle.lengths.specs.Units.{len}
 use Rattle.runs.specs.Walk.{Going, How, ended, returned, unfinished, Outcome, refusedAt, nowhere, just}
-use Rattle.settings.specs.Settings.{stateMoved, firstState}
+use Rattle.settings.specs.Settings.{stateMoved}
 use Rattle.claims.specs.Blockwise.{Close, notYet, atEnd, atRefusal, Sofar, howSofar, outcomeSofar, firstBlocks, Stand, Turn, refuses, goes, ends, turnAt, afterTurn, oneMore, placeAhead, nextSofar, jobFor, begun, more, refusedAtOnce}
 use Rattle.claims.specs.Answers.{Answered, finished, notFinished, refusal, TurnsAt, OneMore, stays, refusing, going, ending, SameTold, earlyNumbers, numberedIn, startSettings, RefusedWhere, atOnce, atBlock}
-use Rattle.claims.proofs.Travel.{same-start}
 use Rattle.claims.proofs.Runs.{open-how, gives, suited, first-n, how-first, begun-cases}
 use Rattle.claims.proofs.Turns.{Over, open-or-over, turns-ahead, open-turn, one-over, more-last, records-last}
 
@@ -206,8 +207,8 @@ module _ (s : Setup) (bytes : List ℕ) (room : ℕ) (r : Refusal) (place : Plac
   stands-at-start :
       begun s bytes room .over ≡ atRefusal r place
       → (budget : Budget) → standingOf s bytes room budget ≡ record { state = startSettings s; next = nowhere }
-  unfolding standingOf stateMoved firstOf firstState
-  stands-at-start e budget = rw (at-once e budget .1, same-start s)
+  unfolding standingOf firstOf
+  stands-at-start e budget = rw (at-once e budget .1, first-is s (len (s .feed)) (len (s .speed)))
 
   abbrev Where : Outcome → Type 0
   Where o = RefusedWhere s bytes room r place (o .made) (o .last)

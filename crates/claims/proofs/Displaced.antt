@@ -16,13 +16,14 @@ use Rattle.programs.specs.Openings.{placeOf}
 use Rattle.runs.specs.declared.Budget.{Budget, the-variants.Whole, the-variants.First}
 use Rattle.runs.specs.Run.{firstOf, outcome, recordsOf, answerBy, answerOf, standingOf}
 use Rattle.runs.specs.Walk.{Job, How, unfinished, refusedAt, Outcome, nowhere, verdictOn}
+use Rattle.runs.proofs.Starting.{first-reached, start-is}
 use Rattle.claims.specs.Travel.{inTravel}
 use Rattle.claims.specs.Blockwise.{BlockDone, Stand, Turn, refuses, past, led, turnBy, verdictIn, turnAt, notYet, atRefusal, Sofar, afterTurn, oneMore, more, recordsBy, howSofar, nextSofar, outcomeSofar, jobFor, begun, firstBlocks}
 use Rattle.claims.specs.Displaced.{displaced, allMoved, standingMoved, stayIn, LeavesFirst}
 use Rattle.claims.proofs.{Verdicts.otherTests, Verdicts.accepts, Verdicts.twin, Answers.one-later, Answers.still-open, Answers.Allows, Answers.allowed}
 use Rattle.claims.proofs.Turns.{doneWith, withMachine, turn-cases, led-cases, Over, open-or-over, open-turn, one-over, records-last}
-use Rattle.claims.proofs.Runs.{Suits, gives, first-n, suited, how-first, first-reached, reach-kept, begun-with}
-use Rattle.claims.proofs.Travel.{state-twice, records-twice, stays-both, run-stayed, same-start, same-stays}
+use Rattle.claims.proofs.Runs.{Suits, gives, first-n, suited, how-first, reach-kept, begun-with}
+use Rattle.claims.proofs.Travel.{state-twice, records-twice, stays-both, run-stayed, same-stays}
 use Rattle.setup.proofs.Valid as Valid
 
 -- ---- one block on two machines that differ in their tests alone
@@ -113,7 +114,7 @@ module _ (by : Axes) (s : Setup) where
   unfolding stayIn
   moved-stays rs =
       ap (stayIn t) (moved-records rs)
-      ∙ ap (λ (p : Point). pathStaysIn (inTravel t) p (map (recordMoved (offset t)) rs)) (sym (same-start t))
+      ∙ ap (λ (p : Point). pathStaysIn (inTravel t) p (map (recordMoved (offset t)) rs)) (start-is t)
       ∙ same-stays t (startOf t) rs
 
 -- ---- a program that ends under the first setup

@@ -7,3 +7,4 @@ pub mod Sixteen
 pub mod Displaced
 pub mod Opened
 pub mod Examples
+pub mod Plate

@@ -4,9 +4,9 @@ use Rattle.terms.proofs.Common.{ℕ, zero, suc, _+_, _-_, _≡_, refl, sym, _�
 use Rattle.terms.specs.Terms.{if_then_else_, any}
 use Rattle.refusals.specs.{declared.Refusal.Refusal, declared.Place.Place, Numbers.numberOf}
 use Rattle.refusals.specs.declared.Refusal.the-variants.{NoEnd, FirstBlock, BadSetup, DataTooLong, BadParameter}
-use Rattle.setup.specs.{declared.Setup.Setup, Limits.validSetup, Frame.bedOf, declared.Bed.Bed, Fair.Fair}
+use Rattle.setup.specs.{declared.Setup.Setup, Limits.validSetup, declared.Bed.Bed, Fair.Fair}
 use Rattle.records.specs.{declared.Record.Record, Layout.roomOf}
-use Rattle.settings.specs.{declared.State.State, Settings.firstModes, Settings.firstState}
+use Rattle.settings.specs.declared.State.{State}
 use Rattle.blocks.specs.{Machine.machineOf, Reach.Reachable, Keeping.Keeps, Exec.Verdict, Exec.refused, Exec.accepted, Exec.callsIn, declared.Control.Control}
 use Rattle.blocks.proofs.Accepting.{accepted-kept}
 use Rattle.blocks.specs.declared.Control.the-variants.{On, Call, Back, Stop}
@@ -20,7 +20,6 @@ use Rattle.claims.specs.Answers.{earlyNumbers, numberedIn}
 use Rattle.claims.specs.Blockwise.{BlockDone, Stand, levels, Turn, refuses, goes, ends, past, inCallee, returning, led, turnBy, verdictIn, turnUnder, turnUnless, turnIn, turnAt, Close, notYet, atEnd, atRefusal, Sofar, afterTurn, turnedUnless, oneMore, more, recordsBy, howSofar, placeAhead, nextSofar, outcomeSofar, tableIn, subsOf, jobFor, standAt, refusedAtOnce, begunBy, begun, firstBlocks}
 use Rattle.claims.proofs.Verdicts.{accepts, call-has-level, main-does-not-return}
 use Rattle.claims.proofs.Turns.{doneWith, withMachine, turn-cases, Over, more-over, records-last, run-holds}
-use Rattle.setup.proofs.Valid as Valid
 use Rattle.programs.specs.Openings as Openings
 
 -- ---- a program that returns goes on in the one that called it
@@ -469,13 +468,7 @@ module _ (s : Setup) (bytes : List ℕ) (room : ℕ) where
   begun-with Q first =
       begun-cases s bytes room Whole (λ x o. Q (x .executed) (x .stand .state)) (λ r place early. first) (λ blocks v. first)
 
--- a run begins in a state that a run can reach
-pub first-reached : (s : Setup) → validSetup s ≡ true → Reachable (bedOf s) (firstOf s)
-unfolding firstOf firstState firstModes bedOf
-first-reached s v =
-    record { at = Valid.start-inside s v; origin = omega arith; feed = Valid.valid-feed s v; speed = Valid.valid-speed s v }
-
--- and every block of it keeps to those states
+-- every block of a run keeps to the states that a run can reach
 module _ (bed : Bed) (fair : Fair bed) (job : Job) where
   pub block-keeps :
       (st : Stand) (b : Block) (s : State) (control : Control) (made : List Record)

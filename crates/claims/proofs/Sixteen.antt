@@ -10,10 +10,11 @@ use Rattle.settings.specs.declared.State.{State}
 use Rattle.blocks.specs.{Machine.machineOf, Reach.Reachable, Exec.callsIn}
 use Rattle.runs.specs.{declared.Budget.Budget, declared.Budget.the-variants.Whole, Run.firstOf, Run.outcome, Run.answerBy, Run.answerOf}
 use Rattle.runs.specs.Walk.{Job, How, ended, returned, unfinished, refusedAt, Outcome, nowhere, just, slashLength, verdictOn}
+use Rattle.runs.proofs.Starting.{first-reached}
 use Rattle.claims.specs.Blockwise.{Stand, levels, refuses, verdictIn, turnAt, notYet, Sofar, more, jobFor, standAt, refusedAtOnce, firstBlocks}
 use Rattle.claims.specs.Answers.{earlyNumbers, blockNumbers, numberedIn, RefusedBlock, RefusedWhere, atOnce, atBlock}
 use Rattle.claims.proofs.{Verdicts.exec-number, Turns.doneWith, Turns.withMachine, Turns.turn-cases, Turns.led-cases, Answers.still-open, Answers.turn-refused, Answers.refused-adds-nothing}
-use Rattle.claims.proofs.Runs.{during, begun-cases, once-over, first-reached, reach-kept}
+use Rattle.claims.proofs.Runs.{during, begun-cases, once-over, reach-kept}
 use Rattle.setup.proofs.Valid as Valid
 
 turn-number :

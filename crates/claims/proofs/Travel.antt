@@ -5,11 +5,12 @@ use Rattle.lengths.proofs.{Laws.view, Laws.sum-bal, Laws.le-shift, Ring.shift, 
 use Rattle.setup.specs.{declared.Setup.Setup, Frame.pointOf, Frame.offset, Frame.startOf, Frame.travelOf, Frame.bedOf}
 use Rattle.records.specs.{declared.Record.Record, Path.pathOf, Path.endOf, Path.pathStaysIn, Path.recordMoved, Path.pathEnd, Path.arcMoved, declared.Arc.Arc}
 use Rattle.records.specs.declared.Record.the-variants.{RP, LN, AR, AL, DW, SP, SO, PA, EN}
-use Rattle.settings.specs.{Settings.firstState, Settings.stateMoved, declared.State.State}
+use Rattle.settings.specs.{Settings.firstState, Settings.keptMoved, Settings.stateMoved, declared.Kept.Kept, declared.State.State}
 use Rattle.arcs.specs.Turning.{direction}
 use Rattle.arcs.specs.Arcs.{pathStays, distance², radius², notAbove, notBelow, coordinateInside, extremeInside, extremesInside, leftWay, rightWay, arcStays}
 use Rattle.blocks.specs.Machine.{machineOf}
 use Rattle.runs.specs.{declared.Budget.Budget, Run.firstOf, Run.outcome, Run.recordsOf, Run.standingOf}
+use Rattle.runs.proofs.Starting.{start-is}
 use Rattle.centres.proofs.Displaced.{flat-moved}
 use Rattle.claims.specs.{Blockwise.recordsBy, Blockwise.outcomeSofar, Blockwise.jobFor, Blockwise.begun, Blockwise.firstBlocks, Travel.machineTravel, Travel.inTravel}
 use Rattle.claims.proofs.{Verdicts.accepts, Verdicts.accepted-path, Turns.run-holds, Runs.gives, Runs.suited, Runs.begun-with}
@@ -76,9 +77,13 @@ paths-same by t from (r ∷ rs) =
     (rw (h .0, h .1, k .0), ap (λ (p : Point). endOf p (map (recordMoved by) rs)) (h .1) ∙ k .1)
 
 -- settings and records displaced twice
+kept-twice : (a b : Point) (k : Kept) → keptMoved (b .z) (keptMoved (a .z) k) ≡ keptMoved (moved b a .z) k
+unfolding keptMoved moved
+kept-twice a b k = simp plus-plus
+
 pub state-twice : (a b : Point) (s : State) → stateMoved b (stateMoved a s) ≡ stateMoved (moved b a) s
 unfolding stateMoved
-state-twice a b s = simp moved-twice
+state-twice a b s = rw (moved-twice a b (s .at), kept-twice a b (s .kept))
 
 arc-twice : (a b : Point) (arc : Arc) → arcMoved b (arcMoved a arc) ≡ arcMoved (moved b a) arc
 unfolding arcMoved
@@ -159,10 +164,6 @@ same-travel s =
     ap₂ (λ (low high : Point). record { low = low; high = high }) (there-and-back (offset s) (pointOf (s .low)))
     (there-and-back (offset s) (pointOf (s .high)))
 
-pub same-start : (s : Setup) → moved (offset s) (startOf s) ≡ pointOf (s .start)
-unfolding startOf
-same-start s = there-and-back (offset s) (pointOf (s .start))
-
 -- a path in the frame stays where the path in machine units does
 pub same-stays :
     (s : Setup) (from : Point) (rs : List Record)
@@ -183,7 +184,7 @@ pub stays-in-travel :
 unfolding recordsOf
 stays-in-travel s bytes room budget =
     ap (λ (p : Point). pathStaysIn (inTravel s) p (map (recordMoved (offset s)) (outcome s bytes room budget .made)))
-    (sym (same-start s))
+    (start-is s)
     ∙ same-stays s (startOf s) (outcome s bytes room budget .made)
     ∙ outcome-stayed s bytes room budget .path
 
@@ -195,4 +196,4 @@ unfolding standingOf stateMoved recordsOf
 stands-at-its-records s bytes room budget =
     ap (moved (offset s)) (outcome-stayed s bytes room budget .ends)
     ∙ sym (paths-same (offset s) (travelOf s) (startOf s) (outcome s bytes room budget .made) .1)
-    ∙ ap (λ (p : Point). endOf p (recordsOf s bytes room budget)) (same-start s)
+    ∙ ap (λ (p : Point). endOf p (recordsOf s bytes room budget)) (sym (start-is s))

@@ -3,3 +3,4 @@ pub mod Travel
 pub mod Answers
 pub mod Displaced
 pub mod Examples
+pub mod Plate

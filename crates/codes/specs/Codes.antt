@@ -3,7 +3,7 @@ use Rattle.terms.specs.Common.{ℕ, Bool, _&&_, _||_, List, [], _∷_, eqb}
 use Rattle.terms.specs.Terms.{lookup}
 use Rattle.codes.specs.declared.{Plane.the-variants.G17, Plane.the-variants.G18, Plane.the-variants.G19, Unit.the-variants.Inch, Unit.the-variants.Millimetre}
 use Rattle.codes.specs.declared.{Distance.the-variants.Absolute, Distance.the-variants.Incremental, Return.the-variants.ToInitial, Return.the-variants.ToR, Code.Code, Misc.Misc}
-use Rattle.codes.specs.declared.Cycle.the-variants.{G81, G82, G85, G89}
+use Rattle.codes.specs.declared.Cycle.{Cycle, the-variants.G81, the-variants.G82, the-variants.G85, the-variants.G89}
 use Rattle.codes.specs.declared.Motion.the-variants.{Off, G00, G01, G02, G03, Drilling}
 use Rattle.codes.specs.declared.Code.the-variants.{GroupA, GroupB, GroupC, GroupD, GroupE, GroupF, G04, Unknown}
 use Rattle.codes.specs.declared.Misc.the-variants.{M00, M02, M03, M05, M30, M98, M99, Other}
@@ -68,6 +68,13 @@ miscNumber M30 = 30
 miscNumber M98 = 98
 miscNumber M99 = 99
 miscNumber Other = 100
+
+-- the number of a cycle's code
+unfoldable pub cycleNumber : Cycle → ℕ
+cycleNumber G81 = 81
+cycleNumber G82 = 82
+cycleNumber G85 = 85
+cycleNumber G89 = 89
 
 unfoldable pub isM : ℕ → Misc → Bool
 isM n m = eqb (miscNumber m) n

@@ -1,7 +1,7 @@
 // The codes of document 01, "Codes": what a G or an M number means.
 
 ghost use Rattle.terms.specs.Common.{_≡_};
-ghost use Rattle.codes.specs.Codes.{codeOf, miscOf, groupOf, miscNumber};
+ghost use Rattle.codes.specs.Codes.{codeOf, miscOf, groupOf, miscNumber, cycleNumber};
 
 pub enum Cycle {
     G81,
@@ -142,5 +142,16 @@ pub fn misc_number(m: Misc) -> u64
         Misc::M98 => 98,
         Misc::M99 => 99,
         Misc::Other => 100,
+    }
+}
+
+pub fn cycle_number(c: Cycle) -> u64
+    ensures { λ r. ⌜ r ≡ cycleNumber c ⌝ }
+{
+    match c {
+        Cycle::G81 => 81,
+        Cycle::G82 => 82,
+        Cycle::G85 => 85,
+        Cycle::G89 => 89,
     }
 }

@@ -25,7 +25,7 @@ module _ (h : Hole) (level : Len) (p : Point) where
   unfolding passTo
   with-z e = chosen (h .z .stands) _ _ e
 
-  pub without-z : h .z .stands ≡ false → passTo h level p ≡ RP (atHeight p (h .initial)) ∷ []
+  pub without-z : h .z .stands ≡ false → passTo h level p ≡ RP (atHeight p (h .stood)) ∷ []
   unfolding passTo
   without-z e = other (h .z .stands) _ _ e
 
@@ -47,7 +47,7 @@ dwelling-ends g from rs =
 
 -- the level where a pass leaves the tool
 abbrev pub lastLevel : Hole → Len
-lastLevel h = if h .z .stands then returnLevel h else h .initial
+lastLevel h = if h .z .stands then returnLevel h else h .stood
 
 module _ (h : Hole) (p : Point) where
   up-ends : (b : Return) → endOf (atHeight p (h .r)) (upUnder b h p) ≡ atHeight p (levelFor b h)
@@ -69,7 +69,7 @@ module _ (h : Hole) (p : Point) where
       ∙ dwelling-ends (h .dwell) (atHeight p (h .z .v)) (leaving (h .cycle) h p)
       ∙ leaving-ends (h .cycle) (atHeight p (h .z .v))
 
-  pub ends-without-z : (level : Len) (from : Point) → h .z .stands ≡ false → endOf from (passTo h level p) ≡ atHeight p (h .initial)
+  pub ends-without-z : (level : Len) (from : Point) → h .z .stands ≡ false → endOf from (passTo h level p) ≡ atHeight p (h .stood)
   unfolding endOf pathEnd pathOf
   ends-without-z level from e = ap (endOf from) (without-z h level p e)
 
@@ -77,8 +77,8 @@ module _ (h : Hole) (p : Point) where
   ends-at level from = by (h .z .stands) refl
     where
       by : (s : Bool) → h .z .stands ≡ s → endOf from (passTo h level p) ≡ atHeight p (lastLevel h)
-      by true e = ends-with-z level from e ∙ ap (atHeight p) (sym (chosen (h .z .stands) (returnLevel h) (h .initial) e))
-      by false e = ends-without-z level from e ∙ ap (atHeight p) (sym (other (h .z .stands) (returnLevel h) (h .initial) e))
+      by true e = ends-with-z level from e ∙ ap (atHeight p) (sym (chosen (h .z .stands) (returnLevel h) (h .stood) e))
+      by false e = ends-without-z level from e ∙ ap (atHeight p) (sym (other (h .z .stands) (returnLevel h) (h .stood) e))
 
 -- ---- how passes follow each other
 
@@ -100,12 +100,28 @@ module _ (h : Hole) (p : Point) (l : Len) where
   unfolding passTo atHeight
   pass-place level = rw (leaving-place (h .cycle))
 
+-- nor does the Z of the block: other values with the same X and Y lead to the same passes
+abbrev pub withPlace : Values → Values → Values
+withPlace v w =
+    record {
+      x = v .x;
+      y = v .y;
+      z = w .z;
+      i = w .i;
+      j = w .j;
+      k = w .k;
+      r = w .r;
+      p = w .p;
+      f = w .f;
+      s = w .s;
+    }
+
 module _ (h : Hole) (d : Distance) (origin : Point) (v : Values) where
   pub same-place :
-      (k : ℕ) (level : Len) (p : Point) (l : Len)
-      → passesAt k h (λ q. target d origin q v) level (atHeight p l) ≡ passesAt k h (λ q. target d origin q v) level p
+      (w : Values) (k : ℕ) (level : Len) (p : Point) (l : Len)
+      → passesAt k h (λ q. target d origin q (withPlace v w)) level (atHeight p l) ≡ passesAt k h (λ q. target d origin q v) level p
   unfolding passesAt atHeight target
-  same-place zero level p l = refl
-  same-place (suc k) level p l =
-      let z = aimed d (origin .z) l (v .z) in
-      ap₂ _++_ (pass-place h (target d origin p v) z level) (same-place k (returnLevel h) (target d origin p v) z)
+  same-place w zero level p l = refl
+  same-place w (suc k) level p l =
+      let z = aimed d (origin .z) l (w .z) in
+      ap₂ _++_ (pass-place h (target d origin p v) z level) (same-place w k (returnLevel h) (target d origin p v) z)

@@ -162,10 +162,10 @@ module _ (h : Hole) (p : Point) (i : ℕ) where
 -- ---- the whole pass
 
 module _ (h : Hole) (level : Len) (p : Point) (i : ℕ) {q : Point} where
-  pub row-flat : h .z .stands ≡ false → i < length (passTo h level p) → q ≡ atHeight p (h .initial) → Stands (passTo h level p) i (RP q)
+  pub row-flat : h .z .stands ≡ false → i < length (passTo h level p) → q ≡ atHeight p (h .stood) → Stands (passTo h level p) i (RP q)
   row-flat e most f =
       let one : i < 1 = rw (without-z h level p e) at most in
-      stands-as i (without-z h level p e) (rw f (stands-first (RP (atHeight p (h .initial))) [] i (omega (arith, one))))
+      stands-as i (without-z h level p e) (rw f (stands-first (RP (atHeight p (h .stood))) [] i (omega (arith, one))))
 
   module _ (e : h .z .stands ≡ true) where
     pub row-first : i ≡ 0 → q ≡ atHeight p level → Stands (passTo h level p) i (RP q)

@@ -1,24 +1,17 @@
 -- The bounds that a run keeps where a cycle is done, and what the functions under them answer.
 use Rattle.terms.specs.Common.{ℕ, _+_, _≤_, _≡_, List, _∷_, length, drop}
-use Rattle.lengths.specs.{declared.Len.Len, View.Within, declared.Point.Point, declared.Travel.Travel, Near.Near}
+use Rattle.lengths.specs.{declared.Len.Len, View.Within, declared.Point.Point}
 use Rattle.codes.specs.declared.{Cycle.Cycle, Return.Return}
-use Rattle.words.specs.declared.{Given.Given, Values.Values}
+use Rattle.words.specs.declared.Given.{Given}
 use Rattle.records.specs.declared.Record.{Record, the-variants.RP, the-variants.LN, the-variants.DW}
-use Rattle.settings.specs.Bounds.{Aims}
+use Rattle.settings.specs.{declared.State.State, Bounds.KeptNear}
 use Rattle.cycles.specs.declared.{Hole.Hole, Row.Row, Row.the-variants.Rapid, Row.the-variants.Cut, Row.the-variants.Dwell}
 use Rattle.cycles.specs.Cycles.{leaving, passTo, passCount}
 
 -- what the levels of a hole lead from
-pub record Holes (origin from : Point) (v : Values) : Type 0 where
-  pub aims : Aims origin from v
-  pub r : Within 1_000_000_000 (v .r .v .v)
-
--- what passes lead from
-pub record Passing (t : Travel) (origin from : Point) (v : Values) : Type 0 where
-  pub low : Near 1_100_000_000 (t .low)
-  pub high : Near 1_100_000_000 (t .high)
-  pub aims : Aims origin from v
-  pub k : Within 9_999 (v .k .v .v)
+pub record Holes (origin : Point) (s : State) : Type 0 where
+  pub height : Within 1_000_000_000 (origin .z .v)
+  pub kept : KeptNear (s .kept)
 
 -- a number of passes
 pub record Counts (k : Given) (n : ℕ) : Type 0 where

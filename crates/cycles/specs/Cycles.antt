@@ -6,27 +6,30 @@ use Rattle.codes.specs.declared.Cycle.{Cycle, the-variants.G81, the-variants.G8
 use Rattle.codes.specs.declared.{Return.Return, Return.the-variants.ToInitial, Return.the-variants.ToR, Distance.Distance}
 use Rattle.words.specs.declared.{Given.Given, Values.Values}
 use Rattle.records.specs.declared.Record.{Record, the-variants.RP, the-variants.LN, the-variants.DW}
-use Rattle.settings.specs.{declared.State.State, Target.aimed, Target.target}
+use Rattle.settings.specs.{declared.Kept.Kept, declared.State.State, CycleWords.keptZ, CycleWords.keptR, CycleWords.keptP, Target.aimed, Target.target}
 use Rattle.cycles.specs.declared.Hole.{Hole}
 
--- "The initial level is Z at the block's start". "Missing R is the initial level. In G91, R counts from the initial level,
--- Z from R": R leads from the initial level, and Z from R, as a word of a straight move does.
-unfoldable pub levelR : Distance → Point → Point → Values → Len
-levelR d origin now v = aimed d (origin .z) (now .z) (v .r)
+-- "Missing R is the initial level. In G91, R counts from the initial level, Z from R": R leads from the initial level, and Z from R,
+-- as a word of a straight move does. Changed by document 02, #102: the words are those that are kept, each with the G90 or G91 that it
+-- was written under, and the initial level is the one that is held.
+unfoldable pub levelR : Point → Kept → Len
+levelR origin kept = aimed (kept .under .r) (origin .z) (kept .initial) (keptR kept)
 
-unfoldable pub levelZ : Distance → Point → Len → Given → Given
-levelZ d origin r g = record { stands = g .stands; v = aimed d (origin .z) r g }
+unfoldable pub levelZ : Point → Len → Kept → Len
+levelZ origin r kept = aimed (kept .under .z) (origin .z) r (keptZ kept)
 
-unfoldable pub holeOf : Cycle → State → Point → Values → Hole
-holeOf cycle s origin v =
-    let r = levelR (s .modes .distance) origin (s .at) v in
+unfoldable pub holeOf : Cycle → State → Point → Hole
+holeOf cycle s origin =
+    let kept = s .kept in
+    let r = levelR origin kept in
     record {
       cycle = cycle;
       back = s .modes .back;
-      initial = s .at .z;
+      initial = kept .initial;
+      stood = s .at .z;
       r = r;
-      z = levelZ (s .modes .distance) origin r (v .z);
-      dwell = v .p;
+      z = record { stands = kept .stands .z; v = levelZ origin r kept };
+      dwell = keptP kept;
       feed = s .feed;
     }
 
@@ -58,7 +61,8 @@ leaving G82 h p = RP (atHeight p (returnLevel h)) ∷ []
 leaving G85 h p = LN (atHeight p (h .r)) (h .feed) ∷ upUnder (h .back) h p
 leaving G89 h p = LN (atHeight p (h .r)) (h .feed) ∷ upUnder (h .back) h p
 
--- One pass at X, Y of a point, which comes at a level. "Without Z each pass is a rapid to X, Y at the initial level."
+-- One pass at X, Y of a point, which comes at a level. "Without Z each pass is a rapid to X, Y at the initial level": changed by
+-- document 02, #102, "every pass where no Z is kept, is at the Z where the tool stands".
 -- "With Z each pass: rapid to X, Y ..; then rapid to R, cut to Z, dwell .., then .."
 unfoldable pub passTo : Hole → Len → Point → List Record
 passTo h level p =
@@ -66,10 +70,10 @@ passTo h level p =
     then
     RP (atHeight p level) ∷ RP (atHeight p (h .r)) ∷ LN (atHeight p (h .z .v)) (h .feed) ∷ dwelling (h .dwell)
     ++ leaving (h .cycle) h p
-    else RP (atHeight p (h .initial)) ∷ []
+    else RP (atHeight p (h .stood)) ∷ []
 
 -- "X, Y are added at each pass": each pass leads on from X, Y of the one before. "rapid to X, Y at the initial level in
--- the first pass, at the return level after".
+-- the first pass, at the return level after": changed by document 02, #102, "the first rapid .. is at the Z where the tool stands".
 unfoldable pub passesAt : ℕ → Hole → (Point → Point) → Len → Point → List Record
 passesAt zero h next level p = []
 passesAt (suc k) h next level p =
@@ -80,4 +84,4 @@ unfoldable pub passCount : Given → ℕ
 passCount g = if g .stands then natAbs (g .v .v) else 1
 
 unfoldable pub passes : Hole → Distance → Point → Point → Values → List Record
-passes h d origin now v = passesAt (passCount (v .k)) h (λ p. target d origin p v) (h .initial) now
+passes h d origin now v = passesAt (passCount (v .k)) h (λ p. target d origin p v) (h .stood) now

@@ -1,18 +1,18 @@
 // Cycles: the levels of a hole and its passes. All passes of a block are tested before a byte of them is written.
 
 use codes::Cycle;
-use codes::Distance;
 use codes::Return;
 use lengths::Len;
 use lengths::Point;
 use records::Kind;
+use settings::Kept;
 use settings::State;
 use words::Given;
-use words::Values;
 ghost use Rattle.terms.specs.Common.{_≡_, _<_, [], _∷_, _++_, length};
 ghost use Rattle.lengths.specs.View.{Within};
 ghost use Rattle.records.specs.{Path.pathOf, Path.pathEnd, Path.endOf, Layout.kindOf, Layout.kindLength, Writing.movedBytes, Writing.RoomFor, Serving.Wrote};
-ghost use Rattle.cycles.specs.Cycles.{holeOf, levelsHold, returnLevel, dwelling, leaving, passTo};
+ghost use Rattle.settings.specs.{CycleWords.keptZ, CycleWords.keptR, Bounds.Sized};
+ghost use Rattle.cycles.specs.Cycles.{levelR, levelZ, holeOf, levelsHold, returnLevel, dwelling, leaving, passTo};
 ghost use Rattle.cycles.specs.Bounds.{Holes, Counts, UpLength, PassLength, Stands, rowRecord};
 
 // A record of a pass: a rapid, a cut or a dwell.
@@ -22,42 +22,78 @@ pub enum Row {
     Dwell(Len),
 }
 
-// What a cycle does at each pass. The levels are heights in the frame of the common offset; z and dwell are missing
-// where no Z and no P stands.
+// What a cycle does at each pass. The levels are heights in the frame of the common offset: the initial level that is held, the height
+// where the tool stood before the block, and those of R and Z; z and dwell are missing where no Z and no P is kept.
 pub struct Hole {
     pub cycle: Cycle,
     pub back: Return,
     pub initial: Len,
+    pub stood: Len,
     pub r: Len,
     pub z: Given,
     pub dwell: Given,
     pub feed: Len,
 }
 
-// The hole of a block. R leads from the initial level, and Z from R.
-pub fn hole_of(cycle: Cycle, s: State, origin: Point, v: Values) -> Hole
-    requires { ⌜ Holes origin (s .at) v ⌝ }
-    ensures { λ h. ⌜ h ≡ holeOf cycle s origin v ⌝ }
+// The height of R: it leads from the initial level.
+fn level_r(origin: Point, kept: Kept) -> Len
+    requires { ⌜ Sized (origin .z) (kept .initial) (keptR kept) ⌝ }
+    ensures { λ l. ⌜ l ≡ levelR origin kept ⌝ }
+{
+    let under = kept.under;
+    let d = under.r;
+    let v = kept.r;
+    let word = Given {
+        stands: kept.stands.r,
+        v,
+    };
+    settings::aimed(d, origin.z, kept.initial, word)
+}
+
+// The height of Z: it leads from R.
+fn level_z(origin: Point, r: Len, kept: Kept) -> Len
+    requires { ⌜ Sized (origin .z) r (keptZ kept) ⌝ }
+    ensures { λ l. ⌜ l ≡ levelZ origin r kept ⌝ }
+{
+    let under = kept.under;
+    let d = under.z;
+    let v = kept.z;
+    let word = Given {
+        stands: kept.stands.z,
+        v,
+    };
+    settings::aimed(d, origin.z, r, word)
+}
+
+// The hole of a block, by what its cycle keeps.
+pub fn hole_of(cycle: Cycle, s: State, origin: Point) -> Hole
+    requires { ⌜ Holes origin s ⌝ }
+    ensures { λ h. ⌜ h ≡ holeOf cycle s origin ⌝ }
 {
     let modes = s.modes;
-    let d = modes.distance;
     let back = modes.back;
+    let kept = s.kept;
+    let initial = kept.initial;
     let at = s.at;
-    let initial = at.z;
-    let r = settings::aimed(d, origin.z, initial, v.r);
-    let depth = settings::aimed(d, origin.z, r, v.z);
-    let dwell = v.p;
+    let stood = at.z;
+    let r = level_r(origin, kept);
+    let depth = level_z(origin, r, kept);
+    let ms = kept.dwell;
     let feed = s.feed;
     Hole {
         cycle,
         back,
         initial,
+        stood,
         r,
         z: Given {
-            stands: v.z.stands,
+            stands: kept.stands.z,
             v: depth,
         },
-        dwell,
+        dwell: Given {
+            stands: kept.stands.dwell,
+            v: ms,
+        },
         feed,
     }
 }
@@ -157,7 +193,7 @@ pub fn row_at(h: Hole, i: usize, level: Len, p: Point) -> Row
 {
     let feed = h.feed;
     if !h.z.stands {
-        return Row::Rapid(lengths::at_height(p, h.initial));
+        return Row::Rapid(lengths::at_height(p, h.stood));
     }
     if i == 0 {
         return Row::Rapid(lengths::at_height(p, level));
@@ -178,7 +214,7 @@ pub fn pass_end(h: Hole, p: Point) -> Point
     if h.z.stands {
         lengths::at_height(p, return_level(h))
     } else {
-        lengths::at_height(p, h.initial)
+        lengths::at_height(p, h.stood)
     }
 }
 

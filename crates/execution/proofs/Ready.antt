@@ -16,7 +16,7 @@ use Rattle.work.proofs.Briefs.{AllStill, brief-still, still-ends, still-stays, 
 use Rattle.work.specs.Work.{rowsOf, passesOf, leads, workRecords, briefRecords, passFits, grown, wayOf}
 use Rattle.work.specs.Needs.{Poised, Counted, ArcFrom, RecordFrom, PassFrom, PassLoose, PassReady, Once, Leading, Testable, Little}
 use Rattle.blocks.specs.{declared.Said.Said, Machine.machineOf, Motions.centreWords, Motions.centreFor, Motions.arcTo, Reach.Steady, Exec.working, Exec.movesIn, Exec.madeBy}
-use Rattle.blocks.proofs.Nearness.{aims, from-inside, target-sums, low-near, high-near, centre-close, bounds, both-fit, first-near, second-near}
+use Rattle.blocks.proofs.Nearness.{aims, kept-near, from-inside, target-sums, low-near, high-near, centre-close, bounds, both-fit, first-near, second-near}
 use Rattle.execution.specs.{declared.Planned.Planned, declared.Checked.Checked, Steps.plannedRecords, Steps.Plans, Steps.noneYet, Steps.checkedBy}
 use Rattle.execution.specs.declared.Checked.the-variants as Checked
 
@@ -243,4 +243,4 @@ module _ (bed : Bed) (s : State) (b : Said) (steady : Steady bed s b) where
   poised e f =
       let z = steady .said .sizes in
       rw (e, f)
-      (record { aims = aims bed s b steady; words = record { x = z .i; y = z .j; z = z .k }; radius = z .r }, record { k = z .count })
+      (record { aims = aims bed s b steady; words = record { x = z .i; y = z .j; z = z .k }; radius = z .r; kept = kept-near bed s b steady }, record { k = z .count })

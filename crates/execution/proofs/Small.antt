@@ -3,7 +3,7 @@ use Rattle.terms.proofs.Common.{ℕ, _≡_, refl, Bool, true, false, _&&_, _||_
 use denote.Enum.Declared.{tagOf}
 use types.Run.{OneOf, miss}
 use Rattle.lengths.specs.declared.Len.{Len}
-use Rattle.codes.specs.declared.{Misc.Misc, Motion.Motion, Plane.Plane, Plane.the-variants.G17, Plane.the-variants.G18, Plane.the-variants.G19}
+use Rattle.codes.specs.declared.{Misc.Misc, Motion.Motion, Distance.Distance, Plane.Plane, Plane.the-variants.G17, Plane.the-variants.G18, Plane.the-variants.G19}
 use Rattle.codes.{specs.Codes.miscNumber, specs.Codes.isM, proofs.Motion.the-type as motion-type, proofs.Plane.the-type as plane-type}
 use Rattle.codes.specs.declared.Motion.the-variants.{Off, G00, G01, G02, G03, Drilling}
 use Rattle.words.specs.declared.Values.{Values}
@@ -12,7 +12,7 @@ use Rattle.letters.{specs.declared.BlockCode.BlockCode, proofs.BlockCode.the-ty
 use Rattle.letters.specs.declared.BlockCode.the-variants.{Calling, Returning, Dwelling, Moving}
 use Rattle.work.specs.Work.{briefRecords}
 use Rattle.work.specs.declared.Brief.the-variants.{Speed, SpindleOff, Pause, End, Nothing}
-use Rattle.blocks.specs.{declared.Said.Said, Exec.working, Exec.spindleRecords, Exec.lastRecords, Exec.lacksCentre, Exec.drills, Exec.isG17}
+use Rattle.blocks.specs.{declared.Said.Said, Exec.keptBy, Exec.working, Exec.spindleRecords, Exec.lastRecords, Exec.lacksCentre, Exec.drills, Exec.isG17}
 
 -- ---- motions and codes that have no arm of their own
 
@@ -41,6 +41,14 @@ not-moving Calling named v h = refl
 not-moving Returning named v h = refl
 not-moving Dwelling named v h = refl
 not-moving (Moving m) named v h = absurd (miss (0 ∷ 1 ∷ 2 ∷ []) 3 tt h)
+
+pub kept-still :
+    (code : BlockCode) (s : State) (d : Distance) (v : Values) → OneOf (0 ∷ 1 ∷ 2 ∷ []) (tagOf code-type code) → s .kept ≡ keptBy code s d v
+unfolding keptBy
+kept-still Calling s d v h = refl
+kept-still Returning s d v h = refl
+kept-still Dwelling s d v h = refl
+kept-still (Moving m) s d v h = absurd (miss (0 ∷ 1 ∷ 2 ∷ []) 3 tt h)
 
 pub not-g17 : (p : Plane) → OneOf (1 ∷ 2 ∷ []) (tagOf plane-type p) → isG17 p ≡ false
 unfolding isG17

@@ -30,7 +30,14 @@ pub record Says (m : Modes) (ws held : List Word) (read : Reading) : Type 0 wher
 -- the settings that a block works with, its tool at a point and its spindle as the M code leaves it
 unfoldable pub settledAt : State → Misc → Point → State
 settledAt w misc end =
-    record { at = end; modes = w .modes; feed = w .feed; speed = w .speed; turning = w .turning && not (isM 5 misc) }
+    record {
+      at = end;
+      modes = w .modes;
+      feed = w .feed;
+      speed = w .speed;
+      turning = w .turning && not (isM 5 misc);
+      kept = w .kept;
+    }
 
 -- the records of a planned block: the spindle's, the motion's and the last
 unfoldable pub plannedRecords : Planned → List Record

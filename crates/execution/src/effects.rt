@@ -1,33 +1,51 @@
 // What a block does beside its motion, in the order of effects.
 ghost use Rattle.terms.specs.Common.{_≡_, natAbs};
-ghost use Rattle.blocks.specs.Exec.{working, spindleRecords, lastRecords, controlOf};
+ghost use Rattle.blocks.specs.Exec.{keptBy, working, spindleRecords, lastRecords, controlOf};
 ghost use Rattle.work.specs.Work.{briefRecords};
 ghost use Rattle.execution.specs.Steps.{settledAt};
 use blocks::Control;
 use blocks::Said;
+use codes::Distance;
 use codes::Misc;
 use lengths::Len;
 use lengths::Point;
+use letters::BlockCode;
+use settings::Kept;
 use settings::State;
 use words::Given;
+use words::Values;
 use work::Brief;
 
-// The settings in which the block moves: after groups A to F, the F word, S and M03.
+// What is kept of a cycle: G04, M98 and M99 leave it as it is.
+fn kept_by(code: BlockCode, s: State, d: Distance, v: Values) -> Kept
+    ensures { λ r. ⌜ r ≡ keptBy code s d v ⌝ }
+{
+    match code {
+        BlockCode::Moving(motion) => settings::kept_under(motion, s, d, v),
+        _ => s.kept,
+    }
+}
+
+// The settings in which the block moves: after groups A to F, the F word, S and M03, and with what its cycle keeps.
 pub fn working(s: State, b: Said) -> State
     ensures { λ r. ⌜ r ≡ working s b ⌝ }
 {
     let at = s.at;
     let modes = b.modes;
+    let code = b.code;
+    let distance = modes.distance;
     let misc = b.misc;
     let feed = settings::or_else(b.values.f, s.feed);
     let speed = settings::or_else(b.values.s, s.speed);
     let turning = s.turning | (codes::misc_number(misc) == 3);
+    let kept = kept_by(code, s, distance, b.values);
     State {
         at,
         modes,
         feed,
         speed,
         turning,
+        kept,
     }
 }
 
@@ -92,11 +110,13 @@ pub fn settled(w: State, misc: Misc, end: Point) -> State
     let feed = w.feed;
     let speed = w.speed;
     let turning = w.turning & (codes::misc_number(misc) != 5);
+    let kept = w.kept;
     State {
         at: end,
         modes,
         feed,
         speed,
         turning,
+        kept,
     }
 }

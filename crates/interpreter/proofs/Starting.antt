@@ -3,15 +3,14 @@ use Rattle.terms.proofs.Common.{ℕ, _+_, _-_, _≤_, _<_, _^_, _≡_, refl, sy
 use Rattle.refusals.specs.declared.{Refusal.Refusal, Refusal.the-variants.FirstBlock, Refusal.the-variants.BadSetup, Refusal.the-variants.DataTooLong, Place.Place}
 use Rattle.lines.specs.Blocks.{Block, blockFrom, blocksOf, lengthFrom, isPercent, textFrom}
 use Rattle.lines.{specs.Serving.blocksFrom, proofs.Lines.blocks-step, proofs.Lines.blocks-end, proofs.Lines.percent-end}
-use Rattle.lengths.specs.{declared.Point.Point, Near.Near}
+use Rattle.lengths.specs.{View.Within, declared.Point.Point, Near.Near}
 use Rattle.setup.specs.{declared.Bed.Bed, declared.Setup.Setup, Limits.validSetup, Frame.offset, Frame.bedOf, Frame.switchOn, Fair.Fair}
-use Rattle.setup.proofs.Valid.{valid-feed, valid-speed, start-inside}
 use Rattle.records.specs.{declared.Record.Record, Layout.roomOf, Layout.listBytes, Writing.movedBytes}
-use Rattle.settings.specs.{declared.State.State, Settings.firstState, Settings.firstModes}
+use Rattle.settings.specs.declared.State.{State}
 use Rattle.programs.specs.declared.{Programs.Programs, Scanned.Scanned, Verdict.Verdict}
 use Rattle.programs.specs.{Openings.Table, Openings.table, Openings.refusedAt, Openings.programsFrom, Found.subsOf, Found.tableBy, Found.tableOf, Places.Placed, Places.TablePlaced}
 use Rattle.programs.proofs.Places.{found-placed, main-placed, subs-placed, known-placed}
-use Rattle.blocks.{specs.Reach.Reachable, proofs.Nearness.inside-sums}
+use Rattle.blocks.proofs.Nearness.{inside-sums}
 use Rattle.runs.specs.{Walk.How, Walk.Outcome, Walk.nowhere, Walk.just, Serving.reportBy, declared.Budget.Budget, declared.Progress.Progress, declared.Report.Report}
 use Rattle.runs.specs.Run.{firstOf, runTable, runBlocks, outcome, recordsOf, answerOf, standingOf}
 use Rattle.interpreter.specs.{Owing.Owes, Serving.Opened, Serving.Gives, declared.Ending.Ending}
@@ -20,24 +19,15 @@ use Rattle.interpreter.proofs.Endings.{moved-length}
 use Rattle.programs.specs.declared.Verdict.the-variants as Verdict
 use Rattle.programs.specs.Answers as Answers
 use Rattle.runs.specs.Walk as Walk
+use Rattle.runs.proofs.Starting.{first-reached}
 
 module _ (s : Setup) (valid : validSetup s ≡ true) where
-  first-reachable : Reachable (bedOf s) (firstOf s)
-  unfolding bedOf firstOf firstState firstModes
-  first-reachable =
-      record {
-        at = start-inside s valid;
-        origin = omega arith;
-        feed = valid-feed s valid;
-        speed = valid-speed s valid;
-      }
-
   -- the first progress
   pub first-fits :
       {bed : Bed} {state : State} (room : ℕ) (budget : Budget) → bed ≡ bedOf s → state ≡ firstOf s
       → Fits bed room (record { state = state; next = 0; count = 0; budget = budget })
   first-fits room budget e f =
-      rw (e, f) (record { state = first-reachable; next = omega arith; count = omega arith })
+      rw (e, f) (record { state = first-reached s valid; next = omega arith; count = omega arith })
 
 module _ {l : List ℕ} {t : Programs} (o : Opened l t) where
   placed : TablePlaced l (table (t .main) (subsOf t))
@@ -70,8 +60,12 @@ module _ {l : List ℕ} {t : Programs} (o : Opened l t) where
 
 module _ {bed : Bed} {o : Outcome} {p : Progress} {was is : List ℕ} {e : Ending} (ran : Ran bed o p was is e) where
   -- the settings at the end can be told in machine units
-  pub main-sums : {by : Point} → Fair bed → by ≡ bed .offset → (Near (2 ^ 61) by) × (Near (2 ^ 61) (e .progress .state .at))
-  main-sums fair b = rw b (inside-sums bed fair (e .progress .state .at) (ran .fits .state .at))
+  pub main-sums :
+      {by : Point} → Fair bed → by ≡ bed .offset
+      → (Near (2 ^ 61) by) × (Near (2 ^ 61) (e .progress .state .at)) × (Within (2 ^ 61) (e .progress .state .kept .initial .v))
+  main-sums fair b =
+      let sums = inside-sums bed fair (e .progress .state .at) (ran .fits .state .at) in
+      rw b (sums .0, sums .1, omega (arith, ran .fits .state .kept .initial))
 
   pub main-gives :
       {u : Outcome} {by : Point} {r : Report} → bed .offset ≡ by → p .next ≡ 0 → p .count ≡ 0 → o ≡ u

@@ -10,9 +10,10 @@ use Rattle.blocks.specs.Reach.{Reachable}
 use Rattle.runs.specs.{Walk.How, Walk.ended, Walk.returned, Walk.unfinished, Run.firstOf, Run.outcome, Run.recordsOf, Run.answerBy, Run.answerOf, declared.Budget.Budget}
 use Rattle.claims.proofs.Turns.{run-holds}
 use Rattle.claims.specs.Blockwise.{notYet, more, recordsBy, outcomeSofar, jobFor, standAt, refusedAtOnce, firstBlocks}
-use Rattle.claims.proofs.Runs.{begun-cases, once-over, gives, suited, first-reached, block-keeps}
+use Rattle.claims.proofs.Runs.{begun-cases, once-over, gives, suited, block-keeps}
 use Rattle.promises.specs.ReadBack.{ReadsBack}
 use Rattle.runs.specs.Walk as Walk
+use Rattle.runs.proofs.Starting.{first-reached}
 
 -- ---- the records of a run: their numbers fit four bytes, and they fit the room
 

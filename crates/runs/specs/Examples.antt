@@ -1,15 +1,15 @@
 -- Document 01, "Numbers to try": the sample of seven blocks with its list, and small runs of which the answer is known,
--- under setup T. Document 02, #101: arcs by their radius, with their lists.
-use Rattle.terms.specs.Common.{ℕ, String, false, List, [], _∷_, ℤ, pos, negsuc}
+-- under setup T. Document 02, #101: arcs by their radius, with their lists; #102: holes after the first.
+use Rattle.terms.specs.Common.{ℕ, String, true, false, List, [], _∷_, _++_, ℤ, pos, negsuc}
 use Rattle.terms.specs.Terms.{bytes}
 use Rattle.lengths.specs.{Units.len, declared.Point.Point}
 use Rattle.refusals.specs.Answers.{NumberedAnswer, done, notFinished, refusedWith, reportOf}
 use Rattle.codes.specs.declared.Motion.the-variants.{G01}
-use Rattle.codes.specs.declared.{Plane.Plane, Plane.the-variants.G17, Plane.the-variants.G18, Unit.the-variants.Millimetre, Distance.the-variants.Incremental, Return.the-variants.ToInitial}
+use Rattle.codes.specs.declared.{Plane.Plane, Plane.the-variants.G17, Plane.the-variants.G18, Unit.the-variants.Millimetre, Distance.the-variants.Absolute, Distance.the-variants.Incremental, Return.the-variants.ToInitial}
 use Rattle.setup.specs.Examples.{setupT}
 use Rattle.records.specs.declared.{Arc.Arc, Record.Record}
-use Rattle.records.specs.declared.Record.the-variants.{RP, LN, AR, AL, SP, SO, EN}
-use Rattle.settings.specs.declared.State.{State}
+use Rattle.records.specs.declared.Record.the-variants.{RP, LN, AR, AL, DW, SP, SO, EN}
+use Rattle.settings.specs.{declared.Kept.Kept, declared.State.State, Settings.noneKept}
 use Rattle.runs.specs.{Run.answerOf, Run.recordsOf, declared.Budget.Budget, declared.Budget.the-variants.Whole, declared.Budget.the-variants.First}
 
 -- setup T's "list room 4,096 bytes"
@@ -45,6 +45,7 @@ tooFarSettings =
       feed = len (pos 7_000_000);
       speed = len (pos 5_000);
       turning = false;
+      kept = noneKept (len (pos 0));
     }
 
 pub record Row : Type 0 where
@@ -145,3 +146,68 @@ radiusArcs =
     ∷ AL (arc G18 (at (pos 1_500_000) (pos 0) (negsuc 1_499_999)) (negsuc 1_999_999) (pos 1_500_000)) ∷ EN ∷ [])
     (done 3)
     ∷ []
+
+-- ---- document 02, #102: holes after the first. In G55 a coordinate is the machine's, and all stands at Y 0.
+
+-- X in units, and below Y 0 a depth in units
+abbrev up : ℕ → Record
+up x = RP (at (pos x) (pos 0) (pos 0))
+
+abbrev down : ℕ → ℕ → Record
+down x less = RP (at (pos x) (pos 0) (negsuc less))
+
+abbrev cut : ℕ → ℕ → Record
+cut x less = LN (at (pos x) (pos 0) (negsuc less)) (len (pos 30_000_000))
+
+-- with the spindle on before, and the end after
+abbrev spun : List Record → List Record
+spun rs = SP (len (pos 5_000)) ∷ rs ++ EN ∷ []
+
+abbrev pub laterHoles : List Listed
+laterHoles =
+    -- Z is kept of a block with K0, and P of one that makes no pass
+    listed "%\nM03\nG55 G82 Z-2.0 K0\nP7\nX1.0\nM30\n"
+    (spun (up 100_000 ∷ up 100_000 ∷ cut 100_000 199_999 ∷ DW (len (pos 7)) ∷ up 100_000 ∷ [])) (done 7)
+    -- G00 ends what is kept
+    ∷ listed "%\nM03\nG55 G81 Z-2.0 K0\nG00\nG81 X1.0\nM30\n" (spun (up 100_000 ∷ [])) (done 3)
+    -- another cycle code ends the words, but not the initial level, to which G98 returns
+    ∷ listed "%\nM03\nG55 G99 G81 Z-2.0 R-1.0\nG98 G82 Z-2.0\nM30\n"
+    (spun (up 0 ∷ down 0 99_999 ∷ cut 0 199_999 ∷ down 0 99_999 ∷ down 0 99_999 ∷ up 0 ∷ cut 0 199_999 ∷ up 0 ∷ [])) (done 10)
+    ∷ listed "%\nM03\nG55 G82 Z-2.0 P5 K0\nG81 K0\nG82 Z-2.0\nM30\n" (spun (up 0 ∷ up 0 ∷ cut 0 199_999 ∷ up 0 ∷ [])) (done 6)
+    -- a kept Z keeps its unit
+    ∷ listed "%\nM03\nG55 G20 G81 Z-.1 K0\nG21 X1.0\nM30\n"
+    (spun (up 100_000 ∷ up 100_000 ∷ cut 100_000 253_999 ∷ up 100_000 ∷ [])) (done 6)
+    -- and its G90 or G91: the Z of G91 counts from the R of the block that drills
+    ∷ listed "%\nM03\nG55 G81 Z-2.0 R-1.0 K0\nG91 X1.0\nM30\n"
+    (spun (up 100_000 ∷ down 100_000 99_999 ∷ cut 100_000 199_999 ∷ up 100_000 ∷ [])) (done 6)
+    ∷ listed "%\nM03\nG55 G91 G81 Z-2.0 R-1.0 K0\nG90 R-2.0\nM30\n"
+    (spun (up 0 ∷ down 0 199_999 ∷ cut 0 399_999 ∷ up 0 ∷ [])) (done 6)
+    -- the first rapid of the second hole is at the Z where the tool stands, here R
+    ∷ listed "%\nM03\nG55 G99 G81 Z-2.0 R-1.0\nX1.0\nM30\n"
+    (spun (up 0 ∷ down 0 99_999 ∷ cut 0 199_999 ∷ down 0 99_999 ∷ down 100_000 99_999 ∷ down 100_000 99_999 ∷ cut 100_000 199_999 ∷ down 100_000 99_999 ∷ []))
+    (done 10)
+    ∷ []
+
+-- a plate of four holes, Z and R written once, and the same with all of it in each block
+abbrev pub plate : List ℕ
+plate = bytes "%\nM03\nG55 G81 X1.0 Y1.0 Z-2.0 R-1.0\nX2.0 Y1.0\nX2.0 Y2.0\nX1.0 Y2.0\nG80 M05\nM30\n"
+
+abbrev pub plateInFull : List ℕ
+plateInFull =
+    bytes
+    "%\nM03\nG55 G81 X1.0 Y1.0 Z-2.0 R-1.0\nG81 X2.0 Y1.0 Z-2.0 R-1.0\nG81 X2.0 Y2.0 Z-2.0 R-1.0\nG81 X1.0 Y2.0 Z-2.0 R-1.0\nG80 M05\nM30\n"
+
+-- a hole outside the travel, with another Z: the block before it keeps the Z that it has
+abbrev pub outsideHole : List ℕ
+outsideHole = bytes "%\nM03\nG55 G81 Z-2.0 K0\nX900.0 Z-3.0\nM30\n"
+
+abbrev pub outsideKept : Kept
+outsideKept =
+    record {
+      initial = len (pos 0);
+      z = len (negsuc 199_999);
+      r = len (pos 0);
+      dwell = len (pos 0);
+      stands = record { z = true; r = false; dwell = false };
+      under = record { z = Absolute; r = Absolute };
+    }

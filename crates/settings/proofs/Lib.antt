@@ -1,2 +1,4 @@
 pub mod Opened
 pub mod Near
+pub mod Keeping
+pub mod Starting

@@ -4,7 +4,7 @@ use Rattle.terms.specs.Terms.{if_then_else_}
 use Rattle.lengths.{specs.declared.Len.Len, specs.Units._⊕_, specs.View.Within, specs.declared.Point.Point, specs.Near.Near, proofs.Laws.sum-bal}
 use Rattle.codes.specs.declared.Distance.{Distance, the-variants.Absolute, the-variants.Incremental}
 use Rattle.words.specs.declared.{Given.Given, Values.Values}
-use Rattle.settings.specs.{Target.base, Target.aimed, Target.target, Bounds.Aims}
+use Rattle.settings.specs.{Settings.orElse, Target.base, Target.aimed, Target.target, Bounds.Aims}
 
 module _ {m : ℕ} (origin from : Len) (h : Within m (origin .v)) (k : Within m (from .v)) where
   pub base-near : (d : Distance) → Within m (base d origin from .v)
@@ -27,3 +27,8 @@ target-near d origin from v h =
       y = aimed-near {m = 1_100_000_000} (origin .y) (from .y) (omega arith) (omega arith) d (v .y) (h .y);
       z = aimed-near {m = 1_100_000_000} (origin .z) (from .z) (omega arith) (omega arith) d (v .z) (h .z);
     }
+
+-- a value that stands, or else one that held before
+pub or-else-near : (n : ℕ) (g : Given) (other : Len) → Within n (g .v .v) → Within n (other .v) → Within n (orElse g other .v)
+unfolding orElse
+or-else-near n g other h k = elim (g .stands) as (λ t. Within n ((if t then g .v else other) .v)) [ true ↦ h | false ↦ k ]

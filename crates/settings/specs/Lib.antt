@@ -1,3 +1,4 @@
 pub mod Settings
+pub mod CycleWords
 pub mod Target
 pub mod Bounds

@@ -1,18 +1,21 @@
 // The settings that hold from block to block. A block's new settings are made by one named function each.
+mod cycle_words;
+
 use codes::Code;
 use codes::Distance;
 use codes::Motion;
 use codes::Plane;
 use codes::Return;
 use codes::Unit;
+pub use cycle_words::kept_under;
 use lengths::Len;
 use lengths::Point;
 use words::Given;
 use words::Values;
 ghost use Rattle.terms.specs.Common.{_≡_, _^_};
-ghost use Rattle.lengths.specs.Near.{Near};
+ghost use Rattle.lengths.specs.{View.Within, Near.Near};
 ghost use Rattle.codes.specs.declared.Code.the-variants.{GroupA, GroupB, GroupC, GroupD, GroupE, GroupF};
-ghost use Rattle.settings.specs.{Settings.firstModes, Settings.firstState, Settings.stateMoved, Settings.switched, Settings.orElse, Target.base, Target.aimed};
+ghost use Rattle.settings.specs.{Settings.firstModes, Settings.firstState, Settings.keptMoved, Settings.stateMoved, Settings.switched, Settings.orElse, Target.base, Target.aimed};
 ghost use Rattle.settings.specs.Bounds.{Sized, Aims, Aimed};
 
 // The code that is on in each of the groups A to F; origin is the place in the table of origins, from 0.
@@ -25,6 +28,31 @@ pub struct Modes {
     pub back: Return,
 }
 
+// Which words of a cycle are kept.
+pub struct Stands {
+    pub z: bool,
+    pub r: bool,
+    pub dwell: bool,
+}
+
+// The G90 or G91 that the words of its two levels were written under.
+pub struct Under {
+    pub z: Distance,
+    pub r: Distance,
+}
+
+// What a cycle keeps: the initial level, which is the height before a cycle was switched on, in the frame of the common offset; and the
+// words of Z, R and P, in units and milliseconds, each 0 until it is written. Numbers stand before what is told of them, so that all of
+// it is small: it is copied with the settings from block to block.
+pub struct Kept {
+    pub initial: Len,
+    pub z: Len,
+    pub r: Len,
+    pub dwell: Len,
+    pub stands: Stands,
+    pub under: Under,
+}
+
 // The tool's point is kept in the frame of the common offset: the machine point less EXOFS.
 pub struct State {
     pub at: Point,
@@ -32,6 +60,7 @@ pub struct State {
     pub feed: Len,
     pub speed: Len,
     pub turning: bool,
+    pub kept: Kept,
 }
 
 fn first_modes() -> Modes
@@ -52,12 +81,14 @@ pub fn first_state(start: Point, feed: Len, speed: Len) -> State
     ensures { λ r. ⌜ r ≡ firstState start feed speed ⌝ }
 {
     let modes = first_modes();
+    let kept = cycle_words::none_kept(start.z);
     State {
         at: start,
         modes,
         feed,
         speed,
         turning: false,
+        kept,
     }
 }
 
@@ -210,12 +241,33 @@ pub fn target_point(d: Distance, origin: Point, from: Point, v: Values) -> Point
     }
 }
 
+// What a cycle keeps, in machine units: of it the initial level alone is a height.
+fn kept_moved(by: Len, k: Kept) -> Kept
+    requires { ⌜ (Within (2 ^ 61) (by .v)) × (Within (2 ^ 61) (k .initial .v)) ⌝ }
+    ensures { λ r. ⌜ r ≡ keptMoved by k ⌝ }
+{
+    let z = k.z;
+    let r = k.r;
+    let dwell = k.dwell;
+    let stands = k.stands;
+    let under = k.under;
+    Kept {
+        initial: k.initial.plus(by),
+        z,
+        r,
+        dwell,
+        stands,
+        under,
+    }
+}
+
 // The settings in machine units.
 pub fn state_moved(by: Point, s: State) -> State
-    requires { ⌜ (Near (2 ^ 61) by) × (Near (2 ^ 61) (s .at)) ⌝ }
+    requires { ⌜ (Near (2 ^ 61) by) × (Near (2 ^ 61) (s .at)) × (Within (2 ^ 61) (s .kept .initial .v)) ⌝ }
     ensures { λ r. ⌜ r ≡ stateMoved by s ⌝ }
 {
     let at = lengths::moved(by, s.at);
+    let kept = kept_moved(by.z, s.kept);
     let modes = s.modes;
     let feed = s.feed;
     let speed = s.speed;
@@ -225,5 +277,6 @@ pub fn state_moved(by: Point, s: State) -> State
         feed,
         speed,
         turning: s.turning,
+        kept,
     }
 }

@@ -138,7 +138,7 @@ module _ (h : Hole) (d : Distance) (origin : Point) (v : Values) where
   last-is : h .z .stands ≡ true → lastLevel h ≡ returnLevel h
   last-is e = rw e
 
-  -- each pass comes at the height where the tool is: the initial level first, and then where the pass before ended
+  -- each pass comes at the height where the tool is: where it stood first, and then where the pass before ended
   drill-passes :
       (k : ℕ) (level : Len) (p : Point) → (h .z .stands ≡ true → p .z ≡ level) → passesOf k (Drill h) next p ≡ passesAt k h next level p
   unfolding passesOf passesAt rowsOf atHeight
@@ -150,7 +150,7 @@ module _ (h : Hole) (d : Distance) (origin : Point) (v : Values) where
       ap₂ _++_ (rows-same level (p .z) q same)
       (ap (passesOf k (Drill h) next) here
       ∙ drill-passes k (returnLevel h) (atHeight q (lastLevel h)) last-is
-      ∙ same-place h d origin v k (returnLevel h) q (lastLevel h))
+      ∙ same-place h d origin v v k (returnLevel h) q (lastLevel h))
 
 module _ (cycle : Cycle) (named : Bool) (s : State) (origin : Point) (v : Values) {t : Bool} (is : t ≡ cycleDone named v) where
   pub cycle-rests : {w : Work} → not t ≡ true → w ≡ noWork true → Makes (motionOf (Drilling cycle) named s origin v) s origin v w
@@ -158,7 +158,7 @@ module _ (cycle : Cycle) (named : Bool) (s : State) (origin : Point) (v : Values
   cycle-rests e f = makes-none true f (let off : cycleDone named v ≡ false = sym is ∙ not-true t e in rw off)
 
   pub cycle-passes :
-      not t ≡ false → {h : Hole} {n : ℕ} {sound : Bool} → h ≡ holeOf cycle s origin v → Counts (v .k) n → sound ≡ levelsHold h
+      not t ≡ false → {h : Hole} {n : ℕ} {sound : Bool} → h ≡ holeOf cycle s origin → Counts (v .k) n → sound ≡ levelsHold h
       → Makes (motionOf (Drilling cycle) named s origin v) s origin v (record { pass = Drill h; passes = n; sound = sound })
   unfolding motionOf cycleMoves workRecords passes holeOf
   cycle-passes e {h} f c g =
@@ -166,7 +166,7 @@ module _ (cycle : Cycle) (named : Bool) (s : State) (origin : Point) (v : Values
       let d = s .modes .distance in
       rw (on, g, f, c .is)
       (record {
-        records = sym (drill-passes (holeOf cycle s origin v) d origin v (passCount (v .k)) (s .at .z) (s .at) (λ z. refl));
+        records = sym (drill-passes (holeOf cycle s origin) d origin v (passCount (v .k)) (s .at .z) (s .at) (λ z. refl));
         sound = refl;
         few = rw (c .is) at (c .few);
         from = tt;

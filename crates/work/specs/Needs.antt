@@ -5,7 +5,7 @@ use Rattle.codes.specs.declared.{Cycle.Cycle, Motion.the-variants.Drilling}
 use Rattle.words.specs.declared.Values.{Values}
 use Rattle.records.specs.{declared.Arc.Arc, declared.Record.Record, Path.pathOf, Displacing.Loose}
 use Rattle.records.specs.declared.Record.the-variants.{RP, LN, AR, AL, DW, SP, SO, PA, EN}
-use Rattle.settings.specs.{declared.State.State, Bounds.Aims, Target.target}
+use Rattle.settings.specs.{declared.State.State, Bounds.Aims, Bounds.KeptNear, Target.target}
 use Rattle.letters.specs.declared.BlockCode.{BlockCode, the-variants.Moving}
 use Rattle.arcs.specs.{Arcs.arcHolds, Staying.staysIn}
 use Rattle.blocks.specs.Motions.{Moves, centreWords, radiusFits, arcTo}
@@ -20,6 +20,7 @@ pub record Poised (s : State) (origin : Point) (v : Values) : Type 0 where
   pub aims : Aims origin (s .at) v
   pub words : Near 1_000_000_000 (centreWords v)
   pub radius : Within 1_000_000_000 (v .r .v .v)
+  pub kept : KeptNear (s .kept)
 
 -- what the radius of an arc is tested with: the R word, the start, and the end that the words lead to
 pub record Aiming (s : State) (v : Values) (end : Point) : Type 0 where

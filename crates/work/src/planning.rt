@@ -11,7 +11,7 @@ use records::Arc;
 use records::Record;
 use settings::State;
 use words::Values;
-ghost use Rattle.terms.specs.{Common._≡_, Common.Bool, Terms.if_then_else_};
+ghost use Rattle.terms.specs.{Common._≡_, Terms.if_then_else_};
 ghost use Rattle.settings.specs.{Target.target, Bounds.Aims};
 ghost use Rattle.codes.specs.declared.Motion.the-variants.{Drilling};
 ghost use Rattle.letters.specs.declared.BlockCode.the-variants.{Moving};
@@ -181,7 +181,7 @@ fn cycle_work(cycle: Cycle, named: bool, s: State, origin: Point, v: Values) -> 
     if !cycle_done(named, v) {
         return no_work(true);
     }
-    let h = cycles::hole_of(cycle, s, origin, v);
+    let h = cycles::hole_of(cycle, s, origin);
     Work {
         pass: Pass::Drill(h),
         passes: cycles::pass_count(v.k),

@@ -6,7 +6,7 @@ use Rattle.settings.proofs.state_moved.Tie as tie
 
 returns : tie.Need-returns
 unfolding stateMoved
-returns c = rw (c .before .before .before .moved .ensures .is)
+returns c = rw (c .before .before .before .before .moved .ensures .is, c .before .before .before .kept-moved .ensures)
 
 pub state-moved-spec : {M : Type 1} → statement M
-state-moved-spec = tie.close (tie.spec (λ c κs. search needs) returns)
+state-moved-spec = tie.close (tie.spec (λ c κs. search needs) (λ c κs. search needs) returns)

@@ -7,7 +7,7 @@ use Rattle.execution.proofs.effects.settled.Tie as tie
 
 returns : tie.Need-returns
 unfolding settledAt isM
-returns c = rw (c .before .misc-number .ensures)
+returns c = rw (c .before .before .misc-number .ensures)
 
 pub settled-spec : {M : Type 1} → statement M
 settled-spec = tie.close (tie.spec (λ c κs. search needs) returns)

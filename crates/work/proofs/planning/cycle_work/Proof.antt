@@ -9,7 +9,7 @@ returns c =
     cycle-rests (a .cycle) (a .named) (a .s) (a .origin) (a .v) (c .before .before .cycle-done .ensures) (c .before .if1 .taken) (c .no-work .ensures)
 
 hole-of-requires : tie.Need-hole-of-requires
-hole-of-requires c κs = record { aims = c .before .before .pre .0 .aims; r = c .before .before .pre .0 .radius }
+hole-of-requires c κs = record { height = c .before .before .pre .0 .aims .origin .z; kept = c .before .before .pre .0 .kept }
 
 pass-count-requires : tie.Need-pass-count-requires
 pass-count-requires c κs = c .before .before .before .pre .1 .k (c .before .before .before .args .cycle) refl
