@@ -1,5 +1,5 @@
 -- A block that is accepted has passed every test of the rules, so that it keeps what a run counts on. Assumes nothing.
-use Rattle.terms.proofs.Common.{ℕ, _≡_, refl, ap, _∙_, Bool, true, false, not, Option, none, some, List, [], _∷_, _++_, append-nil, arith, ltb, ltb-false, not-false}
+use Rattle.terms.proofs.Common.{ℕ, _≡_, refl, sym, ap, _∙_, Bool, true, false, not, Option, none, some, List, [], _∷_, _++_, append-nil, arith, ltb, ltb-false, not-false}
 use Rattle.terms.specs.Terms.{firstOf}
 use Rattle.refusals.specs.declared.Refusal.{Refusal, the-variants.BadParameter, the-variants.LeavesTravel, the-variants.NoRoom}
 use Rattle.words.specs.{declared.Word.Word, Words.Words, Words.these, Words.badAt, Words.wordsOf}
@@ -7,7 +7,7 @@ use Rattle.records.specs.{declared.Record.Record, Layout.roomOf, Path.pathStays
 use Rattle.setup.specs.{declared.Bed.Bed, Fair.Fair}
 use Rattle.settings.specs.declared.State.{State}
 use Rattle.letters.specs.Letters.{firstBadValue}
-use Rattle.blocks.specs.{declared.Said.Said, declared.Control.Control, Machine.machineOf, Reach.Reachable, Reach.Steady, Keeping.Keeps}
+use Rattle.blocks.specs.{declared.Said.Said, declared.Control.Control, Machine.Machine, Machine.machineOf, Reach.Reachable, Reach.Steady, Keeping.Keeps}
 use Rattle.blocks.specs.Exec.{Blame, Calls, accepted, saidBy, madeBy, settled, controlOf, atWord, atStart, blames, unless, judged, execWords, exec}
 use Rattle.blocks.proofs.{Meaning.meant, Making.made-short, Making.kept}
 
@@ -42,6 +42,23 @@ unfolding atStart
 start-none start refusal true e = let no : _≡_ {A = ℕ} 0 1 = cc in absurd (omega arith)
 start-none start refusal false e = refl
 
+-- an accepted block is blamed for nothing, and its verdict is the one of the rules
+pub judged-accepts :
+    (machine : Machine) (calls : Calls) (room : ℕ) (s : State) (start : ℕ) (ws : List Word) (b : Said)
+    {after : State} {control : Control} {done : List Record} → judged machine calls room s start ws b ≡ accepted after control done
+    → (firstOf (blames machine calls room s start ws b) ≡ none)
+    × (accepted after control done ≡ accepted (settled machine s b) (controlOf b) (madeBy machine s b))
+unfolding judged unless
+judged-accepts machine calls room s start ws b {after} {control} {done} = go (firstOf (blames machine calls room s start ws b)) refl
+  where
+    go :
+        (o : Option Blame) → firstOf (blames machine calls room s start ws b) ≡ o
+        → unless o (accepted (settled machine s b) (controlOf b) (madeBy machine s b)) ≡ accepted after control done
+        → (firstOf (blames machine calls room s start ws b) ≡ none)
+        × (accepted after control done ≡ accepted (settled machine s b) (controlOf b) (madeBy machine s b))
+    go none f g = (f, sym g)
+    go (some blame) f g = let no : _≡_ {A = ℕ} 0 1 = cc in absurd (omega arith)
+
 module _ (bed : Bed) (calls : Calls) (room : ℕ) (s : State) (start : ℕ) (fair : Fair bed) (state : Reachable bed s) where
   module _ (ws : List Word) where
     abbrev b : Said
@@ -70,18 +87,12 @@ module _ (bed : Bed) (calls : Calls) (room : ℕ) (s : State) (start : ℕ) (fai
     judged-kept :
         (after : State) (control : Control) (done : List Record)
         → judged (machineOf bed) calls room s start ws b ≡ accepted after control done → Keeps bed room s after done
-    unfolding judged unless
-    judged-kept after control done e = go (firstOf (blames (machineOf bed) calls room s start ws b)) refl e
-      where
-        go :
-            (o : Option Blame) → firstOf (blames (machineOf bed) calls room s start ws b) ≡ o
-            → unless o (accepted (settled (machineOf bed) s b) (controlOf b) made) ≡ accepted after control done
-            → Keeps bed room s after done
-        go none f g =
-            let same : after ≡ settled (machineOf bed) s b = cc in
-            let all : done ≡ made = cc in
-            rw (same, all) (keeps f)
-        go (some blame) f g = let no : _≡_ {A = ℕ} 0 1 = cc in absurd (omega arith)
+    judged-kept after control done e =
+        let h = judged-accepts (machineOf bed) calls room s start ws b e in
+        let is = h .1 in
+        let same : after ≡ settled (machineOf bed) s b = cc in
+        let all : done ≡ made = cc in
+        rw (same, all) (keeps (h .0))
 
   words-kept :
       (words : Words) (after : State) (control : Control) (done : List Record)

@@ -31,7 +31,7 @@ no-s plane letter e = go (eqb letter 83) refl
         z
 
 -- a test of the words that none fails
-none-first :
+pub none-first :
     {A : Type 0} (test : A → Bool) (a : A) (l : List A) → first test (a ∷ l) ≡ none → (test a ≡ false) × (first test l ≡ none)
 unfolding first
 none-first test a l e = go (test a) e

@@ -1,7 +1,7 @@
 -- Document 02, #102, "Holes after the first": a block that names a cycle with Z and R, and then blocks of X and Y, give the records of
 -- blocks that name all of it each. So it is in G90 and in G91, under G98 and under G99, with every cycle. Assumes nothing.
-use Rattle.terms.proofs.Common.{ℕ, _-_, _≡_, refl, sym, _∙_, ap, Bool, true, false, not, _&&_, Option, none, some, List, [], _∷_, map, arith}
-use Rattle.terms.specs.Terms.{byte, any, first, firstOf, lookup, if_then_else_}
+use Rattle.terms.proofs.Common.{ℕ, _-_, _≡_, refl, sym, _∙_, ap, Bool, true, false, not, _&&_, none, some, List, [], _∷_, map, arith, eq-eqb}
+use Rattle.terms.specs.Terms.{byte, any, first, firstOf, lookup}
 use Rattle.refusals.specs.declared.Refusal.the-variants.{BadParameter}
 use Rattle.lengths.specs.{declared.Len.Len, declared.Point.Point, Points.atHeight}
 use Rattle.codes.specs.Codes.{groupOf, isGroupA, isG04, clash, miscNumber, isM, cycleNumber}
@@ -17,15 +17,12 @@ use Rattle.letters.specs.Letters.{drillingLetters, motionLetters, lettersOf, us
 use Rattle.letters.specs.declared.BlockCode.{BlockCode, the-variants.Moving}
 use Rattle.blocks.specs.{Machine.Machine, declared.Said.Said, declared.Control.Control, Motions.cycleDone, Motions.cycleMoves, Motions.motionOf, Motions.movesOf}
 use Rattle.blocks.specs.Exec.{Blame, Calls, inMain, saidBy, keptBy, working, spindleRecords, movesIn, madeBy, settled, controlOf, callTo, lacksCentre, lacksParameter, drills, cannotDrill, atWord, blames, Verdict, refused, accepted, unless, judged, execWords}
-use Rattle.blocks.proofs.Accepting.{all-none, word-none}
+use Rattle.blocks.proofs.{Accepting.all-none, Accepting.word-none, Accepting.judged-accepts, Calling.none-first}
 use Rattle.claims.specs.Plate.{word, Naming, Spot, placed, inFull, Came, cameBy, cameTo}
 
 same-code : (cycle : Cycle) → sameCycle cycle cycle ≡ true
-unfolding sameCycle cycleNumber
-same-code G81 = refl
-same-code G82 = refl
-same-code G85 = refl
-same-code G89 = refl
+unfolding sameCycle
+same-code cycle = eq-eqb (cycleNumber cycle) (cycleNumber cycle) refl
 
 -- what changes from hole to hole
 record Ground : Type 0 where
@@ -53,25 +50,12 @@ module _ (machine : Machine) (calls : Calls) (room : ℕ) (s : State) (ws : List
   by-acceptance :
       {next : State} {control : Control} {made : List Record} → judged machine calls room s 0 ws b ≡ accepted next control made
       → (firstBadValue (machine .speeds) (b .modes) (b .code) ws ≡ none) × (next ≡ settled machine s b)
-  unfolding judged unless blames
-  by-acceptance {next} {control} {made} e = go (firstOf (blames machine calls room s 0 ws b)) refl e
-    where
-      go :
-          (o : Option Blame) → firstOf (blames machine calls room s 0 ws b) ≡ o
-          → unless o (accepted (settled machine s b) (controlOf b) (madeBy machine s b)) ≡ accepted next control made
-          → (firstBadValue (machine .speeds) (b .modes) (b .code) ws ≡ none) × (next ≡ settled machine s b)
-      go none f g =
-          let passed = all-none (blames machine calls room s 0 ws b) f in
-          (word-none BadParameter (firstBadValue (machine .speeds) (b .modes) (b .code) ws) (passed .1 .1 .0), cc)
-      go (some blame) f g = let no : _≡_ {A = ℕ} 0 1 = cc in absurd (omega arith)
-
-none-of : (test : Word → Bool) (w : Word) (ws : List Word) → first test (w ∷ ws) ≡ none → (test w ≡ false) × (first test ws ≡ none)
-unfolding first
-none-of test w ws e = go (test w) refl e
-  where
-    go : (t : Bool) → test w ≡ t → (if t then some w else first test ws) ≡ none → (test w ≡ false) × (first test ws ≡ none)
-    go true f g = let no : _≡_ {A = ℕ} 0 1 = cc in absurd (omega arith)
-    go false f g = (f, g)
+  unfolding blames
+  by-acceptance e =
+      let h = judged-accepts machine calls room s 0 ws b e in
+      let is = h .1 in
+      let passed = all-none (blames machine calls room s 0 ws b) (h .0) in
+      (word-none BadParameter (firstBadValue (machine .speeds) (b .modes) (b .code) ws) (passed .1 .1 .0), cc)
 
 fit-of : (v : Value) → isBad v ≡ false → (l : Len) × (v ≡ Fit l)
 unfolding isBad
@@ -390,11 +374,11 @@ module _ (machine : Machine) (calls : Calls) (cycle : Cycle) (n : Naming) (is : 
         let test : Word → Bool = λ w. isBad (wordValue (machine .speeds) (drilling m₀) code w) in
         let zw = word (byte "Z") (n .z) in
         let rs = word (byte "R") (n .r) in
-        let after-g = none-of test (word (byte "G") (n .g)) (word (byte "X") (p .x) ∷ word (byte "Y") (p .y) ∷ zw ∷ rs ∷ []) values .1 in
-        let after-x = none-of test (word (byte "X") (p .x)) (word (byte "Y") (p .y) ∷ zw ∷ rs ∷ []) after-g .1 in
-        let after-y = none-of test (word (byte "Y") (p .y)) (zw ∷ rs ∷ []) after-x .1 in
-        let z-fine = none-of test zw (rs ∷ []) after-y in
-        (z-fine .0, none-of test rs [] (z-fine .1) .0, h .1)
+        let after-g = none-first test (word (byte "G") (n .g)) (word (byte "X") (p .x) ∷ word (byte "Y") (p .y) ∷ zw ∷ rs ∷ []) values .1 in
+        let after-x = none-first test (word (byte "X") (p .x)) (word (byte "Y") (p .y) ∷ zw ∷ rs ∷ []) after-g .1 in
+        let after-y = none-first test (word (byte "Y") (p .y)) (zw ∷ rs ∷ []) after-x .1 in
+        let z-fine = none-first test zw (rs ∷ []) after-y in
+        (z-fine .0, none-first test rs [] (z-fine .1) .0, h .1)
 
     pub holes-after-the-first :
         cameTo machine calls room before (inFull n p ∷ map placed spots) ≡ cameTo machine calls room before (inFull n p ∷ map (inFull n) spots)

@@ -14,7 +14,7 @@ use Rattle.settings.specs.declared.State.{State}
 use Rattle.blocks.{specs.Machine.Machine, specs.Machine.machineOf, specs.Reach.Reachable, specs.declared.Said.Said, specs.declared.Control.Control, proofs.Meaning.meant, proofs.Making.made-fits}
 use Rattle.blocks.specs.declared.Control.the-variants.{On, Call, Back, Stop}
 use Rattle.blocks.specs.Exec.{Blame, Calls, Verdict, refused, accepted, saidBy, movesIn, madeBy, settled, controlOf, inMain, callTo, unknownCall, lacksParameter, cannotDrill, atWord, tooDeep, atStart, blames, unless, judged, execWords, exec, callsIn}
-use Rattle.blocks.proofs.Accepting.{AllNone, none-before, all-none, past-all, word-none, start-none}
+use Rattle.blocks.proofs.Accepting.{AllNone, none-before, all-none, past-all, word-none, start-none, judged-accepts}
 use Rattle.lines.specs.Blocks.{Block}
 use Rattle.runs.specs.Walk.{Job, slashLength, verdictOn}
 use Rattle.claims.specs.{Blockwise.Stand, Blockwise.levels, Blockwise.verdictIn, Answers.blockNumbers, Answers.numberedIn}
@@ -58,29 +58,19 @@ exec-accepts :
     (machine : Machine) (calls : Calls) (room : ℕ) (s : State) (start at : ℕ) (text : List ℕ)
     {t : State} {c : Control} {made : List Record}
     → exec machine calls room s start at text ≡ accepted t c made → Accepts machine calls room s start at text t c made
-unfolding exec execWords judged unless blames
+unfolding exec execWords blames
 exec-accepts machine calls room s start at text {t} {c} {made} = go (wordsOf at text) refl
   where
-    by :
-        (ws : List Word) → wordsOf at text ≡ these ws → (o : Option Blame)
-        → firstOf (blames machine calls room s start ws (saidBy machine (s .modes) ws)) ≡ o
-        → unless o
-        (accepted (settled machine s (saidBy machine (s .modes) ws)) (controlOf (saidBy machine (s .modes) ws))
-        (madeBy machine s (saidBy machine (s .modes) ws)))
-        ≡ accepted t c made
-        → Accepts machine calls room s start at text t c made
-    by ws r none n e =
-        let b : Said = saidBy machine (s .modes) ws in
-        let last : List (Option Blame) = lastBlames machine room (s .at) start (madeBy machine s b) in
-        let p = none-before (firstBlames machine calls s start ws b) last n in
-        record { ws = ws; read = r; first = p .0; last = all-none last (p .1); is = sym e }
-    by ws r (some blame) n e = let z : _≡_ {A = ℕ} 0 1 = cc in absurd (omega arith)
-
     go :
         (w : Words) → wordsOf at text ≡ w → execWords machine calls room s start w ≡ accepted t c made
         → Accepts machine calls room s start at text t c made
     go (badAt bad) r e = let z : _≡_ {A = ℕ} 0 1 = cc in absurd (omega arith)
-    go (these ws) r e = by ws r (firstOf (blames machine calls room s start ws (saidBy machine (s .modes) ws))) refl e
+    go (these ws) r e =
+        let b : Said = saidBy machine (s .modes) ws in
+        let last : List (Option Blame) = lastBlames machine room (s .at) start (madeBy machine s b) in
+        let h = judged-accepts machine calls room s start ws b e in
+        let p = none-before (firstBlames machine calls s start ws b) last (h .0) in
+        record { ws = ws; read = r; first = p .0; last = all-none last (p .1); is = h .1 }
 
 -- the same of a block of the run
 pub accepts :

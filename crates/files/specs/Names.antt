@@ -1,6 +1,6 @@
 -- Which file a name stands for, and what becomes of it where a command wants to write there.
-use Rattle.terms.specs.Common.{ℕ, _+_, _/_, _%_, _≡_, Bool, not, _&&_, _||_, List, [], _∷_, _++_, eqb, length, take}
-use Rattle.libc.specs.Io.{Ended}
+use Rattle.terms.specs.Common.{ℕ, _+_, _/_, _%_, _≤_, _≡_, Bool, false, not, ℤ, pos, _&&_, _||_, List, [], _∷_, _++_, eqb, length, take}
+use Rattle.libc.specs.{Io.Ended, declared.types.stat.stat}
 use Rattle.terms.specs.Terms.{if_then_else_}
 use Rattle.files.specs.declared.{Named.Named, Fate.Fate}
 use Rattle.files.specs.declared.Fate.the-variants.{New, Old, Read, Link, Folder, Special, Locked, Unknown}
@@ -27,6 +27,30 @@ fateOf out first second =
     else if out .link then Link
     else if not (out .there) then missingFate (out .missing)
     else kindFate (out .mode / 4096 % 16) (out .locked)
+
+-- what the system said of a file, told of its name: a file that is there is not missing
+unfoldable pub namedOf : stat → Bool → Bool → ℤ → Bool → Bool → Named
+namedOf file there absent error link locked =
+    record {
+      device = file .«st_dev»;
+      number = file .«st_ino»;
+      mode = file .«st_mode»;
+      error = error;
+      there = there;
+      missing = not there && absent;
+      link = link;
+      locked = locked;
+    }
+
+-- a name of 4,096 bytes and more, which the system is not asked about: error 36
+abbrev pub tooLong : Named
+tooLong =
+    record { device = 0; number = 0; mode = 0; error = pos 36; there = false; missing = false; link = false; locked = false }
+
+-- what is told of a name of so many bytes; what the system says of it is not modelled
+pub record NamedBy (bytes : ℕ) (named : Named) : Type 0 where
+  pub long : 4_096 ≤ bytes → named ≡ tooLong
+  pub missing : named .missing ≡ (not (named .there) && named .missing)
 
 -- a name as the system is handed it: its bytes and a 0 after them, in an array that has a 0 at its end
 pub record Spelt (name array : List ℕ) : Type 0 where

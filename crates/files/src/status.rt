@@ -7,9 +7,9 @@ use libc::PATH_MAX;
 use libc::W_OK;
 use libc::types::stat;
 use libc::types::timespec;
-ghost use Rattle.terms.specs.Common.{_<_, length};
+ghost use Rattle.terms.specs.Common.{_≡_, _<_, not, _&&_, length};
 ghost use Rattle.libc.specs.Io.{Ended, Status};
-ghost use Rattle.files.specs.Names.{Spelt};
+ghost use Rattle.files.specs.Names.{namedOf, NamedBy, Spelt};
 
 // The system's answer, 0 where it is fine, and what it says of the file.
 struct Told {
@@ -18,7 +18,9 @@ struct Told {
 }
 
 // What the system says of a name. One that is too long leads nowhere.
-pub fn named_by(path: &[u8]) -> Named {
+pub fn named_by(path: &[u8]) -> Named
+    ensures { λ r. ⌜ NamedBy (length (now (path .entry))) r ⌝ }
+{
     if PATH_MAX <= path.len() {
         return Named {
             device: 0,
@@ -36,6 +38,7 @@ pub fn named_by(path: &[u8]) -> Named {
 
 fn asked_of(path: [u8; PATH_MAX]) -> Named
     requires { ⌜ Ended path ⌝ }
+    ensures { λ r. ⌜ r .missing ≡ (not (r .there) && r .missing) ⌝ }
 {
     let told = told_of(&path, blank());
     let error = os::errno();
@@ -44,13 +47,20 @@ fn asked_of(path: [u8; PATH_MAX]) -> Named
     let locked = libc::access(&path, W_OK) != 0;
     let mut text = [0u8; 1];
     let link = libc::readlink(&path, &mut text) >= 0;
+    named_of(file, there, error == ENOENT, error, link, locked)
+}
+
+// What the system said of a file, told of its name; `absent` tells that it found nothing of that name.
+fn named_of(file: stat, there: bool, absent: bool, error: i32, link: bool, locked: bool) -> Named
+    ensures { λ r. ⌜ r ≡ namedOf file there absent error link locked ⌝ }
+{
     Named {
         device: file.st_dev,
         number: file.st_ino,
         mode: file.st_mode,
         error,
         there,
-        missing: !there & (error == ENOENT),
+        missing: !there & absent,
         link,
         locked,
     }

@@ -168,6 +168,11 @@ laterHoles =
     -- Z is kept of a block with K0, and P of one that makes no pass
     listed "%\nM03\nG55 G82 Z-2.0 K0\nP7\nX1.0\nM30\n"
     (spun (up 100_000 ∷ up 100_000 ∷ cut 100_000 199_999 ∷ DW (len (pos 7)) ∷ up 100_000 ∷ [])) (done 7)
+    -- the P of G04 is not the cycle's, and M05, G18 and M03 end nothing
+    ∷ listed "%\nM03\nG55 G82 Z-2.0 P5 K0\nG04 P9\nM05\nG18\nG17 M03 X1.0\nM30\n"
+    (spun
+    (DW (len (pos 9)) ∷ SO ∷ SP (len (pos 5_000)) ∷ up 100_000 ∷ up 100_000 ∷ cut 100_000 199_999 ∷ DW (len (pos 5)) ∷ up 100_000 ∷ []))
+    (done 10)
     -- G00 ends what is kept
     ∷ listed "%\nM03\nG55 G81 Z-2.0 K0\nG00\nG81 X1.0\nM30\n" (spun (up 100_000 ∷ [])) (done 3)
     -- another cycle code ends the words, but not the initial level, to which G98 returns
