@@ -1,5 +1,7 @@
 // A run's answer: printed, with what a refusal means and where it stands. Each function answers whether all of it was
 // written: after a write that fails nothing more is tried.
+#![tactic(auto)]
+
 mod listings;
 mod meanings;
 mod places;
@@ -15,7 +17,7 @@ use settings::State;
 use standings::show_state;
 
 // How the printing of a whole list ended: at its end, at a place where no record can be read, or at a write that failed.
-#[derive(Drop)]
+#[derive(Clone, Copy)]
 pub enum Shown {
     Whole,
     Faulty(usize),

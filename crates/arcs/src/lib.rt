@@ -1,4 +1,6 @@
 // Arcs: the root of the radius and the end's tolerance. The rules stand in specs/, those of the path among them.
+#![tactic(auto)]
+
 mod staying;
 
 ghost use Rattle.terms.specs.Common.{◌≡◌, ◌&&◌, ◌*◌, ◌^◌, ◌≤◌};

@@ -1,6 +1,8 @@
 // Runs the data on standard input under setup T, as many times as the argument says and each time into the same buffer, and
 // prints one line: that number, the blocks that a run executes, and the records that it makes. The time of a block is
 // measured from outside, by two numbers of runs, so that all that is done once is taken off.
+#![tactic(auto)]
+
 use libc::{STDERR_FILENO, STDIN_FILENO, STDOUT_FILENO};
 use refusals::Answer;
 use texts::Digits;

@@ -1,4 +1,6 @@
 // What one block does.
+#![tactic(auto)]
+
 use codes::Misc;
 use letters::BlockCode;
 use refusals::Refusal;
@@ -7,7 +9,7 @@ use words::Values;
 
 // What the words of a block say: the modes that hold in it, its code, whether it names the code that is on of group A, its
 // M code and its values.
-#[derive(Drop)]
+#[derive(Clone, Copy)]
 pub struct Said {
     pub modes: Modes,
     pub code: BlockCode,
@@ -17,7 +19,7 @@ pub struct Said {
 }
 
 // Where a run goes after a block: on, into a subprogram by its number, back from one, or to its end.
-#[derive(Drop)]
+#[derive(Clone, Copy)]
 pub enum Control {
     On,
     Call(u64),
@@ -27,7 +29,7 @@ pub enum Control {
 
 // An accepted block: the settings after it, where the run goes, the place in the list after its records and their count, and
 // the place of the next block in the data.
-#[derive(Drop)]
+#[derive(Clone, Copy)]
 pub struct Done {
     pub state: State,
     pub control: Control,
@@ -37,7 +39,7 @@ pub struct Done {
 }
 
 // What a block comes to: a refusal with the byte that it names, or its acceptance.
-#[derive(Drop)]
+#[derive(Clone, Copy)]
 pub enum Executed {
     Refused(Refusal, usize),
     Accepted(Done),

@@ -1,5 +1,7 @@
 // Runs the cases that come on standard input, one after the other, and prints for each the records and then the answer. How
 // a case is written, `case_text` says. What is no case ends the run by `bad case`. The input has to be shorter than 1 MiB.
+#![tactic(auto)]
+
 mod case_text;
 
 ghost use Rattle.terms.specs.Common.{◌≤◌, length};
@@ -13,14 +15,14 @@ use setup::Setup;
 use texts::Digits;
 
 // A word as a count, and the place after it.
-#[derive(Drop)]
+#[derive(Clone, Copy)]
 pub struct Counted {
     pub count: Digits,
     pub next: usize,
 }
 
 // A case's parts, the places where its data begin and end among them. They are of use only where the case stands.
-#[derive(Drop)]
+#[derive(Clone, Copy)]
 pub struct Case {
     pub setup: Setup,
     pub blocks: Digits,

@@ -1,4 +1,6 @@
 // The centre of an arc that is given by its radius. The rules stand in specs/.
+#![tactic(auto)]
+
 ghost use Rattle.terms.specs.Common.{◌≡◌, ℕ, ◌≤◌, ◌+ℤ◌};
 ghost use Rattle.lengths.specs.{Units.len, Near.FlatNear};
 ghost use Rattle.arcs.specs.Arcs.{distance²};

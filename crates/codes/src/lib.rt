@@ -1,9 +1,10 @@
 // The codes of document 01, "Codes": what a G or an M number means.
+#![tactic(auto)]
 
 ghost use Rattle.terms.specs.Common.{◌≡◌};
 ghost use Rattle.codes.specs.Codes.{code_of, misc_of, group_of, misc_number, cycle_number};
 
-#[derive(Drop)]
+#[derive(Clone, Copy)]
 pub enum Cycle {
     G81,
     G82,
@@ -12,7 +13,7 @@ pub enum Cycle {
 }
 
 // Group A. Off is what G80 leaves, and what a run starts with.
-#[derive(Drop)]
+#[derive(Clone, Copy)]
 pub enum Motion {
     Off,
     G00,
@@ -23,7 +24,7 @@ pub enum Motion {
 }
 
 // Group B.
-#[derive(Drop)]
+#[derive(Clone, Copy)]
 pub enum Plane {
     G17,
     G18,
@@ -31,28 +32,28 @@ pub enum Plane {
 }
 
 // Group C: G20 and G21.
-#[derive(Drop)]
+#[derive(Clone, Copy)]
 pub enum Unit {
     Inch,
     Millimetre,
 }
 
 // Group D: G90 and G91.
-#[derive(Drop)]
+#[derive(Clone, Copy)]
 pub enum Distance {
     Absolute,
     Incremental,
 }
 
 // Group F: G98 and G99, where a cycle's passes end.
-#[derive(Drop)]
+#[derive(Clone, Copy)]
 pub enum Return {
     ToInitial,
     ToR,
 }
 
 // A G number: its group, and in it its meaning. Group E is the place in the table of origins, from 0.
-#[derive(Drop)]
+#[derive(Clone, Copy)]
 pub enum Code {
     GroupA(Motion),
     GroupB(Plane),
@@ -65,7 +66,7 @@ pub enum Code {
 }
 
 // An M number.
-#[derive(Drop)]
+#[derive(Clone, Copy)]
 pub enum Misc {
     M00,
     M02,

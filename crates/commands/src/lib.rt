@@ -1,4 +1,6 @@
 // The words of a command, each ended by a byte 0, and the options among them.
+#![tactic(auto)]
+
 mod options;
 
 ghost use Rattle.terms.specs.Common.{◌≡◌, ◌+◌, ◌≤◌, length, drop};

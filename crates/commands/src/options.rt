@@ -10,7 +10,7 @@ use texts::{Digits, is_word};
 
 // All blocks are run where it is whole, and else the first so many. It is roomy where no room was given. The words from the
 // next one on are not read yet.
-#[derive(Drop)]
+#[derive(Clone, Copy)]
 pub struct Options {
     pub fine: bool,
     pub listed: bool,

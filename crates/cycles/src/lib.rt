@@ -1,4 +1,5 @@
 // Cycles: the levels of a hole and its passes. All passes of a block are tested before a byte of them is written.
+#![tactic(auto)]
 
 ghost use Rattle.terms.specs.Common.{◌≡◌, ◌<◌, [], ◌∷◌, ◌++◌, length};
 ghost use Rattle.lengths.specs.View.{Within};
@@ -14,7 +15,7 @@ use settings::{Kept, State};
 use words::Given;
 
 // A record of a pass: a rapid, a cut or a dwell.
-#[derive(Drop)]
+#[derive(Clone, Copy)]
 pub enum Row {
     Rapid(Point),
     Cut(Point, Len),
@@ -23,7 +24,7 @@ pub enum Row {
 
 // What a cycle does at each pass. The levels are heights in the frame of the common offset: the initial level that is held, the height
 // where the tool stood before the block, and those of R and Z; z and dwell are missing where no Z and no P is kept.
-#[derive(Drop)]
+#[derive(Clone, Copy)]
 pub struct Hole {
     pub cycle: Cycle,
     pub back: Return,

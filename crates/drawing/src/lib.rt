@@ -1,4 +1,6 @@
 // A record list drawn as SVG text, in units: the path seen from above and from the side, under a setup.
+#![tactic(auto)]
+
 mod layers;
 mod picture;
 
@@ -6,7 +8,7 @@ use lengths::Point;
 pub use picture::draw;
 
 // The travel and the start in machine units, and the gap around and between the views.
-#[derive(Drop)]
+#[derive(Clone, Copy)]
 pub struct Sheet {
     pub low: Point,
     pub high: Point,
@@ -15,7 +17,7 @@ pub struct Sheet {
 }
 
 // The bytes written; no room for them and one more; the place of a record that cannot be read; a setup that breaks a limit.
-#[derive(Drop)]
+#[derive(Clone, Copy)]
 pub enum Drawn {
     Is(usize),
     NoRoom,

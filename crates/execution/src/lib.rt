@@ -1,4 +1,6 @@
 // One block, from its words to its verdict and its records.
+#![tactic(auto)]
+
 mod block_reading;
 mod checking;
 mod effects;
@@ -18,21 +20,21 @@ use setup::Bed;
 use work::{Aim, Brief, Extent, Work};
 
 // What a block stands on: the bed, and the levels left for calls.
-#[derive(Drop)]
+#[derive(Clone, Copy)]
 pub struct Ground {
     pub bed: Bed,
     pub left: usize,
 }
 
 // Where a block stands in the data: its first byte, and the byte where its words begin.
-#[derive(Drop)]
+#[derive(Clone, Copy)]
 pub struct Spot {
     pub start: usize,
     pub from: usize,
 }
 
 // What is read of a block's words: a refusal with the byte that it names, or what they say, and where the block's text ends.
-#[derive(Drop)]
+#[derive(Clone, Copy)]
 pub enum BlockRead {
     Refused(Refusal, usize),
     Says(Said, usize),
@@ -40,7 +42,7 @@ pub enum BlockRead {
 
 // A block whose motion is planned: where the run goes, the settings in which it moves, what its words lead by, and its records: that of
 // the spindle, those of the motion, and that of the M code.
-#[derive(Drop)]
+#[derive(Clone, Copy)]
 pub struct Planned {
     pub control: Control,
     pub works: State,
@@ -51,7 +53,7 @@ pub struct Planned {
 }
 
 // What the test of a planned block comes to: a refusal, or what all its records come to.
-#[derive(Drop)]
+#[derive(Clone, Copy)]
 pub enum Checked {
     Refused(Refusal),
     Comes(Extent),

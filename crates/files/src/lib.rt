@@ -1,4 +1,6 @@
 // Files read and written whole, and the names under which a command may write.
+#![tactic(auto)]
+
 mod buffers;
 mod messages;
 mod names;
@@ -16,7 +18,7 @@ pub use write_files::write_whole;
 
 // What the system says of a name. Device, number and mode are those of the file that the name leads to, links followed, and
 // mean something only where one is there.
-#[derive(Drop)]
+#[derive(Clone, Copy)]
 pub struct Named {
     pub device: u64,
     pub number: u64,
@@ -32,7 +34,7 @@ pub struct Named {
 }
 
 // What becomes of a name under which a command wants to write.
-#[derive(Drop)]
+#[derive(Clone, Copy)]
 pub enum Fate {
     New,
     Old,

@@ -5,7 +5,7 @@ use crate::status::named_by;
 use crate::{Fate, Named};
 
 // Where a command may write: whether it may at all, and if so whether a file stands there, whose rights the new one gets.
-#[derive(Drop)]
+#[derive(Clone, Copy)]
 pub struct Spot {
     pub mode: u32,
     pub fine: bool,

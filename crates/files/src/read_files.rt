@@ -6,7 +6,7 @@ ghost use Rattle.io.specs.Counts.{IsPrefixLen};
 use crate::messages::{begin_line, complain_why};
 
 // How many bytes were read to the start of the buffer, and whether all went well.
-#[derive(Drop)]
+#[derive(Clone, Copy)]
 pub struct Got {
     pub fine: bool,
     pub count: usize,

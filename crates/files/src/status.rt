@@ -9,7 +9,7 @@ use libc::types::{stat, timespec};
 use libc::{ENAMETOOLONG, ENOENT, PATH_MAX, W_OK};
 
 // The system's answer, 0 where it is fine, and what it says of the file.
-#[derive(Drop)]
+#[derive(Clone, Copy)]
 struct Told {
     pub answer: i32,
     pub file: stat,

@@ -5,7 +5,7 @@ use crate::part_names::part_name;
 use crate::placing::Spot;
 
 // Whether calls that were just made went well, and the system's error where one did not.
-#[derive(Drop)]
+#[derive(Clone, Copy)]
 struct Ending {
     pub well: bool,
     pub error: i32,

@@ -1,4 +1,6 @@
 // Running a data set under a setup.
+#![tactic(auto)]
+
 mod reporting;
 mod walk;
 
@@ -17,7 +19,7 @@ use runs::{Budget, Progress, Report, Standing};
 use setup::{Bed, Setup};
 
 // What stays as it is while a data set runs.
-#[derive(Drop)]
+#[derive(Clone, Copy)]
 pub struct Task {
     pub bed: Bed,
     pub programs: Programs,
@@ -25,7 +27,7 @@ pub struct Task {
 }
 
 // How the walk through a program ends: at the program's end, by a return, by the budget's end, or by a refusal.
-#[derive(Drop)]
+#[derive(Clone, Copy)]
 pub enum How {
     Ended,
     Returned,
@@ -35,7 +37,7 @@ pub enum How {
 
 // The ending of a walk: how, at which place (of the block that is not executed any more, or that which a refusal names), and the
 // progress that it leaves.
-#[derive(Drop)]
+#[derive(Clone, Copy)]
 pub struct Ending {
     pub how: How,
     pub place: Place,
@@ -43,7 +45,7 @@ pub struct Ending {
 }
 
 // What a block does that does not lead to the next one: it calls the subprogram of a number, or the walk is over.
-#[derive(Drop)]
+#[derive(Clone, Copy)]
 pub enum Turn {
     Calls(u64),
     Over(How),
@@ -51,7 +53,7 @@ pub enum Turn {
 
 // How far a walk comes that follows no call: what its last block does, the place of that block, the byte where the walk goes on after a
 // call or that a refusal names, and the progress before that block and after it.
-#[derive(Drop)]
+#[derive(Clone, Copy)]
 pub struct Leg {
     pub turn: Turn,
     pub place: Place,

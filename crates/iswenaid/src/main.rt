@@ -1,11 +1,13 @@
 // The program for the shops: its arguments are a command.
+#![tactic(auto)]
+
 ghost use Rattle.terms.specs.Common.{◌≡◌, ◌≤◌, length};
 ghost use Rattle.io.specs.Counts.{IsPrefixLen};
 
 use libc::STDERR_FILENO;
 
 // The words of a command at the start of a buffer, or that they do not fit.
-#[derive(Drop)]
+#[derive(Clone, Copy)]
 struct Gathered {
     pub fits: bool,
     pub count: usize,

@@ -1,5 +1,7 @@
 // Signed whole numbers in units of 0.00001 mm, the only place where a raw i64 is added. A number is wrapped so that a
 // caller's proof speaks of its contract and not of the bits of an i64.
+#![tactic(auto)]
+
 mod points;
 
 ghost use Rattle.terms.specs.Common.{◌≡◌, ◌+◌, ◌<◌, ◌^◌, le_z, lt_z};
@@ -8,7 +10,7 @@ ghost use Rattle.lengths.specs.{Units.len, Units.sq, Units.halved, Units.fits_fo
 
 pub use points::{at_height, in_plane, is_inside, moved, moved_back};
 
-#[derive(Drop)]
+#[derive(Clone, Copy)]
 pub struct Len {
     pub v: i64,
 }
@@ -152,7 +154,7 @@ impl Len {
 }
 
 // Points of the machine, one length for each axis. Another axis is added here.
-#[derive(Drop)]
+#[derive(Clone, Copy)]
 pub struct Point {
     pub x: Len,
     pub y: Len,
@@ -160,14 +162,14 @@ pub struct Point {
 }
 
 // A point or a direction in a plane, by the plane's first and second axis.
-#[derive(Drop)]
+#[derive(Clone, Copy)]
 pub struct Flat {
     pub first: Len,
     pub second: Len,
 }
 
 // The box that the tool may not leave.
-#[derive(Drop)]
+#[derive(Clone, Copy)]
 pub struct Travel {
     pub low: Point,
     pub high: Point,

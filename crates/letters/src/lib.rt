@@ -1,4 +1,6 @@
 // Which words may stand in a block and what they mean there.
+#![tactic(auto)]
+
 mod judgement;
 
 ghost use Rattle.words.specs.declared.Use.TheVariants as Use;
@@ -13,7 +15,7 @@ use lengths::Len;
 use words::{Use, Values};
 
 // The code of a block that decides its letters.
-#[derive(Drop)]
+#[derive(Clone, Copy)]
 pub enum BlockCode {
     Calling,
     Returning,
@@ -22,7 +24,7 @@ pub enum BlockCode {
 }
 
 // The spindle speeds of the setup, the lowest and the highest.
-#[derive(Drop)]
+#[derive(Clone, Copy)]
 pub struct Speeds {
     pub lowest: Len,
     pub highest: Len,
@@ -30,7 +32,7 @@ pub struct Speeds {
 
 // What the words of a block come to: their values, or the place of the first word that the block's code does not use, or
 // else of the first whose value is refused.
-#[derive(Drop)]
+#[derive(Clone, Copy)]
 pub enum Judged {
     Fine(Values),
     Unused(usize),

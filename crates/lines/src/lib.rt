@@ -1,4 +1,6 @@
 // The blocks of a data set, found by their places.
+#![tactic(auto)]
+
 mod gaps;
 
 ghost use Rattle.terms.specs.Common.{◌≡◌, false, ◌+◌, ◌≤◌, ◌<◌, length, drop};
@@ -7,7 +9,7 @@ ghost use Rattle.lines.specs.Blocks.{no_text, text_from, length_from, begins_wit
 pub use gaps::{comment_end, only_gaps};
 
 // What follows an opening parenthesis: the place after the closing one, or none in the block.
-#[derive(Drop)]
+#[derive(Clone, Copy)]
 pub enum Comment {
     Closed(usize),
     Open,

@@ -1,4 +1,6 @@
 // The list that a run leaves for a file: the run with a part of a buffer as its room, and where its records end there.
+#![tactic(auto)]
+
 ghost use Rattle.terms.specs.Common.{◌≡◌, ◌≤◌, length};
 ghost use Rattle.interpreter.specs.Owing.{Owes};
 ghost use Rattle.list_files.specs.Lists.{budget_of, Makes, is_written};
@@ -9,7 +11,7 @@ use runs::{Report, Standing};
 use setup::Setup;
 
 // The answer of a run, where it stands, and where its records end in the buffer.
-#[derive(Drop)]
+#[derive(Clone, Copy)]
 pub struct Made {
     pub answer: Answer,
     pub standing: Standing,

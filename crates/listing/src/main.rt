@@ -1,5 +1,7 @@
 // Document 01's listing: runs the data on standard input under setup T, with room for 4,096 bytes of records, and prints the
 // records and then the answer.
+#![tactic(auto)]
+
 use libc::STDIN_FILENO;
 
 // The buffer holds one byte more than data may have, so that longer data is refused and not cut.

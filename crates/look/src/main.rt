@@ -2,6 +2,8 @@
 // openings give, or the opening that is refused, and then a line for each block after the first, with the values of its
 // words or the refusal that they get by themselves. Blocks are read one after the other, each as one of the main program,
 // so that a block's codes hold for the next; none is executed. The skip switch is off, and the speeds are 3000 to 8000.
+#![tactic(auto)]
+
 ghost use Rattle.terms.specs.Common.{◌≡◌, ◌≤◌, ◌<◌, false, pos, List, length, get_or, take};
 ghost use Rattle.words.specs.{declared.Word.Word, Packed.words_in};
 ghost use Rattle.lengths.specs.Units.{len};

@@ -1,4 +1,6 @@
 // The programs of a data set: its openings, and the table of subprograms.
+#![tactic(auto)]
+
 mod openings;
 
 ghost use Rattle.terms.specs.Common.{◌≡◌, true, ◌+◌, ◌≤◌, ◌<◌, length, drop};
@@ -9,7 +11,7 @@ pub use openings::{find_callee, find_programs};
 use refusals::{Place, Refusal};
 
 // A program of the data: its number, and the block and byte that follow its opening.
-#[derive(Drop)]
+#[derive(Clone, Copy)]
 pub struct Program {
     pub number: u64,
     pub block: usize,
@@ -17,56 +19,56 @@ pub struct Program {
 }
 
 // The main program, and the subprograms in the order of their openings. The main's number is 0 where it has no opening.
-#[derive(Drop)]
+#[derive(Clone, Copy)]
 pub struct Programs {
     pub main: Program,
     pub count: usize,
     pub subs: [Program; 10],
 }
 
-#[derive(Drop)]
+#[derive(Clone, Copy)]
 pub enum Verdict {
     Fine,
     Refused(Refusal, Place),
 }
 
 // What the openings give; the programs are of use only where the verdict is fine.
-#[derive(Drop)]
+#[derive(Clone, Copy)]
 pub struct Scanned {
     pub verdict: Verdict,
     pub programs: Programs,
 }
 
 // The digits of an opening: how many there are, nine for more than eight, and their value.
-#[derive(Drop)]
+#[derive(Clone, Copy)]
 pub struct Digits {
     pub count: usize,
     pub value: u64,
 }
 
 // An opening's number, or a form that is none.
-#[derive(Drop)]
+#[derive(Clone, Copy)]
 pub enum Opening {
     Number(u64),
     Bad,
 }
 
 // What the opening of a subprogram leads to: its number enters the table, or it is refused.
-#[derive(Drop)]
+#[derive(Clone, Copy)]
 pub enum Entry {
     Enters(u64),
     Refuses(Refusal),
 }
 
 // What a call leads to: a subprogram, or a refusal.
-#[derive(Drop)]
+#[derive(Clone, Copy)]
 pub enum Callee {
     Found(Program),
     Refused(Refusal),
 }
 
 // What a call of a number finds.
-#[derive(Drop)]
+#[derive(Clone, Copy)]
 pub enum Found {
     At(Program),
     Missing,

@@ -1,4 +1,6 @@
 // The tests of one word in a block, refusal 4, and the readable item at a place of its text.
+#![tactic(auto)]
+
 mod gathering;
 
 ghost use Rattle.terms.specs.Common.{◌≡◌, Bool, true, false, List, ◌+◌, ◌≤◌, ◌<◌, length, drop, get_or};
@@ -16,7 +18,7 @@ use words::{Numbered, Word};
 
 // What begins at a place of a block: a blank or a comment, or a word, each with the place after it; or what is refused,
 // being unreadable.
-#[derive(Drop)]
+#[derive(Clone, Copy)]
 pub enum Item {
     Gap(usize),
     Says(Word, usize),
@@ -24,7 +26,7 @@ pub enum Item {
 }
 
 // How the reading of a block ends: as words that may all stand, or with a refusal, 15 or 4, and the byte that it names.
-#[derive(Drop)]
+#[derive(Clone, Copy)]
 pub enum Status {
     Fine,
     Refused(Refusal, usize),
@@ -32,7 +34,7 @@ pub enum Status {
 
 // What is kept of the words that were read: which letters of the alphabet and which groups of codes stood, the M code, and
 // the modes that hold.
-#[derive(Drop)]
+#[derive(Clone, Copy)]
 pub struct Seen {
     pub letters: [bool; 26],
     pub groups: [bool; 8],
@@ -41,7 +43,7 @@ pub struct Seen {
 }
 
 // What a word is after those that were read: it may not stand, or it is a code, an M code or a word with a value.
-#[derive(Drop)]
+#[derive(Clone, Copy)]
 pub enum Role {
     MayNot,
     Code(Code),
@@ -51,7 +53,7 @@ pub enum Role {
 
 // What the reading of a block answers. Where the status is fine, `count` words with a value stand in the arrays that were
 // lent, in their order, and `end` is where the block's text ends.
-#[derive(Drop)]
+#[derive(Clone, Copy)]
 pub struct Reading {
     pub status: Status,
     pub seen: Seen,

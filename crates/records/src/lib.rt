@@ -1,4 +1,6 @@
 // The record list that the motor card and the viewer read.
+#![tactic(auto)]
+
 mod displacing;
 mod kinds;
 mod leading;
@@ -14,7 +16,7 @@ pub use loading::read;
 pub use storing::{put, put_cut, put_mark, put_rapid, put_single};
 
 // What AR and AL hold: the plane, the end, the centre by the plane's first and second axis, and the feed.
-#[derive(Drop)]
+#[derive(Clone, Copy)]
 pub struct Arc {
     pub plane: Plane,
     pub end: Point,
@@ -24,7 +26,7 @@ pub struct Arc {
 }
 
 // The records, by their marks.
-#[derive(Drop)]
+#[derive(Clone, Copy)]
 pub enum Record {
     RP(Point),
     LN(Point, Len),
@@ -38,7 +40,7 @@ pub enum Record {
 }
 
 // A record's mark without what the record holds.
-#[derive(Drop)]
+#[derive(Clone, Copy)]
 pub enum Kind {
     RP,
     LN,
@@ -52,7 +54,7 @@ pub enum Kind {
 }
 
 // What a reader refuses, in this order.
-#[derive(Drop)]
+#[derive(Clone, Copy)]
 pub enum Fault {
     UnknownMark,
     CutShort,
@@ -60,7 +62,7 @@ pub enum Fault {
 }
 
 // What reading at a place finds: a record and the place after it, the list's end, or a fault with its mark's place.
-#[derive(Drop)]
+#[derive(Clone, Copy)]
 pub enum Listed {
     Next(Record, usize),
     End,
@@ -68,14 +70,14 @@ pub enum Listed {
 }
 
 // A kind by its mark, or none.
-#[derive(Drop)]
+#[derive(Clone, Copy)]
 pub enum KindFound {
     Mark(Kind),
     NoMark,
 }
 
 // A plane by its byte, or none.
-#[derive(Drop)]
+#[derive(Clone, Copy)]
 pub enum PlaneFound {
     Byte(Plane),
     NoByte,

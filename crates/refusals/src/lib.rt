@@ -1,8 +1,10 @@
 // The sixteen refusals of document 01's table, in its order, the place that a refusal names, and what a run answers.
+#![tactic(auto)]
+
 ghost use Rattle.terms.specs.Common.{◌≡◌};
 ghost use Rattle.refusals.specs.{Numbers.number_of, Answers.count_of};
 
-#[derive(Drop)]
+#[derive(Clone, Copy)]
 pub enum Refusal {
     BadParameter,
     AddressUndefined,
@@ -23,14 +25,14 @@ pub enum Refusal {
 }
 
 // Blocks count from 1, bytes from 0; both are 0 where the data is not to blame.
-#[derive(Drop)]
+#[derive(Clone, Copy)]
 pub struct Place {
     pub block: usize,
     pub byte: usize,
 }
 
 // What a run answers, with the count of the records that stand in the list.
-#[derive(Drop)]
+#[derive(Clone, Copy)]
 pub enum Answer {
     Done(usize),
     Unfinished(usize),

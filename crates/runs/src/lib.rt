@@ -1,4 +1,6 @@
 // The run of a data set, as rules; its budget, its progress from block to block, and what it tells before any block.
+#![tactic(auto)]
+
 ghost use Rattle.terms.specs.Common.{◌≡◌, true, false, ◌+◌, ◌<◌, ◌^◌};
 ghost use Rattle.setup.specs.{Limits.valid_setup, Frame.offset};
 ghost use Rattle.runs.specs.{Walk.is_spent, Walk.one_less, Walk.just, Walk.refused_at, Run.first_of, Serving.progress_by, Serving.report_by};
@@ -9,7 +11,7 @@ use settings::State;
 use setup::Setup;
 
 // How much is run: the whole, or the first n executed blocks.
-#[derive(Drop)]
+#[derive(Clone, Copy)]
 pub enum Budget {
     Whole,
     First(u64),
@@ -36,14 +38,14 @@ pub fn one_less(b: Budget) -> Budget
 }
 
 // Where a run stands: its settings, the point in machine units, and, while it is not finished, the place of the next block.
-#[derive(Drop)]
+#[derive(Clone, Copy)]
 pub struct Standing {
     pub state: State,
     pub next: Place,
 }
 
 // What a run tells its caller: its answer, where it stands, and how many bytes of the list its records take.
-#[derive(Drop)]
+#[derive(Clone, Copy)]
 pub struct Report {
     pub answer: Answer,
     pub standing: Standing,
@@ -52,7 +54,7 @@ pub struct Report {
 
 // What changes from block to block: the settings, the place in the list after the records, their count, and the blocks that
 // may still be executed.
-#[derive(Drop)]
+#[derive(Clone, Copy)]
 pub struct Progress {
     pub state: State,
     pub next: usize,

@@ -1,4 +1,6 @@
 // The settings that hold from block to block. A block's new settings are made by one named function each.
+#![tactic(auto)]
+
 mod cycle_words;
 
 ghost use Rattle.terms.specs.Common.{◌≡◌, ◌^◌};
@@ -13,7 +15,7 @@ use lengths::{Len, Point};
 use words::{Given, Values};
 
 // The code that is on in each of the groups A to F; origin is the place in the table of origins, from 0.
-#[derive(Drop)]
+#[derive(Clone, Copy)]
 pub struct Modes {
     pub motion: Motion,
     pub plane: Plane,
@@ -24,7 +26,7 @@ pub struct Modes {
 }
 
 // Which words of a cycle are kept.
-#[derive(Drop)]
+#[derive(Clone, Copy)]
 pub struct Stands {
     pub z: bool,
     pub r: bool,
@@ -32,7 +34,7 @@ pub struct Stands {
 }
 
 // The G90 or G91 that the words of its two levels were written under.
-#[derive(Drop)]
+#[derive(Clone, Copy)]
 pub struct Under {
     pub z: Distance,
     pub r: Distance,
@@ -41,7 +43,7 @@ pub struct Under {
 // What a cycle keeps: the initial level, which is the height before a cycle was switched on, in the frame of the common offset; and the
 // words of Z, R and P, in units and milliseconds, each 0 until it is written. Numbers stand before what is told of them, so that all of
 // it is small: it is copied with the settings from block to block.
-#[derive(Drop)]
+#[derive(Clone, Copy)]
 pub struct Kept {
     pub initial: Len,
     pub z: Len,
@@ -52,7 +54,7 @@ pub struct Kept {
 }
 
 // The tool's point is kept in the frame of the common offset: the machine point less EXOFS.
-#[derive(Drop)]
+#[derive(Clone, Copy)]
 pub struct State {
     pub at: Point,
     pub modes: Modes,

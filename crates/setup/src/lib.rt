@@ -1,4 +1,6 @@
 // The setup of a machine: its 35 numbers, in document 01's order, whatever they are.
+#![tactic(auto)]
+
 mod faults;
 mod numbers_to_try;
 
@@ -17,14 +19,14 @@ pub const TRAVEL_LIMIT: u64 = 100_000_000;
 pub const OFFSET_LIMIT: u64 = 1_000_000_000;
 
 // One number for each axis.
-#[derive(Drop)]
+#[derive(Clone, Copy)]
 pub struct Axes {
     pub x: i64,
     pub y: i64,
     pub z: i64,
 }
 
-#[derive(Drop)]
+#[derive(Clone, Copy)]
 pub struct Setup {
     pub low: Axes,
     pub high: Axes,
@@ -39,7 +41,7 @@ pub struct Setup {
 }
 
 // The machine's bed as a block sees it: the setup's lengths in the frame of the common offset.
-#[derive(Drop)]
+#[derive(Clone, Copy)]
 pub struct Bed {
     pub offset: Point,
     pub travel: Travel,
@@ -48,7 +50,7 @@ pub struct Bed {
     pub highest: Len,
 }
 
-#[derive(Drop)]
+#[derive(Clone, Copy)]
 pub enum Axis {
     X,
     Y,
@@ -57,14 +59,14 @@ pub enum Axis {
 
 // What a length is measured to: the common offset, or a workpiece origin by its place in the table, from 0 for G54 to 5 for
 // G59.
-#[derive(Drop)]
+#[derive(Clone, Copy)]
 pub enum Offset {
     Common,
     Origin(usize),
 }
 
 // The limit that is broken, and on which axis; or none.
-#[derive(Drop)]
+#[derive(Clone, Copy)]
 pub enum Fault {
     None,
     TravelOrder(Axis),

@@ -1,4 +1,6 @@
 // Setup files: a text of 35 numbers, with names before them or without, read as a setup.
+#![tactic(auto)]
+
 ghost use Rattle.terms.specs.Common.{◌≡◌, ◌+◌, ◌≤◌, ◌<◌, [], length, get_or};
 ghost use Rattle.texts.specs.Texts.{next};
 ghost use Rattle.setups.specs.Setups.{names, name_of, plan, is_named, name_at, number_at, entry_at, ended, axes_of, setup_of, refused, answered, setup_in};
@@ -9,7 +11,7 @@ use texts::{Worth, Wrong};
 
 // What a setup file gives: the setup, or what is wrong and the place of the word at fault. The setup is of use only where
 // nothing is wrong.
-#[derive(Drop)]
+#[derive(Clone, Copy)]
 pub struct Reading {
     pub wrong: Wrong,
     pub at: usize,
@@ -17,14 +19,14 @@ pub struct Reading {
 }
 
 // The place after a name, or what stands there instead of it.
-#[derive(Drop)]
+#[derive(Clone, Copy)]
 pub enum Passed {
     To(usize),
     Not(Wrong, usize),
 }
 
 // A number and the place after it, or what stands there instead of it.
-#[derive(Drop)]
+#[derive(Clone, Copy)]
 pub enum Entry {
     Is(Len, usize),
     Bad(Wrong, usize),

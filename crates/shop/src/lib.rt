@@ -1,4 +1,6 @@
 // The commands of the program for the shops.
+#![tactic(auto)]
+
 mod limits;
 mod plotting;
 mod running;
@@ -18,14 +20,14 @@ use setup::{Fault, Setup};
 use setup_files::setup_in;
 
 // A setup is of use only where all is fine. Else a line has said what is wrong.
-#[derive(Drop)]
+#[derive(Clone, Copy)]
 pub struct Known {
     pub fine: bool,
     pub setup: Setup,
 }
 
 // What the first word asks for.
-#[derive(Drop)]
+#[derive(Clone, Copy)]
 pub enum Asked {
     Run,
     Show,

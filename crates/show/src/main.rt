@@ -1,6 +1,8 @@
 // Prints the records of a list that comes on standard input, one to a line: the mark, then its numbers in layout order,
 // with one space between. The last line is `end`, or what the reader refuses and the place of its mark. A list has to be
 // shorter than 1 MiB.
+#![tactic(auto)]
+
 use libc::{STDIN_FILENO, STDOUT_FILENO};
 
 fn main() {

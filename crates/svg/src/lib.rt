@@ -1,4 +1,6 @@
 // Shapes as SVG text, in units: numbers in the blanks of a text, and lines and arcs as they are seen from above or from the side.
+#![tactic(auto)]
+
 mod arc_text;
 mod forms;
 mod quarters;
@@ -12,7 +14,7 @@ pub use views::{put_line, seen};
 
 // An arc as it is seen: from where, the point at which it begins, whether it turns left, the directions from its centre to its
 // start and to its end, and its radius.
-#[derive(Drop)]
+#[derive(Clone, Copy)]
 pub struct SeenArc {
     pub view: View,
     pub from: Point,
@@ -24,7 +26,7 @@ pub struct SeenArc {
 }
 
 // From where a path is seen: X to the right, and Y up from above, Z up from the side.
-#[derive(Drop)]
+#[derive(Clone, Copy)]
 pub enum View {
     Above,
     Side,

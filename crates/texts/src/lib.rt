@@ -1,4 +1,6 @@
 // The words of a text, apart by blanks and comments, and what one is worth as a number.
+#![tactic(auto)]
+
 ghost use Rattle.std.proofs.Math.Seq.{slice};
 ghost use Rattle.terms.specs.Common.{◌≡◌, ◌+◌, ◌^◌, ◌≤◌, ◌<◌, length};
 ghost use Rattle.words.specs.declared.Sign.TheVariants.{Plain, Minus};
@@ -9,7 +11,7 @@ use lengths::Len;
 use words::Sign;
 
 // What is wrong with a setup file.
-#[derive(Drop)]
+#[derive(Clone, Copy)]
 pub enum Wrong {
     Nothing,
     NoNumber,
@@ -20,21 +22,21 @@ pub enum Wrong {
 }
 
 // A byte between words, with a comment open after it or not; or the first of a word.
-#[derive(Drop)]
+#[derive(Clone, Copy)]
 pub enum Space {
     Gap(bool),
     Word,
 }
 
 // The digits of a number as one whole number, or bytes that are no such digits.
-#[derive(Drop)]
+#[derive(Clone, Copy)]
 pub enum Digits {
     Are(u64),
     Others,
 }
 
 // What a word is worth as a number.
-#[derive(Drop)]
+#[derive(Clone, Copy)]
 pub enum Worth {
     Fit(Len),
     Unfit(Wrong),

@@ -1,5 +1,7 @@
 // Commands for the shops' program that come on standard input, one to a line, words with one blank between. Each is printed
 // after `$ ` and done, wrong uses being told on standard output; `print FILE` prints a file's bytes.
+#![tactic(auto)]
+
 ghost use Rattle.terms.specs.Common.{◌≤◌, ◌<◌, length};
 ghost use Rattle.io.specs.Counts.{IsPrefixLen};
 

@@ -1,14 +1,16 @@
 // Numbers past 64 bits, as two words: a product of two numbers of 64 bits, and its division by a third.
+#![tactic(auto)]
+
 ghost use Rattle.terms.specs.Common.{◌≡◌, ◌*◌, ◌^◌, ◌≤◌, ◌<◌};
 ghost use Rattle.wide.specs.Wide.{worth, Divides};
 
-#[derive(Drop)]
+#[derive(Clone, Copy)]
 pub struct Wide {
     pub high: u64,
     pub low: u64,
 }
 
-#[derive(Drop)]
+#[derive(Clone, Copy)]
 pub struct Division {
     pub quotient: u64,
     pub rest: u64,

@@ -1,4 +1,6 @@
 // Words of a block: a capital letter and, directly after, a number.
+#![tactic(auto)]
+
 mod numerals;
 
 ghost use Rattle.terms.specs.Common.{◌≡◌, ◌^◌, ◌≤◌, ◌<◌, not, ◌&&◌, pos, length, lt_z};
@@ -12,7 +14,7 @@ use lengths::Len;
 pub use numerals::{read_number, sign_length, sign_of};
 
 // The sign that a number is written with.
-#[derive(Drop)]
+#[derive(Clone, Copy)]
 pub enum Sign {
     Plain,
     Plus,
@@ -21,7 +23,7 @@ pub enum Sign {
 
 // A number as it is written: its digits as one whole number, and how many of them stand after the point. The large fields
 // come first, here and in a word, so that less padding is copied with the rest.
-#[derive(Drop)]
+#[derive(Clone, Copy)]
 pub struct Number {
     pub digits: u64,
     pub decimals: u64,
@@ -30,14 +32,14 @@ pub struct Number {
 }
 
 // What the number reader finds: a number and how many bytes it takes, or nothing that is a number.
-#[derive(Drop)]
+#[derive(Clone, Copy)]
 pub enum Numbered {
     Is(Number, usize),
     Unreadable,
 }
 
 // A word and the place of its letter, a byte of the data.
-#[derive(Drop)]
+#[derive(Clone, Copy)]
 pub struct Word {
     pub at: usize,
     pub number: Number,
@@ -45,7 +47,7 @@ pub struct Word {
 }
 
 // What a letter means in a block, which decides the form and the limits of its number.
-#[derive(Drop)]
+#[derive(Clone, Copy)]
 pub enum Use {
     Nothing,
     Codes,
@@ -59,21 +61,21 @@ pub enum Use {
 }
 
 // The value of a letter's word, and whether the word stands in the block at all; where it does not, the value is 0.
-#[derive(Drop)]
+#[derive(Clone, Copy)]
 pub struct Given {
     pub stands: bool,
     pub v: Len,
 }
 
 // The value that a number has for a use, or none.
-#[derive(Drop)]
+#[derive(Clone, Copy)]
 pub enum Value {
     Fit(Len),
     Bad,
 }
 
 // The values of a block's words, by their letters.
-#[derive(Drop)]
+#[derive(Clone, Copy)]
 pub struct Values {
     pub x: Given,
     pub y: Given,

@@ -1,4 +1,6 @@
 // What a block makes by its motion: so many passes of the same few records, tested as a whole and then written.
+#![tactic(auto)]
+
 mod planning;
 mod testing;
 mod writing;
@@ -13,14 +15,14 @@ use words::Values;
 pub use writing::{put_brief, put_work};
 
 // The records of one pass: one that is known, or those of a hole.
-#[derive(Drop)]
+#[derive(Clone, Copy)]
 pub enum Pass {
     One(Record),
     Drill(Hole),
 }
 
 // What a block makes by its motion, and whether its geometry holds. Records are in the frame of the common offset.
-#[derive(Drop)]
+#[derive(Clone, Copy)]
 pub struct Work {
     pub pass: Pass,
     pub passes: u64,
@@ -28,7 +30,7 @@ pub struct Work {
 }
 
 // The record before the motion or after it, where there is one: of the spindle or of the M code.
-#[derive(Drop)]
+#[derive(Clone, Copy)]
 pub enum Brief {
     Speed(Len),
     SpindleOff,
@@ -38,7 +40,7 @@ pub enum Brief {
 }
 
 // What the words of a block lead by: how they are counted, the origin, and their values.
-#[derive(Drop)]
+#[derive(Clone, Copy)]
 pub struct Aim {
     pub distance: Distance,
     pub origin: Point,
@@ -46,7 +48,7 @@ pub struct Aim {
 }
 
 // What records come to: the point where they end, their bytes in the list, and how many they are.
-#[derive(Drop)]
+#[derive(Clone, Copy)]
 pub struct Extent {
     pub end: Point,
     pub room: usize,
@@ -54,7 +56,7 @@ pub struct Extent {
 }
 
 // Where records lead: to what they come to, or out of the travel.
-#[derive(Drop)]
+#[derive(Clone, Copy)]
 pub enum Way {
     Ends(Extent),
     Leaves,
