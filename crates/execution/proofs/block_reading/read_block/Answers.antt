@@ -1,0 +1,34 @@
+-- `execution::block_reading::read_block` meets its contract: refused as it is read, or judged.
+use Rattle.terms.proofs.Common.{◌≡◌, sym, ◌∙◌, List, eqb}
+use Rattle.words.specs.{declared.Word.Word, Packed.words_in}
+use Rattle.reading.specs.{Items.words_at, Whole.status_of, Whole.Kept}
+use Rattle.execution.proofs.{Found.Reads, Found.all_stand, Found.reading_refused, Found.block_read_as}
+use Rattle.reading.specs.declared.Status.TheVariants as status
+use Rattle.execution.proofs.block_reading.read_block.Goals as goal
+
+-- the words that the reader left in the arrays
+abbrev held : tie.After-read-words → List Word
+held c = words_in c.read-words.new.1.1.1.1.0 c.read-words.new.1.1.1.1.1.0
+
+fine : (c : goal.In-Fine) → let a = c.args in status.Fine ≡ status_of (eqb a.left 4) (words_at a.s.now a.from)
+fine c = sym c.in-Fine.is ∙ c.read_words-read.ensures.status
+
+words : (c : goal.In-Fine) → let a = c.args in Reads (words_at a.s.now a.from)
+words c = let a = c.args in all_stand (eqb a.left 4) (words_at a.s.now a.from) (fine c)
+
+whole : (c : goal.In-Fine) → let a = c.args in Kept a.state.modes a.s.now a.from (words c).ws (held c) c.read_words-read.result
+whole c = c.read_words-read.ensures.kept c.in-Fine.is (words c).ws (words c).are
+
+pub judge_words-requires : goal.judge_words-requires
+judge_words-requires c = (whole c).stored
+
+pub returns-in-Refused : goal.returns-in-Refused
+returns-in-Refused c =
+    let a = c.args in
+    reading_refused a.bed a.left a.state a.s.now a.from _ _ (sym c.in-Refused.is ∙ c.read_words-read.ensures.status)
+
+pub returns-in-Fine : goal.returns-in-Fine
+returns-in-Fine c =
+    let a = c.args in
+    block_read_as a.bed a.left a.state a.s.now a.from (words c).ws (words c).are (fine c) (whole c) c.requires.1.0 c.requires.1.1
+    c.judge_words.result c.judge_words.ensures

@@ -1,0 +1,11 @@
+-- `execution::effects::spindle_record` meets its contract.
+use Rattle.execution.proofs.{Small.spindle_one, Small.spindle_none}
+use Rattle.execution.proofs.effects.spindle_record.Goals as goal
+
+pub returns-then-s-b : goal.returns-then-s-b
+returns-then-s-b c =
+    spindle_one c.args.s c.args.b c.misc_number.ensures c.requires c.if-s-b.true
+
+pub returns-then-s-b : goal.returns
+returns c =
+    spindle_none c.args.s c.args.b c.misc_number.ensures c.if-s-b.false

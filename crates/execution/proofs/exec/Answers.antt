@@ -1,0 +1,26 @@
+-- `execution::exec` meets its contract: what is read of the block is refused, or check-blocked.
+use Rattle.terms.proofs.Common.{◌∙◌}
+use Rattle.execution.specs.BlockReading.{BlockSays}
+use Rattle.execution.proofs.{Verdicts.does_refused, Verdicts.does_as}
+use Rattle.execution.proofs.exec.Goals as goal
+
+-- what the block says
+says : (c : goal.In-Says) → let a = c.args in BlockSays a.ground.bed a.ground.left a.state a.s.now a.spot.from c.in-Says.said c.in-Says.end
+says c = rw c.in-Says.is at c.read_block-found.ensures
+
+pub next_block-after-requires : goal.next_block-after-requires
+next_block-after-requires c = (says c).inside
+
+pub check_block-requires : goal.check_block-requires
+check_block-requires c = (c.requires.1.0, (says c).steady)
+
+pub returns-in-Refused : goal.returns-in-Refused
+returns-in-Refused c =
+    let a = c.args in
+    does_refused _ _ ((rw c.in-Refused.is at c.read_block-found.ensures) _ a.spot.start)
+
+pub returns-in-Says : goal.returns-in-Says
+returns-in-Says c =
+    let a = c.args in
+    let h = says c in
+    does_as (h.goes _ a.spot.start) (rw (c.next_block-after.ensures ∙ h.block) at (c.check_block.ensures a.ground.left h.ws))

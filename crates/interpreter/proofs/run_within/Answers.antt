@@ -1,0 +1,56 @@
+-- `interpreter::run_within` meets its contract, in the order of document 01.
+use Rattle.terms.proofs.Common.{◌≤◌, ◌≡◌, sym, ◌∙◌, true, arith, not-true, not-false, length, drop}
+use Rattle.lines.specs.Blocks.{is_percent, text_from}
+use Rattle.setup.specs.Limits.{valid_setup}
+use Rattle.interpreter.proofs.Starting.{some_byte, gives_too_long, gives_bad_setup, gives_first_block, gives_opening, programs_opened, gives_main}
+use Rattle.interpreter.proofs.run_within.Goals as goal
+
+pub returns-then-bytes-gt65535 : goal.returns-then-bytes-gt65535
+returns-then-bytes-gt65535 c =
+    let a = c.args in
+    gives_too_long a.setup a.bytes.now a.budget a.list.now c.if-bytes-gt65535.true c.refused.ensures
+
+pub returns-then-not-is_valid : goal.returns-then-not-is_valid
+returns-then-not-is_valid c =
+    let a = c.args in
+    gives_bad_setup a.setup a.bytes.now a.budget a.list.now (omega (arith, c.if-bytes-gt65535.false))
+    (sym c.is_valid.ensures ∙ not-true _ c.if-not-is_valid.true) c.refused-then-not-is_valid.ensures
+
+pub returns-then-not-is_percent : goal.returns-then-not-is_percent
+returns-then-not-is_percent c =
+    let a = c.args in
+    gives_first_block a.setup a.bytes.now a.budget a.list.now (omega (arith, c.if-bytes-gt65535.false))
+    (sym c.is_valid.ensures ∙ not-false _ c.if-not-is_valid.false)
+    (sym c.is_percent.ensures ∙ not-true _ c.if-not-is_percent.true) c.refused-then-not-is_percent.ensures
+
+-- the data are short enough, the setup keeps its limits, and the first block is `%` alone
+module _ (c : goal.Else-not-is_percent) where
+  short : length c.args.bytes.now ≤ 65_535
+  short = omega (arith, c.if-bytes-gt65535.false)
+
+  valid : valid_setup c.args.setup ≡ true
+  valid = sym c.is_valid.ensures ∙ not-false _ c.if-not-is_valid.false
+
+  percent : is_percent (text_from (drop 0 c.args.bytes.now)) ≡ true
+  percent = sym c.is_percent.ensures ∙ not-false _ c.if-not-is_percent.false
+
+pub find_programs-found-requires : goal.find_programs-found-requires
+find_programs-found-requires c =
+    let a = c.args in
+    some_byte a.setup a.bytes.now (length a.list.now) a.budget (short c) (valid c) (percent c)
+
+pub run_main-requires : goal.run_main-requires
+run_main-requires c =
+    let a = c.args in
+    (valid c, programs_opened a.setup a.bytes.now a.budget a.list.now (short c) (valid c) (percent c) c.find_programs-found.ensures c.in-Fine.is)
+
+pub returns-in-Refused : goal.returns-in-Refused
+returns-in-Refused c =
+    let a = c.args in
+    gives_opening a.setup a.bytes.now a.budget a.list.now (short c) (valid c) (percent c) c.find_programs-found.ensures c.in-Refused.is c.refused-in-Refused.ensures
+
+pub returns-in-Fine : goal.returns-in-Fine
+returns-in-Fine c =
+    let a = c.args in
+    gives_main a.setup a.bytes.now a.budget a.list.now (short c) (valid c) (percent c) c.find_programs-found.ensures c.in-Fine.is
+    c.run_main.ensures

@@ -1,0 +1,22 @@
+-- `lengths::Len::plus` meets its contract: the sum has room, so the machine's sum is the sum.
+use Rattle.terms.proofs.Common.{arith, rules, ◌+◌, ap, ℤ, ◌+ℤ◌}
+use mir.{Syntax.w64, Val.SFits}
+use Rattle.lengths.specs.{Units.len, View.over, View.under, Serving.Room}
+use Rattle.lengths.proofs.{Laws.room_fits, Laws.sum_bal, Laws.asks, Laws.gives}
+use Rattle.lengths.proofs.Len.plus.Goals as goal
+
+room : (a b : ℤ) → Room (over a + over b) (under a + under b) → SFits w64 (a +ℤ b)
+room a b h = room_fits (a +ℤ b) (omega (arith, sum_bal a b))
+
+pub overflow_add-result : goal.overflow_add-result
+overflow_add-result c =
+    let a = c.args.self.v in
+    let b = c.args.b.v in
+    asks ◌+ℤ◌ a b (search rules) (search rules) (room a b (search rules))
+
+pub returns : goal.returns
+returns c =
+    let a = c.args.self.v in
+    let b = c.args.b.v in
+    let e = gives ◌+ℤ◌ a b (search rules) (search rules) (room a b (search rules)) in
+    record { is = ap len e; bal = rw e (sum_bal a b) }

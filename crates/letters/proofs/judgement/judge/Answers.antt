@@ -1,0 +1,114 @@
+-- `letters::judgement::judge` meets its contract. The invariant: what is left gives the judgement of all.
+use Rattle.terms.proofs.Common.{◌≡◌, sym, ◌∙◌, arith, get_or, not-true, not-false}
+use Rattle.words.{specs.Packed.words_in, proofs.Packed.word_at}
+use Rattle.letters.proofs.{Judging.judge_unused}
+use Rattle.letters.proofs.Places.{so_far, kept_first, past_bad, past_bad_again, past_fit, ended_bad, ended_fine}
+use Rattle.letters.proofs.judgement.judge.Goals as goal
+
+-- the word that was taken stands at its place
+is :
+    (c : goal.After-unpack-w)
+    → let a = c.args in
+    get_or (words_in a.words.now a.places.now) c.loop-i.i c.unpack-w.result ≡ c.unpack-w.result
+is c =
+    word_at c.args.words.now c.args.places.now c.loop-i.i c.unpack-w.result
+    (omega (arith, c.loop-i-test.true, c.requires.there)) ∙ sym c.unpack-w.ensures
+
+pub loop-i-init : goal.loop-i-init
+loop-i-init c =
+    let a = c.args in
+    kept_first a.speeds a.m a.code a.centred (words_in a.words.now a.places.now) a.count c.zero-v.result c.zero-v.ensures.is c.requires.there
+
+pub returns-then-is_unused : goal.returns-then-is_unused
+returns-then-is_unused c =
+    let k = c.loop-i in
+    let a = c.args in
+    judge_unused a.speeds a.m a.code a.centred (words_in a.words.now a.places.now) a.count (so_far k.bad k.place k.stands k.v) k.i c.unpack-w.result (is c)
+    k.invariant.few
+    c.loop-i-test.true
+    k.invariant.left
+    c.use_of-meaning.result
+    c.is_unused.result
+    c.use_of-meaning.ensures
+    c.is_unused.ensures
+    c.if-is_unused.true
+
+pub value_of-requires : goal.value_of-requires
+value_of-requires c =
+    rw (is c) at (c.requires.written c.loop-i.i c.unpack-w.result c.loop-i-test.true)
+
+pub loop-i-preserved-then-not-bad : goal.loop-i-preserved-then-not-bad
+loop-i-preserved-then-not-bad c =
+    let k = c.loop-i in
+    let a = c.args in
+    past_bad a.speeds a.m a.code a.centred (words_in a.words.now a.places.now) a.count k.stands k.v k.bad k.place k.i k.invariant c.unpack-w.result (is c)
+    c.loop-i-test.true
+    c.use_of-meaning.result
+    c.is_unused.result
+    c.use_of-meaning.ensures
+    c.is_unused.ensures
+    c.if-is_unused.false
+    c.value_of.result
+    c.value_of.ensures
+    c.in_default.is
+    (not-true k.bad c.if-not-bad.true)
+
+pub loop-i-preserved-else-not-bad : goal.loop-i-preserved-else-not-bad
+loop-i-preserved-else-not-bad c =
+    let k = c.loop-i in
+    let a = c.args in
+    past_bad_again a.speeds a.m a.code a.centred (words_in a.words.now a.places.now) a.count k.stands k.v k.bad k.place k.i k.invariant c.unpack-w.result (is c)
+    c.loop-i-test.true
+    c.use_of-meaning.result
+    c.is_unused.result
+    c.use_of-meaning.ensures
+    c.is_unused.ensures
+    c.if-is_unused.false
+    c.value_of.result
+    c.value_of.ensures
+    (not-false k.bad c.if-not-bad.false)
+
+pub bounds-stands-k : goal.bounds-stands-k
+bounds-stands-k c = c.value_place-k.ensures.inside
+
+pub offset_bounds-v-k : goal.offset_bounds-v-k
+offset_bounds-v-k c = omega (arith, c.value_place-k.ensures.inside)
+
+pub bounds-v-k : goal.bounds-v-k
+bounds-v-k c = c.value_place-k.ensures.inside
+
+pub loop-i-preserved : goal.loop-i-preserved
+loop-i-preserved c =
+    let k = c.loop-i in
+    let a = c.args in
+    past_fit a.speeds a.m a.code a.centred (words_in a.words.now a.places.now) a.count k.stands k.v k.bad k.place k.i k.invariant c.unpack-w.result (is c)
+    c.loop-i-test.true
+    c.use_of-meaning.result
+    c.is_unused.result
+    c.use_of-meaning.ensures
+    c.is_unused.ensures
+    c.if-is_unused.false
+    c.value_of.result
+    c.value_of.ensures
+    c.in-Fit.z
+    c.value_place-k.result
+    c.in-Fit.is
+    c.value_place-k.ensures
+
+pub returns-then-bad : goal.returns-then-bad
+returns-then-bad c =
+    let k = c.loop-i in
+    let a = c.args in
+    ended_bad a.speeds a.m a.code a.centred (words_in a.words.now a.places.now) a.count k.stands k.v k.bad k.place k.i k.invariant
+    c.loop-i-test.false
+    c.if-bad.true
+
+pub returns-then-is_unused : goal.returns
+returns c =
+    let k = c.loop-i in
+    let a = c.args in
+    ended_fine a.speeds a.m a.code a.centred (words_in a.words.now a.places.now) a.count k.stands k.v k.bad k.place k.i k.invariant
+    c.loop-i-test.false
+    c.if-bad.false
+    c.values_in.result
+    c.values_in.ensures

@@ -1,0 +1,12 @@
+-- `look::show_block` meets its contract: the words of a block that is read as fine can be judged.
+use Rattle.terms.proofs.Common.{true}
+use Rattle.words.specs.Packed.{words_in}
+use Rattle.look.proofs.{Fine.read_stored}
+use Rattle.look.proofs.show_block.Goals as goal
+
+pub judged-requires : goal.judged-requires
+judged-requires c =
+    let a = c.args in
+    let l = c.read_words-read.new.1.1.1.1 in
+    read_stored true a.modes a.s.now c.after_slash-from.result (words_in l.0 l.1.0) c.read_words-read.result c.read_words-read.ensures
+    c.in-Fine.is

@@ -1,0 +1,59 @@
+use Rattle.terms.proofs.Common.{◌<◌, ◌≡◌, sym, ◌∙◌, true, length, drop, get_or, arith, not-true, not-false}
+use Rattle.lines.{specs.Blocks.begins_with, specs.Blocks.text_from, proofs.Lines.length_some}
+use Rattle.programs.specs.Found.{table_by}
+use Rattle.programs.proofs.{Finding.gives_as}
+use Rattle.programs.proofs.Scanning.{next_inside, opens_at, found_plain, found_bad, found_number}
+use Rattle.programs.proofs.openings.find_programs.Goals as goal
+
+pub begins_with-requires : goal.begins_with-requires
+begins_with-requires c = omega (arith, c.next_block-at.ensures, next_inside c.args.s.now 0 (omega arith))
+
+pub scan_openings-requires : goal.scan_openings-requires
+scan_openings-requires c =
+    (omega (arith, c.next_block-at.ensures, length_some c.args.s.now 0 (omega arith)), c.only_main.ensures.ready)
+
+pub returns-then-not-begins_with : goal.returns-then-not-begins_with
+returns-then-not-begins_with c =
+    gives_as c.scan_openings.ensures
+    (found_plain c.args.s.now c.next_block-at.result c.next_block-at.ensures c.only_main.result
+    (sym c.begins_with.ensures ∙ not-true _ c.if-not-begins_with.true) c.only_main.ensures)
+
+-- the second block begins with `O`
+begins : (c : goal.Else-not-begins_with) → begins_with 79 (text_from (drop c.next_block-at.result c.args.s.now)) ≡ true
+begins c = sym c.begins_with.ensures ∙ not-false _ c.if-not-begins_with.false
+
+opened : (c : goal.Else-not-begins_with) → (c.next_block-at.result < length c.args.s.now) × (get_or c.args.s.now c.next_block-at.result 0 ≡ 79)
+opened c = opens_at c.args.s.now c.next_block-at.result (begins c)
+
+pub overflow_add-at : goal.overflow_add-at
+overflow_add-at c = let o = opened c in omega (arith, o.0)
+
+pub read_opening-requires : goal.read_opening-requires
+read_opening-requires c = let o = opened c in omega (arith, o.0)
+
+pub next_block-next-requires : goal.next_block-next-requires
+next_block-next-requires c = let o = opened c in omega (arith, o.0)
+
+pub scan_openings-requires-in-Number : goal.scan_openings-requires-in-Number
+scan_openings-requires-in-Number c =
+    let o = opened c in
+    let l = c.args.s.now in
+    let at = c.next_block-at.result in
+    (omega (arith, c.next_block-next.ensures, length_some l at o.0, c.next_block-at.ensures, length_some l 0 (omega (arith, o.0))), c.only_main-in-Number.ensures.ready)
+
+pub returns-in-Bad : goal.returns-in-Bad
+unfolding table_by
+returns-in-Bad c =
+    record {
+      table =
+          found_bad c.args.s.now c.next_block-at.result c.next_block-at.ensures (begins c)
+          (sym c.read_opening.ensures ∙ c.in-Bad.is);
+      ready = c.only_main-in-Bad.ensures.ready;
+    }
+
+pub returns-in-Number : goal.returns-in-Number
+returns-in-Number c =
+    gives_as c.scan_openings-in-Number.ensures
+    (found_number c.args.s.now c.next_block-at.result c.next_block-at.ensures (begins c)
+    _ c.next_block-next.result c.only_main-in-Number.result (sym c.read_opening.ensures ∙ c.in-Number.is)
+    c.next_block-next.ensures c.only_main-in-Number.ensures)

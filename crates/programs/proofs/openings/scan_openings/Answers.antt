@@ -1,0 +1,78 @@
+-- `programs::openings::scan_openings` meets its contract. The blocks: what is left of the data gives the same. The bytes of a block: it ends
+-- where it would from the byte reached, and past its first byte it is neither an opening nor the closing `%`.
+use Rattle.terms.proofs.Common.{refl, sym, ◌∙◌, ap, arith}
+use Rattle.lines.proofs.Lines.{length_some}
+use Rattle.programs.specs.{Openings.entry_of, Found.subs_of, Found.table_by}
+use Rattle.programs.proofs.{Entries.entry_room}
+use Rattle.programs.proofs.Scanning.{Scan, scan_start, stopped_end, stopped_percent, passed_plain, passed_opening, refused_opening, passing_more}
+use Rattle.programs.proofs.openings.scan_openings.Goals as goal
+
+pub blocks-2-init : goal.blocks-2-init
+blocks-2-init c =
+    scan_start c.args.s.now c.args.from c.args.number c.args.found c.requires.0 c.requires.1
+
+pub loop-i-init : goal.loop-i-init
+loop-i-init c = (record { begun = omega arith; left = refl; plain = λ k. absurd (omega arith) }, omega arith, λ began s. s)
+
+-- what the scan has where the block began
+begun : (c : goal.At-loop-i) → Scan c.args.s.now c.args.from c.args.number c.args.found c.loop-i.programs c.loop-i.at c.loop-i.block
+begun c = c.loop-i.invariant.2 _ c.blocks-2.invariant
+
+pub blocks-2-preserved-then-s-i-eq10 : goal.blocks-2-preserved-then-s-i-eq10
+blocks-2-preserved-then-s-i-eq10 c = passed_plain (begun c) c.loop-i.invariant.0 (omega arith) c.if-s-i-eq10.true
+
+pub loop-i-preserved-then-at-i : goal.loop-i-preserved-then-at-i
+loop-i-preserved-then-at-i c =
+    let i = c.loop-i.invariant in
+    (passing_more _ i.0 (omega arith) c.if-s-i-eq10.false (i.0.plain (omega arith)) (omega arith, refl), i.1, i.2)
+
+pub returns-in-Refuses : goal.returns-in-Refuses
+unfolding table_by
+returns-in-Refuses c =
+    record {
+      table =
+          refused_opening (begun c) (omega arith) (sym c.is_percent.ensures ∙ c.if-is_percent.false) c.in-Refuses.refusal c.if-s-at-eq79.true
+          (ap (entry_of c.loop-i.programs.main (subs_of c.loop-i.programs)) (sym c.read_opening.ensures)
+          ∙ sym c.entry_of.ensures ∙ c.in-Refuses.is);
+      ready = (begun c).ready;
+    }
+
+pub with_program-programs-requires : goal.with_program-programs-requires
+with_program-programs-requires c =
+    ((begun c).ready, entry_room c.loop-i.programs (begun c).ready c.read_opening.result _ (sym c.entry_of.ensures ∙ c.in-Enters.is))
+
+pub blocks-2-smaller : goal.blocks-2-smaller
+blocks-2-smaller c =
+    omega (arith, c.next_block-at.ensures, c.loop-i.invariant, length_some c.args.s.now c.loop-i.at (omega (arith, c.loop-i.invariant, c.loop-i-test.true)))
+
+pub blocks-2-preserved : goal.blocks-2-preserved
+blocks-2-preserved c =
+    passed_opening (begun c) (omega (arith, c.loop-i.invariant, c.loop-i-test.true)) (sym c.is_percent.ensures ∙ c.if-is_percent.false) _ c.next_block-at.result c.with_program-programs.result
+    c.if-s-at-eq79.true
+    (ap (entry_of c.loop-i.programs.main (subs_of c.loop-i.programs)) (sym c.read_opening.ensures)
+    ∙ sym c.entry_of.ensures ∙ c.in-Enters.is)
+    c.next_block-at.ensures c.with_program-programs.ensures
+
+pub loop-i-preserved : goal.loop-i-preserved
+loop-i-preserved c =
+    let i = c.loop-i.invariant in
+    (passing_more _ i.0 (omega arith) c.if-s-i-eq10.false (sym c.is_percent.ensures ∙ c.if-is_percent.false, c.if-s-at-eq79.false) c.near_end-i.ensures, i.1, i.2)
+
+pub returns-then-is_percent : goal.returns-then-is_percent
+unfolding table_by
+returns-then-is_percent c =
+    let b = begun c in
+    record { table = stopped_percent b (omega arith) (sym c.is_percent.ensures ∙ c.if-is_percent.true); ready = b.ready }
+
+pub returns-after-loop-i : goal.returns-after-loop-i
+unfolding table_by
+returns-after-loop-i c = let b = begun c in record { table = stopped_end b c.loop-i.invariant.0 (omega arith); ready = b.ready }
+
+pub overflow_add-block : goal.overflow_add-block
+overflow_add-block c = omega (arith, (begun c).counted)
+
+pub entry_of-requires : goal.entry_of-requires
+entry_of-requires c = (begun c).ready
+
+pub overflow_add-block-in-Enters : goal.overflow_add-block-in-Enters
+overflow_add-block-in-Enters c = omega (arith, (begun c).counted)

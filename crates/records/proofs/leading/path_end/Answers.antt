@@ -1,0 +1,25 @@
+-- `records::leading::path_end` meets its contract, mark by mark.
+use Rattle.terms.proofs.Common.{◌≡◌, refl}
+use Rattle.records.specs.{declared.Record.Record, Path.path_of, Path.path_end}
+use Rattle.records.proofs.{Still.still_ones}
+use Rattle.records.proofs.leading.path_end.Goals as goal
+
+pub returns-in-RP : goal.returns-in-RP
+unfolding path_of path_end
+returns-in-RP c = rw c.in-RP.is
+
+pub returns-in-LN : goal.returns-in-LN
+unfolding path_of path_end
+returns-in-LN c = rw c.in-LN.is
+
+pub returns-in-AR : goal.returns-in-AR
+unfolding path_of path_end
+returns-in-AR c = rw c.in-AR.is
+
+pub returns-in-AL : goal.returns-in-AL
+unfolding path_of path_end
+returns-in-AL c = rw c.in-AL.is
+
+pub returns-in_default : goal.returns-in_default
+unfolding path_end path_of
+returns-in_default c = still_ones (λ (r : Record). c.args.from ≡ path_end c.args.from (path_of r)) c.args.r c.in_default.in_default-own.keys5 (λ ms. refl) (λ speed. refl) refl refl refl

@@ -1,0 +1,41 @@
+-- `records::storing::put_arc` meets its contract: the parts are written one after the other.
+use Rattle.terms.proofs.Common.{arith, length-set}
+use Rattle.records.specs.Layout.{number_bytes}
+use Rattle.records.proofs.{Written.wrote_then, Written.wrote_cons, Written.wrote_length}
+use Rattle.records.proofs.storing.put_arc.Goals as goal
+
+pub put_point-first-requires : goal.put_point-first-requires
+put_point-first-requires c =
+    let s = c.requires.1 in
+    (simp length-set (omega arith), (s.0, (s.1.0, (s.1.1.0, tt))))
+
+pub put_number-second-requires : goal.put_number-second-requires
+unfolding number_bytes
+put_number-second-requires c =
+    let h = length-set c.args.list.now c.args.at c.plane_byte.result in
+    (omega arith, c.requires.1.1.1.1.0)
+
+pub put_number-feed-requires : goal.put_number-feed-requires
+unfolding number_bytes
+put_number-feed-requires c =
+    let h = length-set c.args.list.now c.args.at c.plane_byte.result in
+    (omega arith, c.requires.1.1.1.1.1.0)
+
+pub put_number-requires : goal.put_number-requires
+unfolding number_bytes
+put_number-requires c =
+    let h = length-set c.args.list.now c.args.at c.plane_byte.result in
+    (omega arith, c.requires.1.1.1.1.1.1.0)
+
+pub returns : goal.returns
+unfolding number_bytes
+returns c =
+    rw (← c.plane_byte.ensures)
+    (wrote_cons
+    c.plane_byte.result
+    (wrote_then
+    (wrote_then (wrote_then c.put_point-first.ensures c.put_number-second.ensures) c.put_number-feed.ensures)
+    c.put_number.ensures))
+
+pub shape_of-list : goal.shape_of-list
+shape_of-list c = wrote_length (returns c)

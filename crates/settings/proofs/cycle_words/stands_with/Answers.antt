@@ -1,0 +1,8 @@
+-- `settings::cycle_words::stands_with` meets its contract.
+use Rattle.terms.proofs.Common.{refl}
+use Rattle.settings.specs.CycleWords.{stands_with}
+use Rattle.settings.proofs.cycle_words.stands_with.Goals as goal
+
+pub returns : goal.returns
+unfolding stands_with
+returns c = refl

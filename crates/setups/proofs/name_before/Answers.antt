@@ -1,0 +1,38 @@
+-- `setups::name_before` meets its contract: the row of names has a part for each.
+use Rattle.terms.proofs.Common.{◌+◌, ◌<◌, arith, length-take, length-drop}
+use Rattle.setups.proofs.{Filling.begins_order, Filling.begins_inside, Filling.name_of_lem, Filling.no_name}
+use Rattle.setups.proofs.name_before.Goals as goal
+
+pub returns-then-j-eq15 : goal.returns-then-j-eq15
+returns-then-j-eq15 c =
+    no_name c.args.s.now c.args.at c.args.k c.requires c.name_of-j.ensures.0 c.if-j-eq15.true
+
+pub slice_bounds-pass_name-count : goal.slice_bounds-pass_name-count
+slice_bounds-pass_name-count c =
+    let j = c.name_of-j.result in
+    let less : j < 15 = omega arith in
+    omega (arith, begins_order j less)
+
+pub slice_bounds-pass_name-start : goal.slice_bounds-pass_name-start
+slice_bounds-pass_name-start c =
+    let j = c.name_of-j.result in
+    let less : j < 15 = omega arith in
+    omega (arith, begins_order j less, begins_inside (j + 1) (omega arith))
+
+pub slice_bounds-pass_name-end : goal.slice_bounds-pass_name-end
+slice_bounds-pass_name-end c =
+    let j = c.name_of-j.result in
+    let less : j < 15 = omega arith in
+    omega (arith, begins_order j less, begins_inside (j + 1) (omega arith))
+
+pub pass_name-requires : goal.pass_name-requires
+pass_name-requires c =
+    let j = c.name_of-j.result in
+    let less : j < 15 = omega arith in
+    simp (length-take, length-drop) (omega (arith, begins_order j less, begins_inside (j + 1) (omega arith)))
+
+pub returns-then-j-eq15 : goal.returns
+returns c =
+    let j = c.name_of-j.result in
+    let less : j < 15 = omega arith in
+    name_of_lem c.args.s.now c.args.at c.args.k c.requires c.name_of-j.ensures.0 less c.pass_name.ensures

@@ -1,0 +1,19 @@
+-- `setups::name_of` meets its contract: its tests are those of the definition.
+use Rattle.terms.proofs.Common.{◌%◌, arith, le-leb, lt-leb, eq-eqb, ne_eqb}
+use Rattle.setups.specs.Setups.{name_of}
+use Rattle.setups.proofs.name_of.Goals as goal
+
+pub returns-then-k-ge30 : goal.returns-then-k-ge30
+unfolding name_of
+returns-then-k-ge30 c =
+    (rw (le-leb 30 c.args.k c.if-k-ge30.true), omega arith)
+
+pub returns-then-k-eq0 : goal.returns-then-k-eq0
+unfolding name_of
+returns-then-k-eq0 c =
+    (rw (lt-leb 30 c.args.k c.if-k-ge30.false, eq-eqb (c.args.k % 3) 0 c.if-k-eq0.true), omega arith)
+
+pub returns-then-k-ge30 : goal.returns
+unfolding name_of
+returns c =
+    (rw (lt-leb 30 c.args.k c.if-k-ge30.false, ne_eqb (c.args.k % 3) 0 c.if-k-eq0.false), omega arith)

@@ -1,0 +1,22 @@
+-- `setups::number_at` meets its contract: the next word, and what it is worth.
+use Rattle.terms.proofs.Common.{sym, ◌∙◌}
+use Rattle.texts.proofs.Places.{standing}
+use Rattle.setups.proofs.{Filling.number_missing, Filling.number_fits, Filling.number_unfit}
+use Rattle.setups.proofs.number_at.Goals as goal
+
+pub returns-then-from-end : goal.returns-then-from-end
+returns-then-from-end c =
+    number_missing c.args.s.now c.args.at c.next_word-from.result c.word_end-end.result c.next_word-from.ensures c.word_end-end.ensures c.if-from-end.true
+
+pub worth_at-requires : goal.worth_at-requires
+worth_at-requires c =
+    let word = standing c.args.s.now c.next_word-from.result c.word_end-end.result c.word_end-end.ensures c.if-from-end.false in
+    (word.some, word.within)
+
+pub returns-in-Fit : goal.returns-in-Fit
+returns-in-Fit c =
+    number_fits c.args.s.now c.args.at c.next_word-from.result c.word_end-end.result c.next_word-from.ensures c.word_end-end.ensures c.if-from-end.false _ (sym c.worth_at.ensures ∙ c.in-Fit.is)
+
+pub returns-in-Unfit : goal.returns-in-Unfit
+returns-in-Unfit c =
+    number_unfit c.args.s.now c.args.at c.next_word-from.result c.word_end-end.result c.next_word-from.ensures c.word_end-end.ensures c.if-from-end.false _ (sym c.worth_at.ensures ∙ c.in-Unfit.is)

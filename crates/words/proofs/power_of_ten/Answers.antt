@@ -1,0 +1,18 @@
+-- `words::power_of_ten` meets its contract, arm by arm.
+use Rattle.terms.proofs.Common.{◌≡◌, arith}
+use Rattle.words.proofs.power_of_ten.Goals as goal
+
+pub returns-in-0 : goal.returns-in-0
+returns-in-0 c = rw c.in-0.is
+
+pub returns-in-1 : goal.returns-in-1
+returns-in-1 c = rw c.in-1.is
+
+pub returns-in-2 : goal.returns-in-2
+returns-in-2 c = rw c.in-2.is
+
+pub returns-in-3 : goal.returns-in-3
+returns-in-3 c = rw c.in-3.is
+
+pub returns-in_default : goal.returns-in_default
+returns-in_default c = let e : c.args.k ≡ 4 = omega arith in rw e

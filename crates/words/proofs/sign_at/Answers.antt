@@ -1,0 +1,16 @@
+-- `words::sign_at` meets its contract, number by number.
+use Rattle.terms.proofs.Common.{ne_eqb}
+use Rattle.words.specs.Packed.{sign_at}
+use Rattle.words.proofs.sign_at.Goals as goal
+
+pub returns-in-0 : goal.returns-in-0
+unfolding sign_at
+returns-in-0 c = rw c.in-0.is
+
+pub returns-in-1 : goal.returns-in-1
+unfolding sign_at
+returns-in-1 c = rw c.in-1.is
+
+pub returns-in_default : goal.returns-in_default
+unfolding sign_at
+returns-in_default c = rw (ne_eqb _ 0 c.in_default.in_default-own.rest.0.1, ne_eqb _ 1 c.in_default.in_default-own.rest.1)
