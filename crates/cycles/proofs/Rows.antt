@@ -5,7 +5,7 @@ use types.Run.{OneOf, miss}
 use Rattle.terms.specs.Terms.{if◌then◌else◌}
 use Rattle.lengths.specs.{declared.Len.Len, declared.Point.Point, Points.at_height}
 use Rattle.codes.specs.declared.Cycle.{Cycle, TheVariants.G81, TheVariants.G82, TheVariants.G85, TheVariants.G89}
-use Rattle.codes.{specs.declared.Return.Return, specs.declared.Return.TheVariants.ToInitial, specs.declared.Return.TheVariants.ToR, proofs.Cycle.the_type as cycle-type}
+use Rattle.codes.{specs.declared.Return.Return, specs.declared.Return.TheVariants.ToInitial, specs.declared.Return.TheVariants.ToR, specs.contracts.Cycle.the_type as cycle-type}
 use Rattle.records.specs.declared.Record.{Record, TheVariants.RP, TheVariants.LN, TheVariants.DW}
 use Rattle.cycles.specs.{declared.Hole.Hole, Cycles.return_level, Cycles.dwelling, Cycles.up_under, Cycles.leaving, Cycles.pass_to, Bounds.UpLength, Bounds.PassLength, Bounds.Stands}
 use Rattle.cycles.proofs.Passes.{with_z, without_z, dwell_is, no_dwell_is}

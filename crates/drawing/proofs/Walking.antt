@@ -3,7 +3,7 @@ use Rattle.terms.proofs.Common.{ℕ, zero, suc, ◌+◌, ◌-◌, ◌≤◌, ◌
 use denote.Enum.Declared.{tag_of}
 use types.Run.{OneOf, miss}
 use Rattle.records.specs.declared.{Record.Record, Listed.Listed, Listed.TheVariants.Next, Listed.TheVariants.End, Listed.TheVariants.Faulty}
-use Rattle.records.{specs.Path.path_of, specs.Path.path_end, proofs.Listed.the_type, proofs.Again.read_on}
+use Rattle.records.{specs.Path.path_of, specs.Path.path_end, specs.contracts.Listed.the_type, proofs.Again.read_on}
 use Rattle.records.specs.Reading.{read_at, read_all, onward, after, trail, Trail}
 use Rattle.lengths.specs.declared.Point.{Point}
 use Rattle.svg.{specs.declared.View.View, specs.Text.Fills, proofs.Filled.fills_then, proofs.Filled.fills_none}

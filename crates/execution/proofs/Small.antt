@@ -4,11 +4,11 @@ use denote.Enum.Declared.{tag_of}
 use types.Run.{OneOf, miss}
 use Rattle.lengths.specs.declared.Len.{Len}
 use Rattle.codes.specs.declared.{Misc.Misc, Motion.Motion, Distance.Distance, Plane.Plane, Plane.TheVariants.G17, Plane.TheVariants.G18, Plane.TheVariants.G19}
-use Rattle.codes.{specs.Codes.misc_number, specs.Codes.is_m, proofs.Motion.the_type as motion-type, proofs.Plane.the_type as plane-type}
+use Rattle.codes.{specs.Codes.misc_number, specs.Codes.is_m, specs.contracts.Motion.the_type as motion-type, specs.contracts.Plane.the_type as plane-type}
 use Rattle.codes.specs.declared.Motion.TheVariants.{Off, G00, G01, G02, G03, Drilling}
 use Rattle.words.specs.declared.Values.{Values}
 use Rattle.settings.specs.declared.State.{State}
-use Rattle.letters.{specs.declared.BlockCode.BlockCode, proofs.BlockCode.the_type as code-type}
+use Rattle.letters.{specs.declared.BlockCode.BlockCode, specs.contracts.BlockCode.the_type as code-type}
 use Rattle.letters.specs.declared.BlockCode.TheVariants.{Calling, Returning, Dwelling, Moving}
 use Rattle.work.specs.Work.{brief_records}
 use Rattle.work.specs.declared.Brief.TheVariants.{Speed, SpindleOff, Pause, End, Nothing}

@@ -3,7 +3,7 @@ use Rattle.terms.proofs.Common.{ℕ, ◌≡◌, refl, sym, Bool, true, false, �
 use denote.Enum.Declared.{tag_of}
 use types.Run.{OneOf, miss}
 use Rattle.terms.specs.Terms.{any}
-use Rattle.codes.{specs.declared.Motion.Motion, proofs.Motion.the_type as motion-type}
+use Rattle.codes.{specs.declared.Motion.Motion, specs.contracts.Motion.the_type as motion-type}
 use Rattle.codes.specs.declared.Motion.TheVariants.{Off, G00, G01, G02, G03, Drilling}
 use Rattle.words.specs.declared.Word.{Word}
 use Rattle.letters.specs.{declared.BlockCode.BlockCode, Letters.turns, Letters.is_arc}

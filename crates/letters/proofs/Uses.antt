@@ -5,7 +5,7 @@ use denote.Enum.Declared.{tag_of}
 use types.Run.{OneOf, miss}
 use Rattle.terms.specs.Terms.{byte, bytes, any, all}
 use Rattle.codes.{specs.declared.Plane.Plane, proofs.Tables.Others, proofs.Tables.among, proofs.Tables.passes, proofs.Tables.others_past}
-use Rattle.words.{specs.declared.Use.Use, proofs.Use.the_type}
+use Rattle.words.{specs.declared.Use.Use, specs.contracts.Use.the_type}
 use Rattle.words.specs.declared.Use.TheVariants.{Nothing, Codes, Label, Program, Length, Feed, Speed, Dwell, Count}
 use Rattle.letters.specs.{Letters.used_in, Letters.letters_of, Letters.use_of, Letters.is_nothing, declared.BlockCode.BlockCode}
 

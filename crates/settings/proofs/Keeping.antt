@@ -4,7 +4,7 @@ use denote.Enum.Declared.{tag_of}
 use types.Run.{OneOf, miss}
 use Rattle.terms.specs.Terms.{if◌then◌else◌}
 use Rattle.lengths.specs.{declared.Len.Len, View.Within}
-use Rattle.codes.{specs.declared.Cycle.Cycle, specs.declared.Motion.Motion, specs.declared.Distance.Distance, proofs.Motion.the_type as motion-type}
+use Rattle.codes.{specs.declared.Cycle.Cycle, specs.declared.Motion.Motion, specs.declared.Distance.Distance, specs.contracts.Motion.the_type as motion-type}
 use Rattle.codes.specs.declared.Motion.TheVariants.{Off, G00, G01, G02, G03, Drilling}
 use Rattle.words.specs.declared.Values.{Values}
 use Rattle.settings.specs.{declared.Kept.Kept, declared.State.State, Settings.none_kept, Bounds.KeptNear}

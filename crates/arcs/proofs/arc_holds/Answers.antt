@@ -41,7 +41,7 @@ squared_distance-requires c = omega (arith, near c)
 pub is_round_enough-requires : goal.is_round_enough-requires
 is_round_enough-requires c = omega (arith, near c)
 
-pub returns-then-r-apart : goal.returns
+pub returns : goal.returns
 unfolding arc_holds
 returns c =
     let end = c.in_plane-at.ensures in

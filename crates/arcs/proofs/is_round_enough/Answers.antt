@@ -7,7 +7,7 @@ pub returns-then-r-lt2000 : goal.returns-then-r-lt2000
 unfolding round_enough
 returns-then-r-lt2000 c = rw (lt-leb 2_000 c.args.r c.if-r-lt2000.true)
 
-pub returns-then-r-lt2000 : goal.returns
+pub returns : goal.returns
 unfolding round_enough
 returns c =
     let t = le-leb 2_000 c.args.r c.if-r-lt2000.false in

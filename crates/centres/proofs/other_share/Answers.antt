@@ -15,6 +15,6 @@ pub overflow_sub-result : goal.overflow_sub-result
 overflow_sub-result c =
     omega (arith, part_less c.args.n c.args.d c.args.share c.requires c.if-share-eq0.false)
 
-pub returns-then-share-eq0 : goal.returns
+pub returns : goal.returns
 returns c =
     parted_rest c.args.n c.args.d c.args.share c.requires c.if-share-eq0.false

@@ -28,7 +28,7 @@ pub overflow_mul-result : goal.overflow_mul-result
 overflow_mul-result c =
     rw c.square.ensures (omega (arith, sq_near c.args.r.v c.requires.radius))
 
-pub returns-then-size-lt3000 : goal.returns
+pub returns : goal.returns
 unfolding radius_holds
 returns c =
     let r = nat_abs c.args.r.v in

@@ -34,7 +34,7 @@ returns-then-share-m c =
           (sym (up_is c) ∙ c.if-at_most.false) c.if-share-m.true));
     }
 
-pub returns-then-at_most : goal.returns
+pub returns : goal.returns
 returns c =
     record {
       near = omega (arith, small c);

@@ -19,6 +19,6 @@ pub row_up-requires-2 : goal.row_up-requires-2
 row_up-requires-2 c =
     up_left c.args.h c.args.p c.args.i (not-false c.args.h.dwell.stands c.if-not-dwell.false) c.if-i-eq0.false c.requires
 
-pub returns-then-not-dwell : goal.returns
+pub returns : goal.returns
 returns c =
     after_rest c.args.h c.args.p c.args.i (not-false c.args.h.dwell.stands c.if-not-dwell.false) c.if-i-eq0.false c.row_up-2.ensures

@@ -23,6 +23,6 @@ pub row_after_cut-requires : goal.row_after_cut-requires
 row_after_cut-requires c =
     row_left c.args.h c.args.level c.args.p c.args.i (not-false c.args.h.z.stands c.if-not-h.false) (omega arith) c.requires
 
-pub returns-then-not-h : goal.returns
+pub returns : goal.returns
 returns c =
     row_rest c.args.h c.args.level c.args.p c.args.i (not-false c.args.h.z.stands c.if-not-h.false) (omega arith) c.row_after_cut.ensures

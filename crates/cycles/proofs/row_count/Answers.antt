@@ -11,7 +11,7 @@ returns-then-h c =
     let h = c.args.h in
     length_dwell h (not-false h.z.stands c.if-not-h.false) c.up_count.ensures c.if-h.true
 
-pub returns-then-not-h : goal.returns
+pub returns : goal.returns
 returns c =
     let h = c.args.h in
     length_deep h (not-false h.z.stands c.if-not-h.false) c.up_count-2.ensures c.if-h.false

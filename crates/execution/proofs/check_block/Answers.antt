@@ -23,12 +23,12 @@ returns-then-cannot_drill c =
     ∙ drill_stops m free _ a.s a.start ws a.b (c.cannot_drill.ensures a.s (rw c.working-works.ensures)) c.if-cannot_drill.true)
 
 pub plan_block-planned-requires : goal.plan_block-planned-requires
-plan_block-planned-requires c = (c.requires.1, c.working-works.ensures)
+plan_block-planned-requires c = (c.requires.steady, c.working-works.ensures)
 
 pub write_block-requires : goal.write_block-requires
-write_block-requires c = (c.requires.0, record { s = c.args.s; b = c.args.b; plans = c.plan_block-planned.ensures })
+write_block-requires c = record { at_in_bounds = c.requires.at_in_bounds; able = record { s = c.args.s; b = c.args.b; plans = c.plan_block-planned.ensures } }
 
-pub returns-then-lacks_parameter : goal.returns
+pub returns : goal.returns
 returns c =
     let a = c.args in
     let m = machine_of a.bed in

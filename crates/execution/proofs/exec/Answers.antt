@@ -12,7 +12,7 @@ pub next_block-after-requires : goal.next_block-after-requires
 next_block-after-requires c = (says c).inside
 
 pub check_block-requires : goal.check_block-requires
-check_block-requires c = (c.requires.1.0, (says c).steady)
+check_block-requires c = record { at_in_bounds = c.requires.at_in_bounds.0; steady = (says c).steady }
 
 pub returns-in-Refused : goal.returns-in-Refused
 returns-in-Refused c =

@@ -11,15 +11,15 @@ bed-fair c =
     let setup = c.args.setup in
     let known = c.well_formed.0.1.1.1.1.1.1.0.1.0.1 in
     let six : length setup.origins ≡ 6 = sym (length-map setup.origins _) ∙ known in
-    rw c.bed_of.ensures (fair setup c.requires.0 six)
+    rw c.bed_of.ensures (fair setup c.requires.setup_value six)
 
 pub run_program-ending-requires : goal.run_program-ending-requires
 run_program-ending-requires c =
     let a = c.args in (
-      task_sound c.requires.1 c.skips.result (bed-fair c),
+      task_sound c.requires.opened c.skips.result (bed-fair c),
       (
-        main_begins c.requires.1,
-        first_fits a.setup c.requires.0 (length a.list.now) a.budget c.bed_of.ensures c.first_state.ensures,
+        main_begins c.requires.opened,
+        first_fits a.setup c.requires.setup_value (length a.list.now) a.budget c.bed_of.ensures c.first_state.ensures,
       ),
     )
 
@@ -33,6 +33,6 @@ unfolding bed_of offset report_by outcome_by
 returns c =
     let a = c.args in
     main_gives c.run_program-ending.ensures (ap (λ (b : Bed). b.offset) c.bed_of.ensures) refl refl
-    (main_walk c.requires.1 a.setup (length a.list.now) a.budget c.bed_of.ensures c.first_state.ensures c.skips.ensures)
+    (main_walk c.requires.opened a.setup (length a.list.now) a.budget c.bed_of.ensures c.first_state.ensures c.skips.ensures)
     (λ room made e f.
     rw (c.answer_by.ensures (going_of room c.run_program-ending.result.progress), c.next_by-next.ensures, c.state_moved-state.ensures, c.point_of.ensures, e, f))

@@ -1,5 +1,5 @@
 -- `interpreter::run_within` meets its contract, in the order of document 01.
-use Rattle.terms.proofs.Common.{◌≤◌, ◌≡◌, sym, ◌∙◌, true, arith, not-true, not-false, length, drop}
+use Rattle.terms.proofs.Common.{◌≤◌, ◌≡◌, sym, ◌∙◌, true, arith, length, drop}
 use Rattle.lines.specs.Blocks.{is_percent, text_from}
 use Rattle.setup.specs.Limits.{valid_setup}
 use Rattle.interpreter.proofs.Starting.{some_byte, gives_too_long, gives_bad_setup, gives_first_block, gives_opening, programs_opened, gives_main}
@@ -14,14 +14,14 @@ pub returns-then-not-is_valid : goal.returns-then-not-is_valid
 returns-then-not-is_valid c =
     let a = c.args in
     gives_bad_setup a.setup a.bytes.now a.budget a.list.now (omega (arith, c.if-bytes-gt65535.false))
-    (sym c.is_valid.ensures ∙ not-true _ c.if-not-is_valid.true) c.refused-then-not-is_valid.ensures
+    (sym c.is_valid.ensures ∙ c.if-not-is_valid.true) c.refused-then-not-is_valid.ensures
 
 pub returns-then-not-is_percent : goal.returns-then-not-is_percent
 returns-then-not-is_percent c =
     let a = c.args in
     gives_first_block a.setup a.bytes.now a.budget a.list.now (omega (arith, c.if-bytes-gt65535.false))
-    (sym c.is_valid.ensures ∙ not-false _ c.if-not-is_valid.false)
-    (sym c.is_percent.ensures ∙ not-true _ c.if-not-is_percent.true) c.refused-then-not-is_percent.ensures
+    (sym c.is_valid.ensures ∙ c.if-not-is_valid.false)
+    (sym c.is_percent.ensures ∙ c.if-not-is_percent.true) c.refused-then-not-is_percent.ensures
 
 -- the data are short enough, the setup keeps its limits, and the first block is `%` alone
 module _ (c : goal.Else-not-is_percent) where
@@ -29,10 +29,10 @@ module _ (c : goal.Else-not-is_percent) where
   short = omega (arith, c.if-bytes-gt65535.false)
 
   valid : valid_setup c.args.setup ≡ true
-  valid = sym c.is_valid.ensures ∙ not-false _ c.if-not-is_valid.false
+  valid = sym c.is_valid.ensures ∙ c.if-not-is_valid.false
 
   percent : is_percent (text_from (drop 0 c.args.bytes.now)) ≡ true
-  percent = sym c.is_percent.ensures ∙ not-false _ c.if-not-is_percent.false
+  percent = sym c.is_percent.ensures ∙ c.if-not-is_percent.false
 
 pub find_programs-found-requires : goal.find_programs-found-requires
 find_programs-found-requires c =
@@ -42,7 +42,7 @@ find_programs-found-requires c =
 pub run_main-requires : goal.run_main-requires
 run_main-requires c =
     let a = c.args in
-    (valid c, programs_opened a.setup a.bytes.now a.budget a.list.now (short c) (valid c) (percent c) c.find_programs-found.ensures c.in-Fine.is)
+    record { setup_value = valid c; opened = programs_opened a.setup a.bytes.now a.budget a.list.now (short c) (valid c) (percent c) c.find_programs-found.ensures c.in-Fine.is }
 
 pub returns-in-Refused : goal.returns-in-Refused
 returns-in-Refused c =

@@ -2,6 +2,7 @@
 use Rattle.terms.proofs.Common.{sym, rules}
 use Rattle.letters.specs.Letters.{is_arc}
 use Rattle.letters.proofs.{Centred.other_codes}
+use borrow.Enum.Refused.{opened}
 use Rattle.letters.proofs.is_arc.Goals as goal
 
 pub enum_known-code : goal.enum_known-code
@@ -18,4 +19,4 @@ returns-in-Moving c = rw c.in-Moving.is c.turns.ensures
 
 pub returns-in_default : goal.returns-in_default
 unfolding is_arc
-returns-in_default c = sym (other_codes c.args.code c.in_default.in_default-own.keys2)
+returns-in_default c = sym (other_codes c.args.code (opened c.in_default.in_default-own.keys2))

@@ -2,6 +2,7 @@
 use Rattle.terms.proofs.Common.{sym, rules}
 use Rattle.letters.specs.Letters.{turns}
 use Rattle.letters.proofs.{Centred.other_motions}
+use borrow.Enum.Refused.{opened}
 use Rattle.letters.proofs.turns.Goals as goal
 
 pub enum_told-1 : goal.enum_told-1
@@ -22,4 +23,4 @@ returns-in-G03 c = rw c.in-G03.is
 
 pub returns-in_default : goal.returns-in_default
 unfolding turns
-returns-in_default c = sym (other_motions c.args.motion c.in_default.in_default-own.keys3)
+returns-in_default c = sym (other_motions c.args.motion (opened c.in_default.in_default-own.keys3))

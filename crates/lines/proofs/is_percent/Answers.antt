@@ -8,7 +8,7 @@ returns-then-s-at c = let a = c.args in sym (percent_end a.s.now a.at c.if-s-at.
 pub returns-then-s-at-ne37 : goal.returns-then-s-at-ne37
 returns-then-s-at-ne37 c = let a = c.args in sym (percent_not a.s.now a.at (omega arith) c.if-s-at-ne37.true)
 
-pub returns-then-s-at : goal.returns
+pub returns : goal.returns
 returns c =
     let a = c.args in
     c.text_ends.ensures ∙ sym (percent_at a.s.now a.at (omega arith) c.if-s-at-ne37.false)

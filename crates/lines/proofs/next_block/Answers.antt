@@ -9,5 +9,5 @@ returns-then-b-eq10 c = omega (arith, length_at_lf c.args.s.now c.loop-i.i (omeg
 pub loop-i-preserved : goal.loop-i-preserved
 loop-i-preserved c = omega (arith, length_at_more c.args.s.now c.loop-i.i (omega arith) c.if-b-eq10.false)
 
-pub returns-then-b-eq10 : goal.returns
+pub returns : goal.returns
 returns c = omega (arith, length_at_end c.args.s.now c.loop-i.i (omega arith))

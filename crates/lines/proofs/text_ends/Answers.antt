@@ -16,7 +16,7 @@ returns-then-s-next c =
     let a = c.args in
     sym (no_text_cr a.s.now a.at (omega arith) c.if-s-at-ne13.false ∙ begins_end 10 a.s.now (a.at + 1) c.if-s-next.true)
 
-pub returns-then-s-at : goal.returns
+pub returns : goal.returns
 returns c =
     let a = c.args in
     sym (no_text_cr a.s.now a.at (omega arith) c.if-s-at-ne13.false ∙ begins_at 10 a.s.now (a.at + 1) (omega arith))

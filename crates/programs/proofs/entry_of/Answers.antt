@@ -18,7 +18,7 @@ returns-then-t-ge10 c =
     rw o.1
     (sym (entry_full c.args.t c.requires o.0.0 (sym c.is_taken.ensures ∙ c.if-is_taken.false) c.if-t-ge10.true))
 
-pub returns-in_default : goal.returns
+pub returns : goal.returns
 returns c =
     let o = c.in-Number.o-1.given in
     rw o.1

@@ -21,7 +21,7 @@ loop-i-preserved c =
     let a = c.args in
     (omega arith, c.loop-i.invariant.1, search_past a.n a.t.subs a.t.count c.loop-i.i _ c.loop-i.invariant.2 (omega arith) c.if-n-p.false)
 
-pub returns-then-n-main : goal.returns
+pub returns : goal.returns
 returns c =
     let a = c.args in
     sym

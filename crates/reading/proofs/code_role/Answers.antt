@@ -10,7 +10,7 @@ returns-then-is_bad_code c =
           tells_code main done c.args.w _ c.requires (c.is_bad_code.ensures.is done s ∙ ap (λ (x : Code). told_g x done) c.code_in-c.ensures) ∙ c.if-is_bad_code.true;
     }
 
-pub returns-then-is_bad_code : goal.returns
+pub returns : goal.returns
 returns c =
     record {
       is = λ done s e f. (

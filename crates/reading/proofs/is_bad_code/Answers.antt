@@ -16,7 +16,7 @@ returns-then-groups-g c =
     record {
       is = λ done s.
           told_group done a.t1 a.m s a.c
-          (ap (λ (g : ℕ). get_or c.args.t1 g false) (sym c.group_of-g.ensures) ∙ c.if-groups-g.true);
+          (ap (λ (g : ℕ). get_or c.args.groups g false) (sym c.group_of-g.ensures) ∙ c.if-groups-g.true);
     }
 
 pub returns-then-g-eq1 : goal.returns-then-g-eq1
@@ -26,7 +26,7 @@ returns-then-g-eq1 c =
     record {
       is = λ done s.
           told_one done a.t1 a.m s a.c _ c.stands_alone-alone.ensures
-          (ap (λ (g : ℕ). get_or c.args.t1 g false) (sym is) ∙ c.if-groups-g.false) (sym is ∙ c.if-g-eq1.true);
+          (ap (λ (g : ℕ). get_or c.args.groups g false) (sym is) ∙ c.if-groups-g.false) (sym is ∙ c.if-g-eq1.true);
     }
 
 pub returns-then-g-eq7 : goal.returns-then-g-eq7
@@ -36,16 +36,16 @@ returns-then-g-eq7 c =
     record {
       is = λ done s.
           told_seven done a.t1 a.m s a.c _ c.stands_alone-alone.ensures
-          (ap (λ (g : ℕ). get_or c.args.t1 g false) (sym is) ∙ c.if-groups-g.false) (sym is ∙ c.if-g-eq7.true);
+          (ap (λ (g : ℕ). get_or c.args.groups g false) (sym is) ∙ c.if-groups-g.false) (sym is ∙ c.if-g-eq7.true);
     }
 
-pub returns-then-g-eq0 : goal.returns
+pub returns : goal.returns
 returns c =
     let a = c.args in
     let is = c.group_of-g.ensures in
     record {
       is = λ done s.
           told_rest done a.t1 a.m s a.c _ c.stands_alone-alone.ensures (λ e. c.if-g-eq0.false (is ∙ e))
-          (ap (λ (g : ℕ). get_or c.args.t1 g false) (sym is) ∙ c.if-groups-g.false)
+          (ap (λ (g : ℕ). get_or c.args.groups g false) (sym is) ∙ c.if-groups-g.false)
           (λ e. absurd (c.if-g-eq1.false (is ∙ e))) (λ e. absurd (c.if-g-eq7.false (is ∙ e)));
     }

@@ -41,7 +41,7 @@ overflow_add-result c =
           (from_place c.args.s.now c.args.i ∙ sym c.read_number.ensures ∙ c.in-Is.is),
     )
 
-pub returns-then-b-eq32 : goal.returns
+pub returns : goal.returns
 returns c =
     let a = c.args in
     sym

@@ -12,7 +12,7 @@ returns-then-is_bad_misc c =
           (c.is_bad_misc.ensures ∙ ap (λ (x : Misc). bad_misc c.args.main c.args.after x) c.misc_in-m.ensures) ∙ c.if-is_bad_misc.true;
     }
 
-pub returns-then-is_bad_misc : goal.returns
+pub returns : goal.returns
 returns c =
     record {
       is = λ done s e f. (

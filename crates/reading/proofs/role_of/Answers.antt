@@ -26,7 +26,7 @@ returns-then-w-eq77 c =
     let a = c.args in
     rw (either_left a.stood (not c.is_known.result) c.if-stood-is_known.false) (c.misc_role.ensures _ _)
 
-pub returns-then-w-eq71 : goal.returns
+pub returns : goal.returns
 returns c =
     let a = c.args in
     let other = ne_eqb a.w.letter 71 c.if-w-eq71.false in

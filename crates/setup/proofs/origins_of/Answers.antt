@@ -4,13 +4,13 @@ use Rattle.setup.proofs.{Origins.none_turned, Origins.one_turned, Origins.all_tu
 use Rattle.setup.proofs.origins_of.Goals as goal
 
 pub loop-place-init : goal.loop-place-init
-loop-place-init c = none_turned c.args.t1 _ refl
+loop-place-init c = none_turned c.args.origins _ refl
 
 pub loop-place-preserved : goal.loop-place-preserved
 loop-place-preserved c =
-    let l = c.args.t1 in
+    let l = c.args.origins in
     rw c.point_of.ensures (one_turned l c.loop-place.points c.loop-place.place c.loop-place.invariant (omega arith) _ (omega arith))
 
 pub returns : goal.returns
 returns c =
-    all_turned c.args.t1 c.loop-place.points c.loop-place.place c.loop-place.invariant (omega arith) (omega arith)
+    all_turned c.args.origins c.loop-place.points c.loop-place.place c.loop-place.invariant (omega arith) (omega arith)

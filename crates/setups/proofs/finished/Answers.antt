@@ -6,5 +6,5 @@ use Rattle.setups.proofs.finished.Goals as goal
 pub returns-then-place-s : goal.returns-then-place-s
 returns-then-place-s c = c.refused.ensures ∙ more_left _ _ _ _ c.next_word-place.ensures c.if-place-s.true
 
-pub returns-then-place-s : goal.returns
+pub returns : goal.returns
 returns c = nothing_left _ _ _ _ _ c.next_word-place.ensures c.if-place-s.false c.setup_of-setup.ensures

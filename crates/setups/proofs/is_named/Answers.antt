@@ -8,7 +8,7 @@ returns-then-s-first c =
     let a = c.args in
     no_first a.s.now c.next_word-first.result c.next_word-first.ensures c.if-s-first.true
 
-pub returns-then-s-first : goal.returns
+pub returns : goal.returns
 returns c =
     let a = c.args in
     first_letter a.s.now c.next_word-first.result c.next_word-first.ensures (omega arith)

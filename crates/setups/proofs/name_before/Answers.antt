@@ -31,7 +31,7 @@ pass_name-requires c =
     let less : j < 15 = omega arith in
     simp (length-take, length-drop) (omega (arith, begins_order j less, begins_inside (j + 1) (omega arith)))
 
-pub returns-then-j-eq15 : goal.returns
+pub returns : goal.returns
 returns c =
     let j = c.name_of-j.result in
     let less : j < 15 = omega arith in

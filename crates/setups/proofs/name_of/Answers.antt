@@ -13,7 +13,7 @@ unfolding name_of
 returns-then-k-eq0 c =
     (rw (lt-leb 30 c.args.k c.if-k-ge30.false, eq-eqb (c.args.k % 3) 0 c.if-k-eq0.true), omega arith)
 
-pub returns-then-k-ge30 : goal.returns
+pub returns : goal.returns
 unfolding name_of
 returns c =
     (rw (lt-leb 30 c.args.k c.if-k-ge30.false, ne_eqb (c.args.k % 3) 0 c.if-k-eq0.false), omega arith)

@@ -20,7 +20,7 @@ loop-k-preserved c =
     let named = c.is_named-named in
     one_filled _ _ _ _ _ (plan_length named.result) c.loop-k.invariant _ _ (omega arith) (sym c.entry_at.ensures ∙ c.in-Is.is)
 
-pub returns-in-Bad : goal.returns
+pub returns : goal.returns
 returns c =
     let named = c.is_named-named in
     c.finished.ensures

@@ -7,7 +7,7 @@ use Rattle.setups.proofs.setup_of.Goals as goal
 pub returns : goal.returns
 unfolding setup_of
 returns c =
-    let zs = c.args.t1 in
+    let zs = c.args.numbers in
     let f30 : SFits w64 (figure_at zs 30) = search rules in
     let f31 : SFits w64 (figure_at zs 31) = search rules in
     let f32 : SFits w64 (figure_at zs 32) = search rules in

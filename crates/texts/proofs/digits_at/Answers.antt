@@ -35,6 +35,6 @@ pub loop-i-preserved : goal.loop-i-preserved
 loop-i-preserved c =
     digit_counted c.args.s.now c.args.from c.args.end c.requires.1 c.loop-i.value c.loop-i.i c.loop-i.invariant (omega arith) (omega arith) (omega arith)
 
-pub returns-then-from-end : goal.returns
+pub returns : goal.returns
 returns c =
     all_counted c.args.s.now c.args.from c.args.end c.requires.1 c.loop-i.value c.loop-i.i c.loop-i.invariant (omega arith)

@@ -23,7 +23,7 @@ loop-i-preserved c =
     let e : a.from + (c.loop-i.i + 1) ≡ a.from + c.loop-i.i + 1 = omega arith in
     (omega arith, omega arith, rw e (c.loop-i.invariant.2 ∙ same_more a.s.now a.name.now (a.from + c.loop-i.i) a.end c.loop-i.i (omega arith) c.requires.1 (omega arith) c.if-s-from.false))
 
-pub returns-then-end-from : goal.returns
+pub returns : goal.returns
 returns c =
     let a = c.args in
     sym (c.loop-i.invariant.2 ∙ same_all a.s.now a.name.now (a.from + c.loop-i.i) a.end c.loop-i.i (omega arith) (omega arith))

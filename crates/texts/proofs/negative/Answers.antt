@@ -14,7 +14,7 @@ unfolding fitted largest signed
 returns-then-n-eq9223372036854775808 c =
     rw c.if-n-eq9223372036854775808.true (ap Fit c.of.ensures.is)
 
-pub returns-then-n-le9223372036854775807 : goal.returns
+pub returns : goal.returns
 unfolding fitted largest signed
 returns c =
     rw (lt-leb c.args.n 9223372036854775808 (omega arith))

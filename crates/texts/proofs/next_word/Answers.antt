@@ -16,6 +16,6 @@ pub loop-i-preserved : goal.loop-i-preserved
 loop-i-preserved c =
     omega (arith, c.loop-i.invariant, gap_more c.args.s.now c.loop-i.inside c.loop-i.i c.in-Gap.after (omega arith) (sym c.space_of.ensures ∙ c.in-Gap.is))
 
-pub returns-in_default : goal.returns
+pub returns : goal.returns
 returns c =
     omega (arith, c.loop-i.invariant, gap_end c.args.s.now c.loop-i.inside c.loop-i.i (omega arith))

@@ -17,7 +17,7 @@ returns-then-is_blank c =
     let h = c.if-b-eq35.false in
     rw (c.if-inside.false, ne_eqb _ 35 h, sym c.is_blank.ensures ∙ c.if-is_blank.true)
 
-pub returns-then-inside : goal.returns
+pub returns : goal.returns
 unfolding space_of
 returns c =
     let h = c.if-b-eq35.false in

@@ -1,5 +1,5 @@
 -- `texts::word_end` meets its contract. What is left gives the same.
-use Rattle.terms.proofs.Common.{◌≡◌, refl, sym, ◌∙◌, true, false, arith, get_or, not-true, not-false}
+use Rattle.terms.proofs.Common.{◌≡◌, refl, sym, ◌∙◌, true, false, arith, get_or}
 use Rattle.texts.specs.Texts.{in_word}
 use Rattle.texts.proofs.{Places.word_end, Places.word_more, Places.word_over}
 use Rattle.texts.proofs.word_end.Goals as goal
@@ -10,15 +10,15 @@ loop-i-init c = refl
 pub returns-then-not-in_word : goal.returns-then-not-in_word
 returns-then-not-in_word c =
     let s = c.args.s.now in
-    let e : in_word (get_or s c.loop-i.i 0) ≡ false = sym c.in_word.ensures ∙ not-true _ c.if-not-in_word.true in
+    let e : in_word (get_or s c.loop-i.i 0) ≡ false = sym c.in_word.ensures ∙ c.if-not-in_word.true in
     omega (arith, c.loop-i.invariant, word_over s c.loop-i.i (omega arith) e)
 
 pub loop-i-preserved : goal.loop-i-preserved
 loop-i-preserved c =
     let s = c.args.s.now in
-    let e : in_word (get_or s c.loop-i.i 0) ≡ true = sym c.in_word.ensures ∙ not-false _ c.if-not-in_word.false in
+    let e : in_word (get_or s c.loop-i.i 0) ≡ true = sym c.in_word.ensures ∙ c.if-not-in_word.false in
     omega (arith, c.loop-i.invariant, word_more s c.loop-i.i (omega arith) e)
 
-pub returns-then-not-in_word : goal.returns
+pub returns : goal.returns
 returns c =
     omega (arith, c.loop-i.invariant, word_end c.args.s.now c.loop-i.i (omega arith))

@@ -7,7 +7,7 @@ pub returns-then-places-n : goal.returns-then-places-n
 returns-then-places-n c = length_fine _ _ (rw c.places_of-places.ensures at c.if-places-n.true)
 
 pub steps-requires : goal.steps-requires
-steps-requires c = (c.requires, (c.if-places-n.false, rw c.places_of-places.ensures (places_few c.args.unit)))
+steps-requires c = record { written = c.requires; decimals_le_places = (c.if-places-n.false, rw c.places_of-places.ensures (places_few c.args.unit)) }
 
 pub overflow_mul-size : goal.overflow_mul-size
 overflow_mul-size c = omega (arith, size_most _ _ _ c.steps.ensures.most c.units_of.ensures)

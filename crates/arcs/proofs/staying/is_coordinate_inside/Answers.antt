@@ -18,7 +18,7 @@ returns-then-below-2 c =
     let f = sym (rw none at c.below-2.ensures) ∙ c.if-below-2.true in
     rw (c.root_stays_below-then-below-2.ensures, c.root_reaches-then-below-2.ensures, e, f)
 
-pub returns-then-below : goal.returns
+pub returns : goal.returns
 unfolding coordinate_inside
 returns c =
     let none = c.zero-none.ensures.is in

@@ -21,7 +21,7 @@ returns-then-is_left-2 c =
     let f = sym c.is_left-2.ensures ∙ c.if-is_left-2.true in
     rw (c.is_left-then-is_left-2-2.ensures, c.is_left-then-is_left-2-3.ensures, e, f)
 
-pub returns-then-is_left : goal.returns
+pub returns : goal.returns
 unfolding on_left_way
 returns c =
     let e = sym c.is_left.ensures ∙ c.if-is_left.false in

@@ -2,6 +2,7 @@
 use Rattle.terms.proofs.Common.{refl, sym, ◌∙◌, arith}
 use Rattle.records.proofs.Again.{read_on}
 use Rattle.drawing.proofs.{Walking.end_next, Walking.end_here}
+use borrow.Enum.Refused.{opened}
 use Rattle.drawing.proofs.layers.last_of.Goals as goal
 
 pub loop-next-smaller : goal.loop-next-smaller
@@ -17,7 +18,7 @@ loop-next-preserved c =
 pub returns-in_default : goal.returns-in_default
 returns-in_default c =
     let e = c.read-found.ensures in
-    e ∙ sym (end_here c.args.list.now c.loop-next.at (rw e at c.in_default.in_default-own.keys2)) ∙ c.loop-next.invariant
+    e ∙ sym (end_here c.args.list.now c.loop-next.at (rw e at (opened c.in_default.in_default-own.keys2))) ∙ c.loop-next.invariant
 
 pub loop-next-init : goal.loop-next-init
 loop-next-init c = refl

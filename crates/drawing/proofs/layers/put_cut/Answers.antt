@@ -8,7 +8,7 @@ unfolding cut
 returns-then-is_same c =
     rw (← c.seen-end.ensures, ← c.seen.ensures, sym c.is_same.ensures ∙ c.if-is_same.true) c.put_form.ensures
 
-pub returns-then-is_same : goal.returns
+pub returns : goal.returns
 unfolding cut
 returns c =
     let no = sym c.is_same.ensures ∙ c.if-is_same.false in

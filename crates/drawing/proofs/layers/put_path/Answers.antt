@@ -3,6 +3,7 @@ use Rattle.terms.proofs.Common.{refl, sym, ◌∙◌, arith}
 use Rattle.records.proofs.Again.{read_on}
 use Rattle.svg.{proofs.Filled.fills_length}
 use Rattle.drawing.proofs.{Walking.path_on, Walking.path_end_lem}
+use borrow.Enum.Refused.{opened}
 use Rattle.drawing.proofs.layers.put_path.Goals as goal
 
 pub loop-r-smaller : goal.loop-r-smaller
@@ -25,7 +26,7 @@ pub returns-in_default : goal.returns-in_default
 returns-in_default c =
     let x = c.args in
     let h = c.loop-r in
-    h.invariant.1 h.out h.next (path_end_lem x.list.now x.view x.rapids h.from h.out h.next h.place (rw c.read-found.ensures at c.in_default.in_default-own.keys2))
+    h.invariant.1 h.out h.next (path_end_lem x.list.now x.view x.rapids h.from h.out h.next h.place (rw c.read-found.ensures at (opened c.in_default.in_default-own.keys2)))
 
 pub loop-r-init : goal.loop-r-init
 loop-r-init c = (refl, λ is k h. h)

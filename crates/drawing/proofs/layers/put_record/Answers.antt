@@ -3,10 +3,11 @@ use Rattle.terms.proofs.Common.{◌≡◌, refl, ◌∷◌, not-true, not-false}
 use denote.Enum.Declared.{tag_of}
 use types.Run.{OneOf, miss}
 use Rattle.lengths.specs.declared.Point.{Point}
-use Rattle.records.{specs.declared.Record.Record, proofs.Record.the_type}
+use Rattle.records.{specs.declared.Record.Record, specs.contracts.Record.the_type}
 use Rattle.records.specs.declared.Record.TheVariants.{RP, LN, AR, AL, DW, SP, SO, PA, EN}
 use Rattle.svg.{specs.declared.View.View, proofs.Filled.fills_none}
 use Rattle.drawing.specs.Shapes.{as_rapid, drawn}
+use borrow.Enum.Refused.{opened}
 use Rattle.drawing.proofs.layers.put_record.Goals as goal
 
 -- the marks that have no arm of their own
@@ -34,4 +35,4 @@ pub returns-in_default : goal.returns-in_default
 unfolding drawn
 returns-in_default c =
     let x = c.args in
-    rw (not-false x.rapids c.if-not-rapids.false, others x.view x.from x.r c.in_default.in_default-own.keys2) (fills_none x.out.now x.at)
+    rw (not-false x.rapids c.if-not-rapids.false, others x.view x.from x.r (opened c.in_default.in_default-own.keys2)) (fills_none x.out.now x.at)

@@ -30,5 +30,5 @@ returns-in-Refused c =
 pub returns-in-Fine : goal.returns-in-Fine
 returns-in-Fine c =
     let a = c.args in
-    block_read_as a.bed a.left a.state a.s.now a.from (words c).ws (words c).are (fine c) (whole c) c.requires.1.0 c.requires.1.1
+    block_read_as a.bed a.left a.state a.s.now a.from (words c).ws (words c).are (fine c) (whole c) c.requires.fair.0 c.requires.fair.1
     c.judge_words.result c.judge_words.ensures

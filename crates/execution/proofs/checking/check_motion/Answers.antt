@@ -28,7 +28,7 @@ pub with_brief-requires-2 : goal.with_brief-requires-2
 with_brief-requires-2 c =
     work_little c.requires.plans c.with_brief.ensures (not-false c.args.p.work.sound c.if-not-p.false) (sym c.in-Ends.is ∙ c.check_work.ensures)
 
-pub returns-then-not-p : goal.returns
+pub returns : goal.returns
 returns c =
     block_comes c.requires.plans c.with_brief.ensures (not-false c.args.p.work.sound c.if-not-p.false)
     (sym c.in-Ends.is ∙ c.check_work.ensures) c.with_brief-2.ensures

@@ -10,14 +10,14 @@ unfolding planned_records
 put_brief-spun-requires c =
     let a = c.args in
     brief_asks a.offset a.p.first
-    (first_ready a.offset (brief_records a.p.first) (work_records a.p.work a.p.aim a.p.works.at) (brief_records a.p.last) c.requires.0)
+    (first_ready a.offset (brief_records a.p.first) (work_records a.p.work a.p.aim a.p.works.at) (brief_records a.p.last) c.requires.room_for)
 
 pub put_work-moved-requires : goal.put_work-moved-requires
 unfolding planned_records
 put_work-moved-requires c =
     let p = c.args.p in
     let w = brief_put c.args.offset p.first c.put_brief-spun.ensures in
-    (second_ready c.args.offset (brief_records p.first) (work_records p.work p.aim p.works.at) (brief_records p.last) w c.requires.0, c.requires.1)
+    record { room_for = second_ready c.args.offset (brief_records p.first) (work_records p.work p.aim p.works.at) (brief_records p.last) w c.requires.room_for; writable = c.requires.writable }
 
 pub put_brief-requires : goal.put_brief-requires
 unfolding planned_records
@@ -25,7 +25,7 @@ put_brief-requires c =
     let p = c.args.p in
     let w = brief_put c.args.offset p.first c.put_brief-spun.ensures in
     brief_asks c.args.offset p.last
-    (third_ready c.args.offset (brief_records p.first) (work_records p.work p.aim p.works.at) (brief_records p.last) w c.put_work-moved.ensures c.requires.0)
+    (third_ready c.args.offset (brief_records p.first) (work_records p.work p.aim p.works.at) (brief_records p.last) w c.put_work-moved.ensures c.requires.room_for)
 
 pub returns : goal.returns
 unfolding planned_records

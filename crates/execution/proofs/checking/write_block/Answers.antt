@@ -14,7 +14,7 @@ returns-then-list-at c =
 pub put_block-next-requires : goal.put_block-next-requires
 put_block-next-requires c =
     let came = sym c.in-Comes.is ∙ c.check_motion.ensures in
-    (block_ready c.requires.1.plans 0 0 0 [] came c.requires.0 (omega (arith, c.if-list-at.false)), writable c.requires.1.plans 0 0 0 [] came)
+    record { room_for = block_ready c.requires.able.plans 0 0 0 [] came c.requires.at_in_bounds (omega (arith, c.if-list-at.false)); writable = writable c.requires.able.plans 0 0 0 [] came }
 
 pub returns-in-Refused : goal.returns-in-Refused
 returns-in-Refused c =
@@ -31,4 +31,4 @@ returns-else-list-at c =
     (put_as a.bed.offset (made_is h) c.put_block-next.ensures) (count_is h left 0 0 ws came)
 
 pub overflow_sub-list : goal.overflow_sub-list
-overflow_sub-list c = omega (arith, c.requires.0)
+overflow_sub-list c = omega (arith, c.requires.at_in_bounds)

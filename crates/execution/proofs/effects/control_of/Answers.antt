@@ -16,6 +16,6 @@ pub returns-then-n : goal.returns-then-n
 unfolding control_of is_m
 returns-then-n c = rw (← c.misc_number-n.ensures, ne_eqb _ _ c.if-n-eq98.false, ne_eqb _ _ c.if-n-eq99.false, c.if-n.true)
 
-pub returns-then-n-eq98 : goal.returns
+pub returns : goal.returns
 unfolding control_of is_m
 returns c = rw (← c.misc_number-n.ensures, ne_eqb _ _ c.if-n-eq98.false, ne_eqb _ _ c.if-n-eq99.false, c.if-n.false)

@@ -12,5 +12,5 @@ returns-then-n-eq0 c = last_pause c.args.misc c.misc_number-n.ensures (ne_eqb _ 
 pub returns-then-n : goal.returns-then-n
 returns-then-n c = last_end c.args.misc c.misc_number-n.ensures (ne_eqb _ _ c.if-n-eq5.false) (ne_eqb _ _ c.if-n-eq0.false) c.if-n.true
 
-pub returns-then-n-eq5 : goal.returns
+pub returns : goal.returns
 returns c = last_none c.args.misc c.misc_number-n.ensures (ne_eqb _ _ c.if-n-eq5.false) (ne_eqb _ _ c.if-n-eq0.false) c.if-n.false

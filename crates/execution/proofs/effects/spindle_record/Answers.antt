@@ -6,6 +6,6 @@ pub returns-then-s-b : goal.returns-then-s-b
 returns-then-s-b c =
     spindle_one c.args.s c.args.b c.misc_number.ensures c.requires c.if-s-b.true
 
-pub returns-then-s-b : goal.returns
+pub returns : goal.returns
 returns c =
     spindle_none c.args.s c.args.b c.misc_number.ensures c.if-s-b.false

@@ -2,6 +2,7 @@
 use Rattle.terms.proofs.Common.{sym}
 use Rattle.blocks.specs.Exec.{lacks_centre}
 use Rattle.execution.proofs.{Small.no_centre}
+use borrow.Enum.Refused.{opened}
 use Rattle.execution.proofs.order.lacks_centre.Goals as goal
 
 pub returns-in-G02 : goal.returns-in-G02
@@ -13,4 +14,4 @@ unfolding lacks_centre
 returns-in-G03 c = rw (c.in-G03.is, c.end_stands-in-G03.ensures, c.centre_given-in-G03.ensures)
 
 pub returns-in_default : goal.returns-in_default
-returns-in_default c = sym (no_centre c.args.motion c.args.v c.in_default.in_default-own.keys3)
+returns-in_default c = sym (no_centre c.args.motion c.args.v (opened c.in_default.in_default-own.keys3))

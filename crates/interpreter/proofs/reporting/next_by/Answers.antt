@@ -7,6 +7,7 @@ use Rattle.runs.specs.Walk.{nowhere}
 use Rattle.interpreter.specs.{Progressing.next_by, declared.How.How}
 use Rattle.interpreter.specs.declared.How.TheVariants.{Ended, Returned, Unfinished, Refused}
 use Rattle.interpreter.proofs.{How.the_type}
+use borrow.Enum.Refused.{opened}
 use Rattle.interpreter.proofs.reporting.next_by.Goals as goal
 
 no-next : (how : How) (place : Place) → OneOf (0 ∷ 1 ∷ 3 ∷ []) (tag_of the_type how) → nowhere ≡ next_by how place
@@ -26,4 +27,4 @@ returns-in-Unfinished c = sym (ap (λ (how : How). next_by how c.args.place) c.i
 
 pub returns-in_default : goal.returns-in_default
 unfolding next_by
-returns-in_default c = no-next c.args.how c.args.place c.in_default.in_default-own.keys2
+returns-in_default c = no-next c.args.how c.args.place (opened c.in_default.in_default-own.keys2)

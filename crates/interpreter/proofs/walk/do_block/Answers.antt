@@ -15,7 +15,7 @@ returns-then-slashed-skips c =
 pub exec-requires : goal.exec-requires
 exec-requires c = (⊎_elim (λ w. omega arith) (λ w. omega arith) c.if-slashed.branch, search rules)
 
-pub returns-then-slashed-skips : goal.returns
+pub returns : goal.returns
 returns c =
     let a = c.args in
     let slash = sym c.begins_with-slashed.ensures in

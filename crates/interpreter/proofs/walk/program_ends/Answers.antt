@@ -11,7 +11,7 @@ returns-then-begins_with c =
     let a = c.args in
     sym (ends_opening a.s.now a.at (omega arith) (sym c.begins_with.ensures ∙ c.if-begins_with.true))
 
-pub returns-then-s-at : goal.returns
+pub returns : goal.returns
 returns c =
     let a = c.args in
     c.is_percent.ensures

@@ -13,7 +13,7 @@ loop-ground-init c =
     let a = c.args in (
       omega arith,
       λ programs.
-          walking_starts a.s.now (task_on a.ground a.skips programs) a.ground.left a.start.block a.start.byte a.p a.list.now c.requires.1.0 c.requires.1.1,
+          walking_starts a.s.now (task_on a.ground a.skips programs) a.ground.left a.start.block a.start.byte a.p a.list.now c.requires.begins.0 c.requires.begins.1,
     )
 
 pub shape_of-list-then-is_spent : goal.shape_of-list-then-is_spent
@@ -50,7 +50,7 @@ module _ (c : goal.Else-program_ends) where
 pub do_block-requires : goal.do_block-requires
 do_block-requires c =
     let fits = (c.loop-ground.invariant.1 no_programs).fits in
-    (goes_inside c.args.s.now c.loop-ground.at (stays c), (fits.next, (c.requires.0, fits.state)))
+    (goes_inside c.args.s.now c.loop-ground.at (stays c), (fits.next, (c.requires.fair, fits.state)))
 
 -- the block is executed or skipped
 module _ (c : goal.After-do_block) (programs : Programs) where
@@ -62,7 +62,7 @@ module _ (c : goal.After-do_block) (programs : Programs) where
   meets =
       record {
         walking = c.loop-ground.invariant.1 programs;
-        fair = c.requires.0;
+        fair = c.requires.fair;
         budget = budget c;
         stays = stays c;
         did = c.do_block.ensures c.loop-ground.block;
@@ -79,7 +79,7 @@ pub progress_after-after-requires : goal.progress_after-after-requires
 unfolding progress_by
 progress_after-after-requires c =
     let fits = did_fits (meets c no_programs) c.in-Accepted.is in
-    (budget c, omega (arith, fits.next, fits.count))
+    record { budget_value = budget c; count_bound = omega (arith, fits.next, fits.count) }
 
 -- and accepted
 pub overflow_add-block : goal.overflow_add-block

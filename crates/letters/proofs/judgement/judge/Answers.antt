@@ -103,7 +103,7 @@ returns-then-bad c =
     c.loop-i-test.false
     c.if-bad.true
 
-pub returns-then-is_unused : goal.returns
+pub returns : goal.returns
 returns c =
     let k = c.loop-i in
     let a = c.args in

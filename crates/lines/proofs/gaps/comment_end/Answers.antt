@@ -14,5 +14,5 @@ returns-then-b-eq10 c = sym (c.loop-i.invariant.1 ∙ comment_lf c.args.s.now c.
 pub loop-i-preserved : goal.loop-i-preserved
 loop-i-preserved c = (omega arith, c.loop-i.invariant.1 ∙ comment_more c.args.s.now c.loop-i.i (omega arith) c.if-b-eq41.false c.if-b-eq10.false)
 
-pub returns-then-b-eq41 : goal.returns
+pub returns : goal.returns
 returns c = sym (c.loop-i.invariant.1 ∙ comment_end_of c.args.s.now c.loop-i.i (omega arith))

@@ -16,7 +16,7 @@ loop-i-preserved c =
     let a = c.args in
     (omega arith, c.loop-i.invariant.1, hunt_past a.n a.t.subs a.t.count c.loop-i.i _ c.loop-i.invariant.2 (omega arith) c.if-p-n.false)
 
-pub returns-then-p-n : goal.returns
+pub returns : goal.returns
 returns c =
     let a = c.args in
     hunt_done a.n a.t.subs a.t.count c.loop-i.i a.t.main c.loop-i.invariant.2 (omega arith)

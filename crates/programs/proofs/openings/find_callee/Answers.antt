@@ -13,7 +13,7 @@ returns-then-left-eq0 c =
     let a = c.args in
     callee_deep (known (subs_of a.programs) a.number) a.left c.find.ensures c.in-At.is c.if-left-eq0.true
 
-pub returns-in_default : goal.returns
+pub returns : goal.returns
 returns c =
     let a = c.args in
     callee_found (known (subs_of a.programs) a.number) a.left c.find.ensures c.in-At.is c.if-left-eq0.false

@@ -1,4 +1,4 @@
-use Rattle.terms.proofs.Common.{◌<◌, ◌≡◌, sym, ◌∙◌, true, length, drop, get_or, arith, not-true, not-false}
+use Rattle.terms.proofs.Common.{◌<◌, ◌≡◌, sym, ◌∙◌, true, length, drop, get_or, arith}
 use Rattle.lines.{specs.Blocks.begins_with, specs.Blocks.text_from, proofs.Lines.length_some}
 use Rattle.programs.specs.Found.{table_by}
 use Rattle.programs.proofs.{Finding.gives_as}
@@ -10,17 +10,17 @@ begins_with-requires c = omega (arith, c.next_block-at.ensures, next_inside c.ar
 
 pub scan_openings-requires : goal.scan_openings-requires
 scan_openings-requires c =
-    (omega (arith, c.next_block-at.ensures, length_some c.args.s.now 0 (omega arith)), c.only_main.ensures.ready)
+    record { number_bound = omega (arith, c.next_block-at.ensures, length_some c.args.s.now 0 (omega arith)); well_found = c.only_main.ensures.ready }
 
 pub returns-then-not-begins_with : goal.returns-then-not-begins_with
 returns-then-not-begins_with c =
     gives_as c.scan_openings.ensures
     (found_plain c.args.s.now c.next_block-at.result c.next_block-at.ensures c.only_main.result
-    (sym c.begins_with.ensures ∙ not-true _ c.if-not-begins_with.true) c.only_main.ensures)
+    (sym c.begins_with.ensures ∙ c.if-not-begins_with.true) c.only_main.ensures)
 
 -- the second block begins with `O`
 begins : (c : goal.Else-not-begins_with) → begins_with 79 (text_from (drop c.next_block-at.result c.args.s.now)) ≡ true
-begins c = sym c.begins_with.ensures ∙ not-false _ c.if-not-begins_with.false
+begins c = sym c.begins_with.ensures ∙ c.if-not-begins_with.false
 
 opened : (c : goal.Else-not-begins_with) → (c.next_block-at.result < length c.args.s.now) × (get_or c.args.s.now c.next_block-at.result 0 ≡ 79)
 opened c = opens_at c.args.s.now c.next_block-at.result (begins c)
@@ -39,7 +39,7 @@ scan_openings-requires-in-Number c =
     let o = opened c in
     let l = c.args.s.now in
     let at = c.next_block-at.result in
-    (omega (arith, c.next_block-next.ensures, length_some l at o.0, c.next_block-at.ensures, length_some l 0 (omega (arith, o.0))), c.only_main-in-Number.ensures.ready)
+    record { number_bound = omega (arith, c.next_block-next.ensures, length_some l at o.0, c.next_block-at.ensures, length_some l 0 (omega (arith, o.0))); well_found = c.only_main-in-Number.ensures.ready }
 
 pub returns-in-Bad : goal.returns-in-Bad
 unfolding table_by

@@ -9,7 +9,7 @@ use Rattle.programs.proofs.openings.scan_openings.Goals as goal
 
 pub blocks-2-init : goal.blocks-2-init
 blocks-2-init c =
-    scan_start c.args.s.now c.args.from c.args.number c.args.found c.requires.0 c.requires.1
+    scan_start c.args.s.now c.args.from c.args.number c.args.found c.requires.number_bound c.requires.well_found
 
 pub loop-i-init : goal.loop-i-init
 loop-i-init c = (record { begun = omega arith; left = refl; plain = λ k. absurd (omega arith) }, omega arith, λ began s. s)

@@ -9,8 +9,8 @@ use Rattle.reading.proofs.gathering.read_words.Goals as goal
 pub loop-status-init : goal.loop-status-init
 loop-status-init c =
     let a = c.args in
-    let h = c.requires.1 in
-    goes_on (begins _ _ _ _ _ c.requires.0 (words_length a.words.now a.places.now (h.0 ∙ sym h.1) ∙ h.0))
+    let h = c.requires.words_len in
+    goes_on (begins _ _ _ _ _ c.requires.from_in_bounds (words_length a.words.now a.places.now (h.0 ∙ sym h.1) ∙ h.0))
 
 pub text_ends-requires : goal.text_ends-requires
 text_ends-requires c = c.loop-status.invariant.inside

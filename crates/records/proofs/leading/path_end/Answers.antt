@@ -2,6 +2,7 @@
 use Rattle.terms.proofs.Common.{◌≡◌, refl}
 use Rattle.records.specs.{declared.Record.Record, Path.path_of, Path.path_end}
 use Rattle.records.proofs.{Still.still_ones}
+use borrow.Enum.Refused.{opened}
 use Rattle.records.proofs.leading.path_end.Goals as goal
 
 pub returns-in-RP : goal.returns-in-RP
@@ -22,4 +23,4 @@ returns-in-AL c = rw c.in-AL.is
 
 pub returns-in_default : goal.returns-in_default
 unfolding path_end path_of
-returns-in_default c = still_ones (λ (r : Record). c.args.from ≡ path_end c.args.from (path_of r)) c.args.r c.in_default.in_default-own.keys5 (λ ms. refl) (λ speed. refl) refl refl refl
+returns-in_default c = still_ones (λ (r : Record). c.args.from ≡ path_end c.args.from (path_of r)) c.args.r (opened c.in_default.in_default-own.keys5) (λ ms. refl) (λ speed. refl) refl refl refl

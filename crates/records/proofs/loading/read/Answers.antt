@@ -53,7 +53,7 @@ returns-in_default-byte c =
     (omega arith)
     (sym c.plane_for-byte.ensures ∙ ap found_plane c.in_default-byte.is))
 
-pub returns-then-list-at : goal.returns
+pub returns : goal.returns
 returns c =
     let x = c.args in
     rw (c.record_at.ensures, c.head_length.ensures.0, c.kind_length-length.ensures)

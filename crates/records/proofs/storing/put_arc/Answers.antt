@@ -6,26 +6,26 @@ use Rattle.records.proofs.storing.put_arc.Goals as goal
 
 pub put_point-first-requires : goal.put_point-first-requires
 put_point-first-requires c =
-    let s = c.requires.1 in
-    (simp length-set (omega arith), (s.0, (s.1.0, (s.1.1.0, tt))))
+    let s = c.requires.all_short in
+    record { at_in_bounds = simp length-set (omega arith); all_short = (s.0, (s.1.0, (s.1.1.0, tt))) }
 
 pub put_number-second-requires : goal.put_number-second-requires
 unfolding number_bytes
 put_number-second-requires c =
     let h = length-set c.args.list.now c.args.at c.plane_byte.result in
-    (omega arith, c.requires.1.1.1.1.0)
+    record { at_in_bounds = omega arith; short = c.requires.all_short.1.1.1.0 }
 
 pub put_number-feed-requires : goal.put_number-feed-requires
 unfolding number_bytes
 put_number-feed-requires c =
     let h = length-set c.args.list.now c.args.at c.plane_byte.result in
-    (omega arith, c.requires.1.1.1.1.1.0)
+    record { at_in_bounds = omega arith; short = c.requires.all_short.1.1.1.1.0 }
 
 pub put_number-requires : goal.put_number-requires
 unfolding number_bytes
 put_number-requires c =
     let h = length-set c.args.list.now c.args.at c.plane_byte.result in
-    (omega arith, c.requires.1.1.1.1.1.1.0)
+    record { at_in_bounds = omega arith; short = c.requires.all_short.1.1.1.1.1.0 }
 
 pub returns : goal.returns
 unfolding number_bytes

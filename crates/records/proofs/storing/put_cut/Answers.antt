@@ -18,14 +18,14 @@ unfolding numbers_of record_moved
 put_point-next-requires c =
     let mark = c.put_mark-body.ensures in
     let h = c.requires.short.0 in
-    (omega (arith, mark.place, wrote_length mark, one_fits c.args.by (LN c.args.p c.args.feed) c.requires), rw c.moved.ensures.is (h.0, (h.1.0, (h.1.1.0, tt))))
+    record { at_in_bounds = omega (arith, mark.place, wrote_length mark, one_fits c.args.by (LN c.args.p c.args.feed) c.requires); all_short = rw c.moved.ensures.is (h.0, (h.1.0, (h.1.1.0, tt))) }
 
 pub put_number-requires : goal.put_number-requires
 unfolding numbers_of number_bytes record_moved
 put_number-requires c =
     let mark = c.put_mark-body.ensures in
     let point = c.put_point-next.ensures in
-    (omega (arith, point.place, wrote_length point, mark.place, wrote_length mark, one_fits c.args.by (LN c.args.p c.args.feed) c.requires), c.requires.short.0.1.1.1.0)
+    record { at_in_bounds = omega (arith, point.place, wrote_length point, mark.place, wrote_length mark, one_fits c.args.by (LN c.args.p c.args.feed) c.requires); short = c.requires.short.0.1.1.1.0 }
 
 pub returns : goal.returns
 unfolding plane_bytes plane_of numbers_of number_bytes record_moved

@@ -6,12 +6,12 @@ use Rattle.records.proofs.storing.put_point.Goals as goal
 
 pub put_number-y-requires : goal.put_number-y-requires
 unfolding number_bytes
-put_number-y-requires c = (omega arith, c.requires.1.1.0)
+put_number-y-requires c = record { at_in_bounds = omega arith; short = c.requires.all_short.1.0 }
 
 pub put_number-requires : goal.put_number-requires
 unfolding number_bytes
 put_number-requires c =
-    (omega arith, c.requires.1.1.1.0)
+    record { at_in_bounds = omega arith; short = c.requires.all_short.1.1.0 }
 
 pub returns : goal.returns
 unfolding number_bytes

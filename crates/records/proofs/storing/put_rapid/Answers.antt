@@ -17,7 +17,7 @@ pub put_point-requires : goal.put_point-requires
 unfolding numbers_of record_moved
 put_point-requires c =
     let mark = c.put_mark-body.ensures in
-    (omega (arith, mark.place, wrote_length mark, one_fits c.args.by (RP c.args.p) c.requires), rw c.moved.ensures.is c.requires.short.0)
+    record { at_in_bounds = omega (arith, mark.place, wrote_length mark, one_fits c.args.by (RP c.args.p) c.requires); all_short = rw c.moved.ensures.is c.requires.short.0 }
 
 pub returns : goal.returns
 unfolding plane_bytes plane_of numbers_of number_bytes record_moved

@@ -6,7 +6,7 @@ use Rattle.records.proofs.storing.put_single.Goals as goal
 pub put_number-requires : goal.put_number-requires
 put_number-requires c =
     let mark = c.put_mark-body.ensures in
-    (omega (arith, mark.place, wrote_length mark, mark_length c.args.kind, c.requires.0), c.requires.1)
+    record { at_in_bounds = omega (arith, mark.place, wrote_length mark, mark_length c.args.kind, c.requires.0); short = c.requires.1 }
 
 pub returns : goal.returns
 returns c = wrote_then c.put_mark-body.ensures c.put_number.ensures

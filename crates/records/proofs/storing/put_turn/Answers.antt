@@ -16,7 +16,7 @@ pub put_arc-requires : goal.put_arc-requires
 unfolding numbers_of record_moved
 put_arc-requires c =
     let mark = c.put_mark-body.ensures in
-    (omega (arith, mark.place, wrote_length mark, mark_length c.args.kind, one_fits c.args.by (AR c.args.a) c.requires), rw c.displaced_arc.ensures c.requires.short.0)
+    record { at_in_bounds = omega (arith, mark.place, wrote_length mark, mark_length c.args.kind, one_fits c.args.by (AR c.args.a) c.requires); all_short = rw c.displaced_arc.ensures c.requires.short.0 }
 
 pub returns : goal.returns
 unfolding arc_moved

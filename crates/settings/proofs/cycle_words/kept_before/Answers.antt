@@ -1,19 +1,20 @@
 -- `settings::cycle_words::kept_before` meets its contract, by the code that was on.
 use Rattle.terms.proofs.Common.{sym, ◌∙◌}
 use Rattle.settings.proofs.{Keeping.none_before, Keeping.kept_again, Keeping.kept_ended}
+use borrow.Enum.Refused.{opened}
 use Rattle.settings.proofs.cycle_words.kept_before.Goals as goal
 
 pub returns-in_default : goal.returns-in_default
 returns-in_default c =
     let a = c.args in
-    c.none_kept.ensures ∙ none_before a.cycle a.motion a.z a.kept c.in_default.in_default-own.keys2
+    c.none_kept.ensures ∙ none_before a.cycle a.motion a.z a.kept (opened c.in_default.in_default-own.keys2)
 
 pub returns-then-same_cycle : goal.returns-then-same_cycle
 returns-then-same_cycle c =
     let a = c.args in
     kept_again a.cycle a.z a.kept c.in-Drilling.is (sym c.same_cycle.ensures ∙ c.if-same_cycle.true)
 
-pub returns-in_default : goal.returns
+pub returns : goal.returns
 returns c =
     let a = c.args in
     kept_ended a.cycle a.z a.kept c.in-Drilling.is (sym c.same_cycle.ensures ∙ c.if-same_cycle.false)

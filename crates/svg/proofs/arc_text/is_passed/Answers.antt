@@ -7,7 +7,7 @@ unfolding passes
 returns-then-s c =
     rw c.if-s.true c.is_on_left_way.ensures
 
-pub returns-then-s : goal.returns
+pub returns : goal.returns
 unfolding passes
 returns c =
     rw c.if-s.false c.is_on_left_way-2.ensures

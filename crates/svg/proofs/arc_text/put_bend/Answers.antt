@@ -10,7 +10,7 @@ returns-then-is_round c =
     rw (sym c.is_round.ensures ∙ c.if-is_round.true, ← c.seen-end.ensures)
     (fills_then c.put_quarters-turned.ensures c.put_piece.ensures)
 
-pub returns-then-is_round : goal.returns
+pub returns : goal.returns
 unfolding bend
 returns c =
     rw (sym c.is_round.ensures ∙ c.if-is_round.false, ← c.seen-end.ensures)

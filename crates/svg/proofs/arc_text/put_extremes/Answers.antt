@@ -1,5 +1,5 @@
 -- `svg::arc_text::put_extremes` meets its contract: at each extreme, what is left to write gives the same.
-use Rattle.terms.proofs.Common.{sym, ◌∙◌, not-true, not-false}
+use Rattle.terms.proofs.Common.{sym, ◌∙◌}
 use Rattle.svg.proofs.{Filled.fills_length, ArcParts.extreme_not, ArcParts.extreme_is, ArcParts.extremes_done, ArcParts.extremes_on}
 use Rattle.svg.proofs.arc_text.put_extremes.Goals as goal
 
@@ -8,7 +8,7 @@ loop-left-preserved-then-not-is_passed c =
     let s = c.args.s in
     let h = c.loop-left in
     let on = c.quarter_on-e.ensures in
-    let none = extreme_not s h.e h.out h.next (sym c.is_passed.ensures ∙ not-true _ c.if-not-is_passed.true) in (
+    let none = extreme_not s h.e h.out h.next (sym c.is_passed.ensures ∙ c.if-not-is_passed.true) in (
       h.invariant.0,
       on.1,
       λ is k rest. h.invariant.2 is k (extremes_on s h.e h.left c.loop-left-test.true none (rw on.0 at rest)),
@@ -19,7 +19,7 @@ loop-left-preserved c =
     let s = c.args.s in
     let h = c.loop-left in
     let on = c.quarter_on-e.ensures in
-    let passed = sym c.is_passed.ensures ∙ not-false _ c.if-not-is_passed.false in
+    let passed = sym c.is_passed.ensures ∙ c.if-not-is_passed.false in
     let put = c.put_form-next.ensures in
     let one = extreme_is s h.e passed (rw c.seen_on-to.ensures at put) in (
       fills_length put ∙ h.invariant.0,

@@ -7,6 +7,6 @@ pub returns-then-turn_seen : goal.returns-then-turn_seen
 unfolding piece
 returns-then-turn_seen c = rw (sym c.turn_seen.ensures ∙ c.if-turn_seen.true) c.put_form.ensures
 
-pub returns-then-turn_seen : goal.returns
+pub returns : goal.returns
 unfolding piece
 returns c = rw (sym c.turn_seen.ensures ∙ c.if-turn_seen.false) c.put_form-2.ensures

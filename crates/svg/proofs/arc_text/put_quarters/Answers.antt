@@ -21,7 +21,7 @@ loop-left-preserved c =
       λ is k rest. h.invariant.2 is k (quarters_on s h.d h.left c.loop-left-test.true soon piece (rw on.0 at rest)),
     )
 
-pub returns-then-is_soon : goal.returns
+pub returns : goal.returns
 returns c =
     let h = c.loop-left in
     h.invariant.2 h.out h.next (quarters_done c.args.s h.d h.out h.next h.left c.loop-left-test.false)

@@ -8,7 +8,7 @@ returns-then-below c =
     let e = sym (rw c.zero-2.ensures.is at c.below.ensures) ∙ c.if-below.true in
     rw (number_down c.args.n.v c.zero.result c.apart-size.result c.zero.ensures c.apart-size.ensures e) (fills_then c.put_byte-next.ensures c.put_digits.ensures)
 
-pub returns-then-below : goal.returns
+pub returns : goal.returns
 returns c =
     let e = sym (rw c.zero-2.ensures.is at c.below.ensures) ∙ c.if-below.false in
     rw (number_up c.args.n.v c.zero.result c.apart-size.result c.zero.ensures c.apart-size.ensures e) c.put_digits-2.ensures

@@ -7,7 +7,7 @@ unfolding onward
 returns-then-turn c =
     rw (c.if-turn.true, c.is_left.ensures)
 
-pub returns-then-turn : goal.returns
+pub returns : goal.returns
 unfolding onward
 returns c =
     rw (c.if-turn.false, c.is_left-2.ensures)

@@ -8,7 +8,7 @@ unfolding quarter_on
 returns-then-turn c =
     (rw (c.if-turn.true, c.negated.ensures.is), record { first = omega arith; second = omega arith })
 
-pub returns-then-turn : goal.returns
+pub returns : goal.returns
 unfolding quarter_on
 returns c =
     (rw (c.if-turn.false, c.negated-2.ensures.is), record { first = omega arith; second = omega arith })

@@ -59,5 +59,5 @@ returns-then-count-eq0 c = no_number c.loop-i.invariant (none_more c) c.if-count
 pub overflow_sub-result : goal.overflow_sub-result
 overflow_sub-result c = c.loop-i.invariant.after
 
-pub returns-then-point : goal.returns
+pub returns : goal.returns
 returns c = some_number c.loop-i.invariant (none_more c) c.if-count-eq0.false

@@ -9,7 +9,7 @@ returns-then-at-end c = no_byte c.args.s.now c.args.at c.args.end c.if-at-end.tr
 pub read_figures-requires : goal.read_figures-requires
 read_figures-requires c = (omega (arith, sign_most c.sign_of.result), c.requires.1)
 
-pub returns-then-at-end : goal.returns
+pub returns : goal.returns
 returns c =
     by_sign c.args.s.now c.args.at c.args.end _ _ (omega arith) c.requires.1
     c.sign_of.ensures

@@ -34,7 +34,7 @@ returns-then-clockwise c =
     arc_clockwise a.s a.origin a.v a.clockwise a.left c.end_stands.ensures c.centre_given.ensures c.if-not-end_stands-centre_given.false c.target_point-end.ensures.is
     c.radius_fits.ensures c.if-not-radius_fits.false c.arc_to-a.ensures c.arc_holds-sound.ensures c.if-clockwise.true c.one_work.ensures
 
-pub returns-then-not-end_stands-centre_given : goal.returns
+pub returns : goal.returns
 returns c =
     let a = c.args in
     arc_counter a.s a.origin a.v a.clockwise a.left c.end_stands.ensures c.centre_given.ensures c.if-not-end_stands-centre_given.false c.target_point-end.ensures.is

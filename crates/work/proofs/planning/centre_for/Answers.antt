@@ -15,7 +15,7 @@ pub moved-requires : goal.moved-requires
 moved-requires c =
     words_sums c.args.s c.args.v c.args.end c.requires c.centre_words.ensures
 
-pub returns-then-v : goal.returns
+pub returns : goal.returns
 returns c =
     let a = c.args in
     by_words a.s a.v a.end a.left c.if-v.false

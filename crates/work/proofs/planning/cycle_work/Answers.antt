@@ -14,7 +14,7 @@ hole_of-h-requires c = record { height = c.requires.0.aims.origin.z; kept = c.re
 pub pass_count-requires : goal.pass_count-requires
 pass_count-requires c = c.requires.1.k c.args.cycle refl
 
-pub returns-then-not-cycle_done : goal.returns
+pub returns : goal.returns
 returns c =
     let a = c.args in
     cycle_passes a.cycle a.named a.s a.origin a.v c.cycle_done.ensures c.if-not-cycle_done.false c.hole_of-h.ensures c.pass_count.ensures c.levels_hold.ensures

@@ -2,9 +2,10 @@
 use Rattle.terms.proofs.Common.{rules, ◌≡◌, refl, false, ◌∷◌}
 use denote.Enum.Declared.{tag_of}
 use types.Run.{OneOf, miss}
-use Rattle.codes.{specs.declared.Motion.Motion, proofs.Motion.the_type}
+use Rattle.codes.{specs.declared.Motion.Motion, specs.contracts.Motion.the_type}
 use Rattle.codes.specs.declared.Motion.TheVariants.{Off, G00, G01, G02, G03, Drilling}
 use Rattle.work.specs.Work.{is_clockwise}
+use borrow.Enum.Refused.{opened}
 use Rattle.work.proofs.planning.is_clockwise.Goals as goal
 
 others : (m : Motion) → OneOf (0 ∷ 1 ∷ 2 ∷ 4 ∷ 5 ∷ []) (tag_of the_type m) → false ≡ is_clockwise m
@@ -26,4 +27,4 @@ returns-in-G02 c = rw c.in-G02.is
 
 pub returns-in_default : goal.returns-in_default
 unfolding is_clockwise
-returns-in_default c = others c.args.motion c.in_default.in_default-own.keys2
+returns-in_default c = others c.args.motion (opened c.in_default.in_default-own.keys2)

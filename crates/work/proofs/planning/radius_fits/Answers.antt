@@ -12,7 +12,7 @@ pub radius_holds-requires : goal.radius_holds-requires
 radius_holds-requires c =
     chord c.args.s c.args.v c.args.end c.in_plane.ensures c.in_plane-2.ensures c.requires
 
-pub returns-then-not-v : goal.returns
+pub returns : goal.returns
 returns c =
     let a = c.args in
     radius_tested a.s a.v a.end c.in_plane.ensures c.in_plane-2.ensures (not-false a.v.r.stands c.if-not-v.false)

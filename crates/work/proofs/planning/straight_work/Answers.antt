@@ -12,7 +12,7 @@ returns-then-cuts c =
     let a = c.args in
     straight_cuts a.s a.origin a.v c.end_stands.ensures a.cuts c.if-not-end_stands.false c.target_point-end.ensures.is c.if-cuts.true c.one_work.ensures
 
-pub returns-then-not-end_stands : goal.returns
+pub returns : goal.returns
 returns c =
     let a = c.args in
     straight_moves a.s a.origin a.v c.end_stands.ensures a.cuts c.if-not-end_stands.false c.target_point-end.ensures.is c.if-cuts.false c.one_work-2.ensures

@@ -35,7 +35,7 @@ loop-i-preserved c =
       stays,
     )
 
-pub returns-then-not-is_inside : goal.returns
+pub returns : goal.returns
 returns c =
     let a = c.args in
     tested_ends a.t a.e (pass_to a.h a.e.end.z a.to) c.loop-i.i c.loop-i.invariant.0 (c.row_count-n.ensures.is a.e.end.z a.to) (omega arith)

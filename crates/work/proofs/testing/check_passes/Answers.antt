@@ -28,5 +28,5 @@ loop-left-preserved c =
     leads_on c.args.t (drilled c.args.h c.args.passes) c.args.aim c.args.e c.requires c.loop-left.invariant (omega arith) c.target_point-to.ensures.is (rows_few (Drill c.args.h))
     (sym c.in-Ends.is ∙ c.check_pass.ensures)
 
-pub returns-in_default : goal.returns
+pub returns : goal.returns
 returns c = leads_ends c.args.t (drilled c.args.h c.args.passes) c.args.aim c.args.e c.requires c.loop-left.invariant (omega arith)

@@ -13,7 +13,7 @@ returns-then-not-path_stays c =
 pub longer-requires : goal.longer-requires
 longer-requires c = (c.requires.1, omega (arith, c.room.ensures, kind_few c.args.r))
 
-pub returns-then-not-path_stays : goal.returns
+pub returns : goal.returns
 returns c =
     let a = c.args in
     ap Ends c.longer.ensures

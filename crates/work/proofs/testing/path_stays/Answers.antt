@@ -2,6 +2,7 @@
 use Rattle.terms.proofs.Common.{◌≡◌, refl, true}
 use Rattle.records.{specs.declared.Record.Record, specs.Path.path_of, proofs.Still.still_ones}
 use Rattle.arcs.specs.Arcs.{path_stays}
+use borrow.Enum.Refused.{opened}
 use Rattle.work.proofs.testing.path_stays.Goals as goal
 
 pub right_arc_stays-requires : goal.right_arc_stays-requires
@@ -30,4 +31,4 @@ returns-in-AL c = rw c.in-AL.is c.left_arc_stays.ensures
 
 pub returns-in_default : goal.returns-in_default
 unfolding path_stays path_of
-returns-in_default c = still_ones (λ (r : Record). true ≡ path_stays c.args.t c.args.from (path_of r)) c.args.r c.in_default.in_default-own.keys5 (λ ms. refl) (λ speed. refl) refl refl refl
+returns-in_default c = still_ones (λ (r : Record). true ≡ path_stays c.args.t c.args.from (path_of r)) c.args.r (opened c.in_default.in_default-own.keys5) (λ ms. refl) (λ speed. refl) refl refl refl

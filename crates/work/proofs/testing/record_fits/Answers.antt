@@ -3,9 +3,10 @@ use Rattle.terms.proofs.Common.{◌≡◌, refl, sym, true, ◌∷◌}
 use denote.Enum.Declared.{tag_of}
 use types.Run.{OneOf, miss}
 use Rattle.lengths.specs.declared.Point.{Point}
-use Rattle.records.{specs.declared.Record.Record, specs.Path.path_of, specs.Path.record_moved, proofs.Record.the_type}
+use Rattle.records.{specs.declared.Record.Record, specs.Path.path_of, specs.Path.record_moved, specs.contracts.Record.the_type}
 use Rattle.records.specs.declared.Record.TheVariants.{RP, LN, AR, AL, DW, SP, SO, PA, EN}
 use Rattle.arcs.specs.Arcs.{centre_fits}
+use borrow.Enum.Refused.{opened}
 use Rattle.work.proofs.testing.record_fits.Goals as goal
 
 -- the marks that have no arm of their own
@@ -38,4 +39,4 @@ unfolding centre_fits path_of record_moved
 returns-in-AL c = rw c.in-AL.is c.centre_fits-in-AL.ensures
 
 pub returns-in_default : goal.returns-in_default
-returns-in_default c = sym (others c.args.by c.args.r c.in_default.in_default-own.keys3)
+returns-in_default c = sym (others c.args.by c.args.r (opened c.in_default.in_default-own.keys3))

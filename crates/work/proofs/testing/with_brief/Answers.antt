@@ -3,6 +3,7 @@ use Rattle.terms.proofs.Common.{arith, refl, sym, ◌∙◌}
 use Rattle.records.specs.Path.{path_of, path_end}
 use Rattle.work.specs.Work.{brief_records}
 use Rattle.work.proofs.{Extents.grown_none, Extents.grown_one, Briefs.grown_mark}
+use borrow.Enum.Refused.{opened}
 use Rattle.work.proofs.testing.with_brief.Goals as goal
 
 pub returns-in-Nothing : goal.returns-in-Nothing
@@ -16,7 +17,7 @@ returns-in-Speed c = c.longer.ensures ∙ rw c.in-Speed.is (grown_one c.args.e _
 pub returns-in_default : goal.returns-in_default
 returns-in_default c =
     let a = c.args in
-    c.longer-in_default.ensures ∙ grown_mark a.e a.b c.in_default.in_default-own.keys3 c.kind_length-in_default.ensures
+    c.longer-in_default.ensures ∙ grown_mark a.e a.b (opened c.in_default.in_default-own.keys3) c.kind_length-in_default.ensures
 
 pub longer-requires : goal.longer-requires
 longer-requires c = (c.requires, omega (arith, c.kind_length.ensures))

@@ -9,19 +9,19 @@ pub put_single-requires : goal.put_single-requires
 unfolding brief_records room_of numbers_of
 put_single-requires c =
     let e = c.in-Speed.is in
-    (omega (arith, rw e at c.requires.0), (rw e at c.requires.1).0.0)
+    (omega (arith, rw e at c.requires.b_in_bounds), (rw e at c.requires.list_short).0.0)
 
 pub put_mark-requires : goal.put_mark-requires
 unfolding brief_records room_of
-put_mark-requires c = omega (arith, rw c.in-SpindleOff.is at c.requires.0)
+put_mark-requires c = omega (arith, rw c.in-SpindleOff.is at c.requires.b_in_bounds)
 
 pub put_mark-requires-in-Pause : goal.put_mark-requires-in-Pause
 unfolding brief_records room_of
-put_mark-requires-in-Pause c = omega (arith, rw c.in-Pause.is at c.requires.0)
+put_mark-requires-in-Pause c = omega (arith, rw c.in-Pause.is at c.requires.b_in_bounds)
 
 pub put_mark-requires-in-End : goal.put_mark-requires-in-End
 unfolding brief_records room_of
-put_mark-requires-in-End c = omega (arith, rw c.in-End.is at c.requires.0)
+put_mark-requires-in-End c = omega (arith, rw c.in-End.is at c.requires.b_in_bounds)
 
 pub returns-in-Speed : goal.returns-in-Speed
 unfolding brief_records list_bytes record_bytes plane_bytes numbers_of number_bytes plane_of

@@ -12,12 +12,12 @@ rest h aim left tool = passes_of left (Drill h) (leads aim) tool
 
 pub loop-left-init : goal.loop-left-init
 unfolding work_records
-loop-left-init c = (going_starts c.args.offset refl c.requires.0, inside_starts refl)
+loop-left-init c = (going_starts c.args.offset refl c.requires.room_for, inside_starts refl)
 
 pub target_point-to-requires : goal.target_point-to-requires
 unfolding work_records
 target_point-to-requires c =
-    let h = c.requires.1 in
+    let h = c.requires.writable in
     can_lead h.leading c.loop-left.tool (c.loop-left.invariant.1.there h.travel h.leading.inside h.stays).0
 
 pub put_pass-next-requires : goal.put_pass-next-requires

@@ -10,16 +10,16 @@ returns-then-w-eq0 c =
 
 pub put-requires : goal.put-requires
 put-requires c =
-    ready_as c.args.offset (work_one c.args.w c.args.aim c.args.from c.in-One.is c.requires.1.once c.if-w-eq0.false) c.requires.0
+    ready_as c.args.offset (work_one c.args.w c.args.aim c.args.from c.in-One.is c.requires.writable.once c.if-w-eq0.false) c.requires.room_for
 
 pub put_passes-requires : goal.put_passes-requires
 put_passes-requires c =
     let e = c.in-Drill.is in
-    (ready_as c.args.offset (work_drills c.args.w c.args.aim c.args.from e) c.requires.0, drills_writable c.args.w c.args.aim c.args.from e c.requires.1)
+    record { room_for = ready_as c.args.offset (work_drills c.args.w c.args.aim c.args.from e) c.requires.room_for; writable = drills_writable c.args.w c.args.aim c.args.from e c.requires.writable }
 
 pub returns-else-w-eq0 : goal.returns-else-w-eq0
 returns-else-w-eq0 c =
-    put_as c.args.offset (work_one c.args.w c.args.aim c.args.from c.in-One.is c.requires.1.once c.if-w-eq0.false) c.put.ensures
+    put_as c.args.offset (work_one c.args.w c.args.aim c.args.from c.in-One.is c.requires.writable.once c.if-w-eq0.false) c.put.ensures
 
 pub returns-in-Drill : goal.returns-in-Drill
 returns-in-Drill c =
