@@ -1,5 +1,5 @@
 -- `letters::arc_use` meets its contract: the radius, and the letters after it in the table.
-use Rattle.terms.proofs.Common.{rules, refl, ◌∷◌, ◌++◌}
+use Rattle.terms.proofs.Common.{[], rules, refl, ◌∷◌, ◌++◌}
 use Rattle.terms.specs.Terms.{byte, bytes, any, all, lookup}
 use Rattle.words.specs.declared.Use.TheVariants.{Length}
 use Rattle.letters.specs.Letters.{each, end_letters, centre_letters, arc_letters}

@@ -1,5 +1,5 @@
 -- `letters::cycle_use` meets its contract: the count, and the letters after it in the table.
-use Rattle.terms.proofs.Common.{rules, refl, ◌∷◌}
+use Rattle.terms.proofs.Common.{[], rules, refl, ◌∷◌}
 use Rattle.terms.specs.Terms.{byte, bytes, any, all, lookup}
 use Rattle.words.specs.declared.Use.TheVariants.{Length, Count}
 use Rattle.letters.specs.Letters.{each, cycle_letters}

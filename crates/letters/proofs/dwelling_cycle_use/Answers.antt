@@ -1,5 +1,5 @@
 -- `letters::dwelling_cycle_use` meets its contract: the dwell, and the letters of any cycle after it.
-use Rattle.terms.proofs.Common.{rules, refl, ◌∷◌}
+use Rattle.terms.proofs.Common.{[], rules, refl, ◌∷◌}
 use Rattle.terms.specs.Terms.{byte, bytes, any, all, lookup}
 use Rattle.words.specs.declared.Use.TheVariants.{Dwell}
 use Rattle.letters.specs.Letters.{cycle_letters, dwelling_cycle_letters}

@@ -1,5 +1,5 @@
 -- `letters::straight_use` meets its contract: the letters of the table, and every other.
-use Rattle.terms.proofs.Common.{refl}
+use Rattle.terms.proofs.Common.{[], refl}
 use Rattle.terms.specs.Terms.{byte, bytes, any, all, lookup}
 use Rattle.letters.specs.Letters.{straight_letters}
 use Rattle.letters.proofs.{Uses.used_at, Uses.used_past}

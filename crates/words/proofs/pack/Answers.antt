@@ -5,10 +5,6 @@ use Rattle.words.specs.Packed.{packed}
 use Rattle.words.proofs.{Packed.sign_small, Packed.point_small}
 use Rattle.words.proofs.pack.Goals as goal
 
--- the sign and the point are small
-small : (c : goal.After-sign_number) → (c.sign_number.result < 4) × (bool_byte c.args.w.number.point < 2)
-small c = (rw c.sign_number.ensures (sign_small _), point_small c.args.w.number.point)
-
 pub overflow_cast-point : goal.overflow_cast-point
 unfolding packed
 overflow_cast-point c = search rules
@@ -31,19 +27,27 @@ sign_number-requires c = search rules
 
 pub overflow_mul-result-3 : goal.overflow_mul-result-3
 unfolding packed
-overflow_mul-result-3 c = omega (arith, (small c).0)
+overflow_mul-result-3 c =
+    let small : (c.sign_number.result < 4) × (bool_byte c.args.w.number.point < 2) = (rw c.sign_number.ensures (sign_small _), point_small c.args.w.number.point) in
+    omega (arith, small.0)
 
 pub overflow_add-result-2 : goal.overflow_add-result-2
 unfolding packed
-overflow_add-result-2 c = omega (arith, (small c).0)
+overflow_add-result-2 c =
+    let small : (c.sign_number.result < 4) × (bool_byte c.args.w.number.point < 2) = (rw c.sign_number.ensures (sign_small _), point_small c.args.w.number.point) in
+    omega (arith, small.0)
 
 pub overflow_mul-result-4 : goal.overflow_mul-result-4
 unfolding packed
-overflow_mul-result-4 c = omega (arith, (small c).1)
+overflow_mul-result-4 c =
+    let small : (c.sign_number.result < 4) × (bool_byte c.args.w.number.point < 2) = (rw c.sign_number.ensures (sign_small _), point_small c.args.w.number.point) in
+    omega (arith, small.1)
 
 pub overflow_add-result-3 : goal.overflow_add-result-3
 unfolding packed
-overflow_add-result-3 c = omega (arith, (small c).0, (small c).1)
+overflow_add-result-3 c =
+    let small : (c.sign_number.result < 4) × (bool_byte c.args.w.number.point < 2) = (rw c.sign_number.ensures (sign_small _), point_small c.args.w.number.point) in
+    omega (arith, small.0, small.1)
 
 pub overflow_cast-result : goal.overflow_cast-result
 unfolding packed
@@ -51,7 +55,9 @@ overflow_cast-result c = search rules
 
 pub overflow_add-result-4 : goal.overflow_add-result-4
 unfolding packed
-overflow_add-result-4 c = omega (arith, (small c).0, (small c).1)
+overflow_add-result-4 c =
+    let small : (c.sign_number.result < 4) × (bool_byte c.args.w.number.point < 2) = (rw c.sign_number.ensures (sign_small _), point_small c.args.w.number.point) in
+    omega (arith, small.0, small.1)
 
 pub returns : goal.returns
 unfolding packed

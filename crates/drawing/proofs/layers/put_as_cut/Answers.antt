@@ -1,5 +1,5 @@
 -- `drawing::layers::put_as_cut` meets its contract: mark by mark.
-use Rattle.terms.proofs.Common.{◌≡◌, refl, ◌∷◌}
+use Rattle.terms.proofs.Common.{[], ◌≡◌, refl, ◌∷◌}
 use denote.Enum.Declared.{tag_of}
 use types.Run.{OneOf, miss}
 use Rattle.lengths.specs.declared.Point.{Point}

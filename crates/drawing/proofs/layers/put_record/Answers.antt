@@ -1,5 +1,5 @@
 -- `drawing::layers::put_record` meets its contract: a cut as such, and of all else the rapid.
-use Rattle.terms.proofs.Common.{◌≡◌, refl, ◌∷◌, not-true, not-false}
+use Rattle.terms.proofs.Common.{[], ◌≡◌, refl, ◌∷◌, not-true, not-false}
 use denote.Enum.Declared.{tag_of}
 use types.Run.{OneOf, miss}
 use Rattle.lengths.specs.declared.Point.{Point}

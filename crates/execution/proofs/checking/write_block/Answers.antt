@@ -1,5 +1,5 @@
 -- `execution::checking::write_block` meets its contract: refused, or written where there is room.
-use Rattle.terms.proofs.Common.{arith, sym, ◌∙◌}
+use Rattle.terms.proofs.Common.{[], arith, sym, ◌∙◌}
 use Rattle.records.proofs.Moved.{put_as}
 use Rattle.execution.proofs.{Verdicts.does_refused, Verdicts.does_accepted, Ready.made_is}
 use Rattle.execution.proofs.Written.{stops, no_room, accepts, settled_is, count_is, block_ready, writable}

@@ -1,12 +1,13 @@
 -- `records::storing::put` meets its contract: each arm writes the record of its kind.
-use Rattle.terms.proofs.Common.{arith, ◌≡◌, refl, ◌∷◌}
+use Rattle.terms.proofs.Common.{[], arith, ◌≡◌, refl, ◌∷◌}
 use denote.Enum.Declared.{tag_of}
 use types.Run.{OneOf, miss}
 use Rattle.lengths.specs.declared.Point.{Point}
 use Rattle.records.specs.{declared.Record.Record, Path.arc_moved, Path.record_moved}
 use Rattle.records.specs.declared.Record.TheVariants.{RP, LN, AR, AL, DW, SP, SO, PA, EN}
 use Rattle.records.specs.Layout.{kind_of, mark_of, plane_bytes, plane_of, numbers_of, number_bytes, record_bytes, room_of}
-use Rattle.records.proofs.{Record.the_type, Laid.mark_room, Written.wrote_length, Moved.put_one, Moved.one_fits}
+use Rattle.records.specs.contracts.Record.{the_type}
+use Rattle.records.proofs.{Laid.mark_room, Written.wrote_length, Moved.put_one, Moved.one_fits}
 use borrow.Enum.Refused.{opened}
 use Rattle.records.proofs.storing.put.Goals as goal
 
@@ -79,7 +80,7 @@ returns-in-SP c = rw c.in-SP.is (put_one c.args.by (SP c.in-SP.speed) c.put_sing
 pub returns-in_default : goal.returns-in_default
 returns-in_default c =
     let a = c.args in
-    put_one a.by a.r (rw (marks a.by a.r (opened c.in_default.in_default-own.keys7), ← c.kind_of.ensures) c.put_mark.ensures)
+    put_one a.by a.r (rw (marks a.by a.r (opened c.in_default.in_default-own), ← c.kind_of.ensures) c.put_mark.ensures)
 
 pub shape_of-list-in-RP : goal.shape_of-list-in-RP
 shape_of-list-in-RP c = wrote_length (returns-in-RP c)

@@ -1,10 +1,11 @@
 -- `words::numerals::read_figures` meets its contract. What is left gives the same: the figures passed, by the variables, and the bytes
 -- from i on make the number.
-use Rattle.terms.proofs.Common.{◌≡◌, ⊎_elim, add-zero, arith, slice}
+use Rattle.terms.proofs.Common.{[], ◌≡◌, add-zero, arith, slice}
 use Rattle.words.specs.Numbers.{is_figure, sign_length, run}
 use Rattle.words.proofs.{Numbers.below_ten}
 use Rattle.words.proofs.Figures.{none_passed, point_passed, second_point, digit_passed, tenth_digit, none_left, none_here, low_byte, high_byte, no_number, some_number}
 use Rattle.words.proofs.numerals.read_figures.Goals as goal
+use Rattle.words.proofs.numerals.read_figures.Goals.{in-46+else-point, in-48-to-57+else-count-eq9+then-point-2, in-48-to-57+else-count-eq9+else-point-2, else-loop-i-test, then-loop-i-test+in_default, then-loop-i-test+in_default-2}
 
 pub loop-i-init : goal.loop-i-init
 loop-i-init c =
@@ -33,31 +34,36 @@ pub loop-i-preserved : goal.loop-i-preserved
 loop-i-preserved c =
     let p = c.loop-i.invariant in
     let h = c.loop-i-test.true in
-    ⊎_elim
-    (λ w. rw (w.2, w.3, w.4, w.5) (point_passed p h w.0.keys1 w.1.left))
-    (⊎_elim
-    (λ w. rw (w.5, w.7, w.8) (digit_passed p h w.1.left (omega arith) _ (omega arith) (rw (w.6, w.4.taken))))
-    (λ w. rw (w.5, w.7, w.8) (digit_passed p h w.1.left (omega arith) _ (omega arith) (rw (w.6, w.4.left, add-zero)))))
-    c.match-b.branch
-
--- at the end, and at a byte that is no figure
-none_more :
-    (c : goal.Left-loop-i)
-    → run is_figure (slice c.loop-i.i c.args.end c.args.s.now) ≡ []
-none_more c =
-    let p = c.loop-i.invariant in
-    ⊎_elim
-    (λ w. none_left p w.left)
-    (⊎_elim
-    (λ w. none_here p w.0.taken (low_byte _ w.2.rest.1 w.3.taken))
-    (λ w. none_here p w.0.taken (high_byte _ w.2.rest.1 w.4.left)))
-    c.loop-i-test.branch
+    elim c.match-b.branch [
+      | in-46+else-point w ↦ rw (w.digits-is, w.decimals-is, w.count-is, w.point-is) (point_passed p h w.in-46.is w.if-point.false)
+      | in-48-to-57+else-count-eq9+then-point-2 w ↦
+          rw (w.digits-is, w.count-is, w.point-is) (digit_passed p h w.in-48-to-57.if-b-lt48-own.false (omega arith) _ (omega arith) (rw (w.decimals-is, w.if-point-2.true)))
+      | in-48-to-57+else-count-eq9+else-point-2 w ↦
+          rw (w.digits-is, w.count-is, w.point-is)
+          (digit_passed p h w.in-48-to-57.if-b-lt48-own.false (omega arith) _ (omega arith) (rw (w.decimals-is, w.if-point-2.false, add-zero)))
+    ]
 
 pub returns-then-count-eq0 : goal.returns-then-count-eq0
-returns-then-count-eq0 c = no_number c.loop-i.invariant (none_more c) c.if-count-eq0.true
+returns-then-count-eq0 c =
+    let none_more : run is_figure (slice c.loop-i.i c.args.end c.args.s.now) ≡ [] =
+    let p = c.loop-i.invariant in
+    elim c.loop-i-test.branch [
+      | else-loop-i-test w ↦ none_left p w.loop-i-test.false
+      | then-loop-i-test+in_default w ↦ none_here p w.loop-i-test.true (low_byte _ w.in_default.in_default-own.rest.1 w.in_default.if-b-lt48-own.true)
+      | then-loop-i-test+in_default-2 w ↦ none_here p w.loop-i-test.true (high_byte _ w.in_default.in_default-own.rest.1 w.in_default.if-b-lt58-own.false)
+    ] in
+    no_number c.loop-i.invariant none_more c.if-count-eq0.true
 
 pub overflow_sub-result : goal.overflow_sub-result
 overflow_sub-result c = c.loop-i.invariant.after
 
 pub returns : goal.returns
-returns c = some_number c.loop-i.invariant (none_more c) c.if-count-eq0.false
+returns c =
+    let none_more : run is_figure (slice c.loop-i.i c.args.end c.args.s.now) ≡ [] =
+    let p = c.loop-i.invariant in
+    elim c.loop-i-test.branch [
+      | else-loop-i-test w ↦ none_left p w.loop-i-test.false
+      | then-loop-i-test+in_default w ↦ none_here p w.loop-i-test.true (low_byte _ w.in_default.in_default-own.rest.1 w.in_default.if-b-lt48-own.true)
+      | then-loop-i-test+in_default-2 w ↦ none_here p w.loop-i-test.true (high_byte _ w.in_default.in_default-own.rest.1 w.in_default.if-b-lt58-own.false)
+    ] in
+    some_number c.loop-i.invariant none_more c.if-count-eq0.false

@@ -1,5 +1,5 @@
 -- `work::planning::is_clockwise` meets its contract, code by code.
-use Rattle.terms.proofs.Common.{rules, ◌≡◌, refl, false, ◌∷◌}
+use Rattle.terms.proofs.Common.{[], rules, ◌≡◌, refl, false, ◌∷◌}
 use denote.Enum.Declared.{tag_of}
 use types.Run.{OneOf, miss}
 use Rattle.codes.{specs.declared.Motion.Motion, specs.contracts.Motion.the_type}

@@ -1,5 +1,5 @@
 -- `work::testing::record_fits` meets its contract: only an arc has a centre.
-use Rattle.terms.proofs.Common.{◌≡◌, refl, sym, true, ◌∷◌}
+use Rattle.terms.proofs.Common.{[], ◌≡◌, refl, sym, true, ◌∷◌}
 use denote.Enum.Declared.{tag_of}
 use types.Run.{OneOf, miss}
 use Rattle.lengths.specs.declared.Point.{Point}

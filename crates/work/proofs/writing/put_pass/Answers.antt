@@ -1,5 +1,5 @@
 -- `work::writing::put_pass` meets its contract: the records that are left, written here, leave what all of them leave.
-use Rattle.terms.proofs.Common.{arith, ◌+◌, refl, ◌∷◌, drop, drop_of_length-le}
+use Rattle.terms.proofs.Common.{[], arith, ◌+◌, refl, ◌∷◌, drop, drop_of_length-le}
 use Rattle.records.proofs.Written.{wrote_length}
 use Rattle.cycles.specs.{Cycles.pass_to, Bounds.row_record}
 use Rattle.work.proofs.{Passing.going_starts, Passing.going_ends, Passing.going_asks, Passing.going_on}
