@@ -8,7 +8,6 @@ use Rattle.records.specs.declared.Record.TheVariants.{RP, LN, AR, AL, DW, SP, SO
 use Rattle.records.specs.Layout.{kind_of, mark_of, plane_bytes, plane_of, numbers_of, number_bytes, record_bytes, room_of}
 use Rattle.records.specs.contracts.Record.{the_type}
 use Rattle.records.proofs.{Laid.mark_room, Written.wrote_length, Moved.put_one, Moved.one_fits}
-use borrow.Enum.Refused.{opened}
 use Rattle.records.proofs.storing.put.Goals as goal
 
 -- the marks that have no arm of their own stand alone
@@ -80,7 +79,7 @@ returns-in-SP c = rw c.in-SP.is (put_one c.args.by (SP c.in-SP.speed) c.put_sing
 pub returns-in_default : goal.returns-in_default
 returns-in_default c =
     let a = c.args in
-    put_one a.by a.r (rw (marks a.by a.r (opened c.in_default.in_default-own), ← c.kind_of.ensures) c.put_mark.ensures)
+    put_one a.by a.r (rw (marks a.by a.r c.in_default.in_default-own.keys7, ← c.kind_of.ensures) c.put_mark.ensures)
 
 pub shape_of-list-in-RP : goal.shape_of-list-in-RP
 shape_of-list-in-RP c = wrote_length (returns-in-RP c)
