@@ -5,45 +5,50 @@ use Rattle.arcs.specs.{Root.root, Arcs.radius², Arcs.arc_holds}
 use Rattle.arcs.proofs.{Reach.root_near, Reach.first_refused, Reach.second_refused}
 use Rattle.arcs.proofs.arc_holds.Goals as goal
 
--- the root, once it is computed
-r-is :
-    (c : goal.After-root_of-r)
-    → c.root_of-r.result ≡ root (radius² c.args.from c.args.a)
-r-is c = c.root_of-r.ensures ∙ ap root c.squared_radius.ensures
-
-near : (c : goal.After-root_of-r) → c.root_of-r.result ≤ 1_414_213_562
-near c =
-    rw (r-is c) (root_near c.args.from c.args.a c.requires)
-
 pub overflow_add-r : goal.overflow_add-r
-overflow_add-r c = omega (arith, near c)
+overflow_add-r c =
+    let r-is : c.root_of-r.result ≡ root (radius² c.args.from c.args.a) = c.root_of-r.ensures ∙ ap root c.squared_radius.ensures in
+    let near : c.root_of-r.result ≤ 1_414_213_562 = rw r-is (root_near c.args.from c.args.a c.requires) in
+    omega (arith, near)
 
 pub returns-then-r-apart : goal.returns-then-r-apart
 returns-then-r-apart c =
+    let r-is : c.root_of-r.result ≡ root (radius² c.args.from c.args.a) = c.root_of-r.ensures ∙ ap root c.squared_radius.ensures in
     let s = c.args in
     let end = c.in_plane-at.ensures in
     let centre = c.centre_of-centre.ensures in
-    sym (first_refused s.from s.a (rw (r-is c, c.apart.ensures.is, end, centre) at c.if-r-apart.true))
+    sym (first_refused s.from s.a (rw (r-is, c.apart.ensures.is, end, centre) at c.if-r-apart.true))
 
 pub overflow_add-r-2 : goal.overflow_add-r-2
-overflow_add-r-2 c = omega (arith, near c)
+overflow_add-r-2 c =
+    let r-is : c.root_of-r.result ≡ root (radius² c.args.from c.args.a) = c.root_of-r.ensures ∙ ap root c.squared_radius.ensures in
+    let near : c.root_of-r.result ≤ 1_414_213_562 = rw r-is (root_near c.args.from c.args.a c.requires) in
+    omega (arith, near)
 
 pub returns-then-r-apart-2 : goal.returns-then-r-apart-2
 returns-then-r-apart-2 c =
+    let r-is : c.root_of-r.result ≡ root (radius² c.args.from c.args.a) = c.root_of-r.ensures ∙ ap root c.squared_radius.ensures in
     let s = c.args in
     let end = c.in_plane-at.ensures in
     let centre = c.centre_of-centre.ensures in
-    sym (second_refused s.from s.a (rw (r-is c, c.apart-2.ensures.is, end, centre) at c.if-r-apart-2.true))
+    sym (second_refused s.from s.a (rw (r-is, c.apart-2.ensures.is, end, centre) at c.if-r-apart-2.true))
 
 pub squared_distance-requires : goal.squared_distance-requires
-squared_distance-requires c = omega (arith, near c)
+squared_distance-requires c =
+    let r-is : c.root_of-r.result ≡ root (radius² c.args.from c.args.a) = c.root_of-r.ensures ∙ ap root c.squared_radius.ensures in
+    let near : c.root_of-r.result ≤ 1_414_213_562 = rw r-is (root_near c.args.from c.args.a c.requires) in
+    omega (arith, near)
 
 pub is_round_enough-requires : goal.is_round_enough-requires
-is_round_enough-requires c = omega (arith, near c)
+is_round_enough-requires c =
+    let r-is : c.root_of-r.result ≡ root (radius² c.args.from c.args.a) = c.root_of-r.ensures ∙ ap root c.squared_radius.ensures in
+    let near : c.root_of-r.result ≤ 1_414_213_562 = rw r-is (root_near c.args.from c.args.a c.requires) in
+    omega (arith, near)
 
 pub returns : goal.returns
 unfolding arc_holds
 returns c =
+    let r-is : c.root_of-r.result ≡ root (radius² c.args.from c.args.a) = c.root_of-r.ensures ∙ ap root c.squared_radius.ensures in
     let end = c.in_plane-at.ensures in
     let centre = c.centre_of-centre.ensures in
-    rw (c.is_round_enough.ensures, c.squared_distance.ensures, r-is c, end, centre)
+    rw (c.is_round_enough.ensures, c.squared_distance.ensures, r-is, end, centre)

@@ -13,12 +13,6 @@ pub record Kept (q r rest pairs : ℕ) : Type 0 where
 abbrev below : tie.At-loop invariant-loop decreases-loop → ℕ
 below c = c.before.args.q / 2 ^ (2 * (c.loop.pairs - 1))
 
-fits : (c : goal.At-loop-pairs) → below c < 2 ^ 64
-fits c = omega (arith, div-le_self c.args.q (2 ^ (2 * (c.loop-pairs.pairs - 1))))
-
-was : (c : goal.In-loop-pairs) → Brought (below c / 4) c.loop-pairs.r c.loop-pairs.rest
-was c = rw (quarter c.args.q c.loop-pairs.pairs c.loop-pairs-test.true) at c.loop-pairs.invariant.brought
-
 pub loop-pairs-init : goal.loop-pairs-init
 loop-pairs-init c =
     let e : c.args.q / 2 ^ 64 ≡ 0 = div-eq_of_lt c.ranges.q.fits in
@@ -30,11 +24,15 @@ loop-pairs-init c =
 
 pub loop-pairs-preserved-then-r-rest : goal.loop-pairs-preserved-then-r-rest
 loop-pairs-preserved-then-r-rest c =
-    record { few = omega arith; brought = digit_one (below c) c.loop-pairs.r c.loop-pairs.rest (fits c) (was c) c.if-r-rest.true }
+    let fits : below c < 2 ^ 64 = omega (arith, div-le_self c.args.q (2 ^ (2 * (c.loop-pairs.pairs - 1)))) in
+    let was : Brought (below c / 4) c.loop-pairs.r c.loop-pairs.rest = rw (quarter c.args.q c.loop-pairs.pairs c.loop-pairs-test.true) at c.loop-pairs.invariant.brought in
+    record { few = omega arith; brought = digit_one (below c) c.loop-pairs.r c.loop-pairs.rest fits was c.if-r-rest.true }
 
 pub loop-pairs-preserved : goal.loop-pairs-preserved
 loop-pairs-preserved c =
-    record { few = omega arith; brought = digit_zero (below c) c.loop-pairs.r c.loop-pairs.rest (fits c) (was c) c.if-r-rest.false }
+    let fits : below c < 2 ^ 64 = omega (arith, div-le_self c.args.q (2 ^ (2 * (c.loop-pairs.pairs - 1)))) in
+    let was : Brought (below c / 4) c.loop-pairs.r c.loop-pairs.rest = rw (quarter c.args.q c.loop-pairs.pairs c.loop-pairs-test.true) at c.loop-pairs.invariant.brought in
+    record { few = omega arith; brought = digit_zero (below c) c.loop-pairs.r c.loop-pairs.rest fits was c.if-r-rest.false }
 
 pub returns : goal.returns
 returns c =

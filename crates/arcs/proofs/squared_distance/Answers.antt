@@ -4,18 +4,18 @@ use Rattle.arcs.specs.Arcs.{distance²}
 use Rattle.arcs.proofs.{Reach.distance_near}
 use Rattle.arcs.proofs.squared_distance.Goals as goal
 
-is :
-    (c : goal.After-square-2)
-    → c.square.result + c.square-2.result
-    ≡ distance² c.args.a c.args.b
-unfolding distance²
-is c =
-    rw
-    (c.square.ensures, c.square-2.ensures, c.minus.ensures.is, c.minus-2.ensures.is)
-
 pub overflow_add-result : goal.overflow_add-result
+unfolding distance²
 overflow_add-result c =
-    rw (is c) (omega (arith, distance_near c.args.a c.args.b c.requires))
+    let is : c.square.result + c.square-2.result
+    ≡ distance² c.args.a c.args.b = rw
+    (c.square.ensures, c.square-2.ensures, c.minus.ensures.is, c.minus-2.ensures.is) in
+    rw is (omega (arith, distance_near c.args.a c.args.b c.requires))
 
 pub returns : goal.returns
-returns c = is c
+unfolding distance²
+returns c =
+    let is : c.square.result + c.square-2.result
+    ≡ distance² c.args.a c.args.b = rw
+    (c.square.ensures, c.square-2.ensures, c.minus.ensures.is, c.minus-2.ensures.is) in
+    is

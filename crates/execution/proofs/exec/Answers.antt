@@ -4,15 +4,15 @@ use Rattle.execution.specs.BlockReading.{BlockSays}
 use Rattle.execution.proofs.{Verdicts.does_refused, Verdicts.does_as}
 use Rattle.execution.proofs.exec.Goals as goal
 
--- what the block says
-says : (c : goal.In-Says) → let a = c.args in BlockSays a.ground.bed a.ground.left a.state a.s.now a.spot.from c.in-Says.said c.in-Says.end
-says c = rw c.in-Says.is at c.read_block-found.ensures
-
 pub next_block-after-requires : goal.next_block-after-requires
-next_block-after-requires c = (says c).inside
+next_block-after-requires c =
+    let says : let a = c.args in BlockSays a.ground.bed a.ground.left a.state a.s.now a.spot.from c.in-Says.said c.in-Says.end = rw c.in-Says.is at c.read_block-found.ensures in
+    says.inside
 
 pub check_block-requires : goal.check_block-requires
-check_block-requires c = record { at_in_bounds = c.requires.at_in_bounds.0; steady = (says c).steady }
+check_block-requires c =
+    let says : let a = c.args in BlockSays a.ground.bed a.ground.left a.state a.s.now a.spot.from c.in-Says.said c.in-Says.end = rw c.in-Says.is at c.read_block-found.ensures in
+    record { at_in_bounds = c.requires.at_in_bounds.0; steady = says.steady }
 
 pub returns-in-Refused : goal.returns-in-Refused
 returns-in-Refused c =
@@ -21,6 +21,7 @@ returns-in-Refused c =
 
 pub returns-in-Says : goal.returns-in-Says
 returns-in-Says c =
+    let says : let a = c.args in BlockSays a.ground.bed a.ground.left a.state a.s.now a.spot.from c.in-Says.said c.in-Says.end = rw c.in-Says.is at c.read_block-found.ensures in
     let a = c.args in
-    let h = says c in
+    let h = says in
     does_as (h.goes _ a.spot.start) (rw (c.next_block-after.ensures ∙ h.block) at (c.check_block.ensures a.ground.left h.ws))

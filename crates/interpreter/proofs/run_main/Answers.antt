@@ -6,17 +6,14 @@ use Rattle.interpreter.specs.{Progressing.going_of, Progressing.outcome_by}
 use Rattle.interpreter.proofs.{Starting.first_fits, Starting.main_begins, Starting.task_sound, Starting.main_walk, Starting.main_sums, Starting.main_gives}
 use Rattle.interpreter.proofs.run_main.Goals as goal
 
-bed-fair : (c : goal.After-bed_of) → Fair c.bed_of.result
-bed-fair c =
-    let setup = c.args.setup in
-    let known = c.well_formed.0.1.1.1.1.1.1.0.1.0.1 in
-    let six : length setup.origins ≡ 6 = sym (length-map setup.origins _) ∙ known in
-    rw c.bed_of.ensures (fair setup c.requires.setup_value six)
-
 pub run_program-ending-requires : goal.run_program-ending-requires
 run_program-ending-requires c =
+    let bed-fair : Fair c.bed_of.result = let setup = c.args.setup in
+    let known = c.well_formed.0.1.1.1.1.1.1.0.1.0.1 in
+    let six : length setup.origins ≡ 6 = sym (length-map setup.origins _) ∙ known in
+    rw c.bed_of.ensures (fair setup c.requires.setup_value six) in
     let a = c.args in (
-      task_sound c.requires.opened c.skips.result (bed-fair c),
+      task_sound c.requires.opened c.skips.result bed-fair,
       (
         main_begins c.requires.opened,
         first_fits a.setup c.requires.setup_value (length a.list.now) a.budget c.bed_of.ensures c.first_state.ensures,
@@ -26,7 +23,11 @@ run_program-ending-requires c =
 pub state_moved-state-requires : goal.state_moved-state-requires
 unfolding bed_of offset
 state_moved-state-requires c =
-    main_sums c.run_program-ending.ensures (bed-fair c) (c.point_of.ensures ∙ sym (ap (λ (b : Bed). b.offset) c.bed_of.ensures))
+    let bed-fair : Fair c.bed_of.result = let setup = c.args.setup in
+    let known = c.well_formed.0.1.1.1.1.1.1.0.1.0.1 in
+    let six : length setup.origins ≡ 6 = sym (length-map setup.origins _) ∙ known in
+    rw c.bed_of.ensures (fair setup c.requires.setup_value six) in
+    main_sums c.run_program-ending.ensures bed-fair (c.point_of.ensures ∙ sym (ap (λ (b : Bed). b.offset) c.bed_of.ensures))
 
 pub returns : goal.returns
 unfolding bed_of offset report_by outcome_by

@@ -10,17 +10,12 @@ use Rattle.execution.proofs.block_reading.read_block.Goals as goal
 abbrev held : tie.After-read-words → List Word
 held c = words_in c.read-words.new.1.1.1.1.0 c.read-words.new.1.1.1.1.1.0
 
-fine : (c : goal.In-Fine) → let a = c.args in status.Fine ≡ status_of (eqb a.left 4) (words_at a.s.now a.from)
-fine c = sym c.in-Fine.is ∙ c.read_words-read.ensures.status
-
-words : (c : goal.In-Fine) → let a = c.args in Reads (words_at a.s.now a.from)
-words c = let a = c.args in all_stand (eqb a.left 4) (words_at a.s.now a.from) (fine c)
-
-whole : (c : goal.In-Fine) → let a = c.args in Kept a.state.modes a.s.now a.from (words c).ws (held c) c.read_words-read.result
-whole c = c.read_words-read.ensures.kept c.in-Fine.is (words c).ws (words c).are
-
 pub judge_words-requires : goal.judge_words-requires
-judge_words-requires c = (whole c).stored
+judge_words-requires c =
+    let fine : let a = c.args in status.Fine ≡ status_of (eqb a.left 4) (words_at a.s.now a.from) = sym c.in-Fine.is ∙ c.read_words-read.ensures.status in
+    let words : let a = c.args in Reads (words_at a.s.now a.from) = let a = c.args in all_stand (eqb a.left 4) (words_at a.s.now a.from) fine in
+    let whole : let a = c.args in Kept a.state.modes a.s.now a.from words.ws (held c) c.read_words-read.result = c.read_words-read.ensures.kept c.in-Fine.is words.ws words.are in
+    whole.stored
 
 pub returns-in-Refused : goal.returns-in-Refused
 returns-in-Refused c =
@@ -29,6 +24,9 @@ returns-in-Refused c =
 
 pub returns-in-Fine : goal.returns-in-Fine
 returns-in-Fine c =
+    let fine : let a = c.args in status.Fine ≡ status_of (eqb a.left 4) (words_at a.s.now a.from) = sym c.in-Fine.is ∙ c.read_words-read.ensures.status in
+    let words : let a = c.args in Reads (words_at a.s.now a.from) = let a = c.args in all_stand (eqb a.left 4) (words_at a.s.now a.from) fine in
+    let whole : let a = c.args in Kept a.state.modes a.s.now a.from words.ws (held c) c.read_words-read.result = c.read_words-read.ensures.kept c.in-Fine.is words.ws words.are in
     let a = c.args in
-    block_read_as a.bed a.left a.state a.s.now a.from (words c).ws (words c).are (fine c) (whole c) c.requires.fair.0 c.requires.fair.1
+    block_read_as a.bed a.left a.state a.s.now a.from words.ws words.are fine whole c.requires.fair.0 c.requires.fair.1
     c.judge_words.result c.judge_words.ensures

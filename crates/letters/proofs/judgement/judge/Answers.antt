@@ -5,15 +5,6 @@ use Rattle.letters.proofs.{Judging.judge_unused}
 use Rattle.letters.proofs.Places.{so_far, kept_first, past_bad, past_bad_again, past_fit, ended_bad, ended_fine}
 use Rattle.letters.proofs.judgement.judge.Goals as goal
 
--- the word that was taken stands at its place
-is :
-    (c : goal.After-unpack-w)
-    → let a = c.args in
-    get_or (words_in a.words.now a.places.now) c.loop-i.i c.unpack-w.result ≡ c.unpack-w.result
-is c =
-    word_at c.args.words.now c.args.places.now c.loop-i.i c.unpack-w.result
-    (omega (arith, c.loop-i-test.true, c.requires.there)) ∙ sym c.unpack-w.ensures
-
 pub loop-i-init : goal.loop-i-init
 loop-i-init c =
     let a = c.args in
@@ -21,9 +12,12 @@ loop-i-init c =
 
 pub returns-then-is_unused : goal.returns-then-is_unused
 returns-then-is_unused c =
+    let is : let a = c.args in
+    get_or (words_in a.words.now a.places.now) c.loop-i.i c.unpack-w.result ≡ c.unpack-w.result = word_at c.args.words.now c.args.places.now c.loop-i.i c.unpack-w.result
+    (omega (arith, c.loop-i-test.true, c.requires.there)) ∙ sym c.unpack-w.ensures in
     let k = c.loop-i in
     let a = c.args in
-    judge_unused a.speeds a.m a.code a.centred (words_in a.words.now a.places.now) a.count (so_far k.bad k.place k.stands k.v) k.i c.unpack-w.result (is c)
+    judge_unused a.speeds a.m a.code a.centred (words_in a.words.now a.places.now) a.count (so_far k.bad k.place k.stands k.v) k.i c.unpack-w.result is
     k.invariant.few
     c.loop-i-test.true
     k.invariant.left
@@ -35,13 +29,19 @@ returns-then-is_unused c =
 
 pub value_of-requires : goal.value_of-requires
 value_of-requires c =
-    rw (is c) at (c.requires.written c.loop-i.i c.unpack-w.result c.loop-i-test.true)
+    let is : let a = c.args in
+    get_or (words_in a.words.now a.places.now) c.loop-i.i c.unpack-w.result ≡ c.unpack-w.result = word_at c.args.words.now c.args.places.now c.loop-i.i c.unpack-w.result
+    (omega (arith, c.loop-i-test.true, c.requires.there)) ∙ sym c.unpack-w.ensures in
+    rw is at (c.requires.written c.loop-i.i c.unpack-w.result c.loop-i-test.true)
 
 pub loop-i-preserved-then-not-bad : goal.loop-i-preserved-then-not-bad
 loop-i-preserved-then-not-bad c =
+    let is : let a = c.args in
+    get_or (words_in a.words.now a.places.now) c.loop-i.i c.unpack-w.result ≡ c.unpack-w.result = word_at c.args.words.now c.args.places.now c.loop-i.i c.unpack-w.result
+    (omega (arith, c.loop-i-test.true, c.requires.there)) ∙ sym c.unpack-w.ensures in
     let k = c.loop-i in
     let a = c.args in
-    past_bad a.speeds a.m a.code a.centred (words_in a.words.now a.places.now) a.count k.stands k.v k.bad k.place k.i k.invariant c.unpack-w.result (is c)
+    past_bad a.speeds a.m a.code a.centred (words_in a.words.now a.places.now) a.count k.stands k.v k.bad k.place k.i k.invariant c.unpack-w.result is
     c.loop-i-test.true
     c.use_of-meaning.result
     c.is_unused.result
@@ -55,9 +55,12 @@ loop-i-preserved-then-not-bad c =
 
 pub loop-i-preserved-else-not-bad : goal.loop-i-preserved-else-not-bad
 loop-i-preserved-else-not-bad c =
+    let is : let a = c.args in
+    get_or (words_in a.words.now a.places.now) c.loop-i.i c.unpack-w.result ≡ c.unpack-w.result = word_at c.args.words.now c.args.places.now c.loop-i.i c.unpack-w.result
+    (omega (arith, c.loop-i-test.true, c.requires.there)) ∙ sym c.unpack-w.ensures in
     let k = c.loop-i in
     let a = c.args in
-    past_bad_again a.speeds a.m a.code a.centred (words_in a.words.now a.places.now) a.count k.stands k.v k.bad k.place k.i k.invariant c.unpack-w.result (is c)
+    past_bad_again a.speeds a.m a.code a.centred (words_in a.words.now a.places.now) a.count k.stands k.v k.bad k.place k.i k.invariant c.unpack-w.result is
     c.loop-i-test.true
     c.use_of-meaning.result
     c.is_unused.result
@@ -79,9 +82,12 @@ bounds-v-k c = c.value_place-k.ensures.inside
 
 pub loop-i-preserved : goal.loop-i-preserved
 loop-i-preserved c =
+    let is : let a = c.args in
+    get_or (words_in a.words.now a.places.now) c.loop-i.i c.unpack-w.result ≡ c.unpack-w.result = word_at c.args.words.now c.args.places.now c.loop-i.i c.unpack-w.result
+    (omega (arith, c.loop-i-test.true, c.requires.there)) ∙ sym c.unpack-w.ensures in
     let k = c.loop-i in
     let a = c.args in
-    past_fit a.speeds a.m a.code a.centred (words_in a.words.now a.places.now) a.count k.stands k.v k.bad k.place k.i k.invariant c.unpack-w.result (is c)
+    past_fit a.speeds a.m a.code a.centred (words_in a.words.now a.places.now) a.count k.stands k.v k.bad k.place k.i k.invariant c.unpack-w.result is
     c.loop-i-test.true
     c.use_of-meaning.result
     c.is_unused.result

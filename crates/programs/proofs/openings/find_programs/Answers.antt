@@ -18,25 +18,29 @@ returns-then-not-begins_with c =
     (found_plain c.args.s.now c.next_block-at.result c.next_block-at.ensures c.only_main.result
     (sym c.begins_with.ensures ∙ c.if-not-begins_with.true) c.only_main.ensures)
 
--- the second block begins with `O`
-begins : (c : goal.Else-not-begins_with) → begins_with 79 (text_from (drop c.next_block-at.result c.args.s.now)) ≡ true
-begins c = sym c.begins_with.ensures ∙ c.if-not-begins_with.false
-
-opened : (c : goal.Else-not-begins_with) → (c.next_block-at.result < length c.args.s.now) × (get_or c.args.s.now c.next_block-at.result 0 ≡ 79)
-opened c = opens_at c.args.s.now c.next_block-at.result (begins c)
-
 pub overflow_add-at : goal.overflow_add-at
-overflow_add-at c = let o = opened c in omega (arith, o.0)
+overflow_add-at c =
+    let begins : begins_with 79 (text_from (drop c.next_block-at.result c.args.s.now)) ≡ true = sym c.begins_with.ensures ∙ c.if-not-begins_with.false in
+    let opened : (c.next_block-at.result < length c.args.s.now) × (get_or c.args.s.now c.next_block-at.result 0 ≡ 79) = opens_at c.args.s.now c.next_block-at.result begins in
+    let o = opened in omega (arith, o.0)
 
 pub read_opening-requires : goal.read_opening-requires
-read_opening-requires c = let o = opened c in omega (arith, o.0)
+read_opening-requires c =
+    let begins : begins_with 79 (text_from (drop c.next_block-at.result c.args.s.now)) ≡ true = sym c.begins_with.ensures ∙ c.if-not-begins_with.false in
+    let opened : (c.next_block-at.result < length c.args.s.now) × (get_or c.args.s.now c.next_block-at.result 0 ≡ 79) = opens_at c.args.s.now c.next_block-at.result begins in
+    let o = opened in omega (arith, o.0)
 
 pub next_block-next-requires : goal.next_block-next-requires
-next_block-next-requires c = let o = opened c in omega (arith, o.0)
+next_block-next-requires c =
+    let begins : begins_with 79 (text_from (drop c.next_block-at.result c.args.s.now)) ≡ true = sym c.begins_with.ensures ∙ c.if-not-begins_with.false in
+    let opened : (c.next_block-at.result < length c.args.s.now) × (get_or c.args.s.now c.next_block-at.result 0 ≡ 79) = opens_at c.args.s.now c.next_block-at.result begins in
+    let o = opened in omega (arith, o.0)
 
 pub scan_openings-requires-in-Number : goal.scan_openings-requires-in-Number
 scan_openings-requires-in-Number c =
-    let o = opened c in
+    let begins : begins_with 79 (text_from (drop c.next_block-at.result c.args.s.now)) ≡ true = sym c.begins_with.ensures ∙ c.if-not-begins_with.false in
+    let opened : (c.next_block-at.result < length c.args.s.now) × (get_or c.args.s.now c.next_block-at.result 0 ≡ 79) = opens_at c.args.s.now c.next_block-at.result begins in
+    let o = opened in
     let l = c.args.s.now in
     let at = c.next_block-at.result in
     record { number_bound = omega (arith, c.next_block-next.ensures, length_some l at o.0, c.next_block-at.ensures, length_some l 0 (omega (arith, o.0))); well_found = c.only_main-in-Number.ensures.ready }
@@ -44,16 +48,18 @@ scan_openings-requires-in-Number c =
 pub returns-in-Bad : goal.returns-in-Bad
 unfolding table_by
 returns-in-Bad c =
+    let begins : begins_with 79 (text_from (drop c.next_block-at.result c.args.s.now)) ≡ true = sym c.begins_with.ensures ∙ c.if-not-begins_with.false in
     record {
       table =
-          found_bad c.args.s.now c.next_block-at.result c.next_block-at.ensures (begins c)
+          found_bad c.args.s.now c.next_block-at.result c.next_block-at.ensures begins
           (sym c.read_opening.ensures ∙ c.in-Bad.is);
       ready = c.only_main-in-Bad.ensures.ready;
     }
 
 pub returns-in-Number : goal.returns-in-Number
 returns-in-Number c =
+    let begins : begins_with 79 (text_from (drop c.next_block-at.result c.args.s.now)) ≡ true = sym c.begins_with.ensures ∙ c.if-not-begins_with.false in
     gives_as c.scan_openings-in-Number.ensures
-    (found_number c.args.s.now c.next_block-at.result c.next_block-at.ensures (begins c)
+    (found_number c.args.s.now c.next_block-at.result c.next_block-at.ensures begins
     _ c.next_block-next.result c.only_main-in-Number.result (sym c.read_opening.ensures ∙ c.in-Number.is)
     c.next_block-next.ensures c.only_main-in-Number.ensures)

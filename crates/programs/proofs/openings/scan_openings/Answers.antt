@@ -14,12 +14,10 @@ blocks-2-init c =
 pub loop-i-init : goal.loop-i-init
 loop-i-init c = (record { begun = omega arith; left = refl; plain = λ k. absurd (omega arith) }, omega arith, λ began s. s)
 
--- what the scan has where the block began
-begun : (c : goal.At-loop-i) → Scan c.args.s.now c.args.from c.args.number c.args.found c.loop-i.programs c.loop-i.at c.loop-i.block
-begun c = c.loop-i.invariant.2 _ c.blocks-2.invariant
-
 pub blocks-2-preserved-then-s-i-eq10 : goal.blocks-2-preserved-then-s-i-eq10
-blocks-2-preserved-then-s-i-eq10 c = passed_plain (begun c) c.loop-i.invariant.0 (omega arith) c.if-s-i-eq10.true
+blocks-2-preserved-then-s-i-eq10 c =
+    let begun : Scan c.args.s.now c.args.from c.args.number c.args.found c.loop-i.programs c.loop-i.at c.loop-i.block = c.loop-i.invariant.2 _ c.blocks-2.invariant in
+    passed_plain begun c.loop-i.invariant.0 (omega arith) c.if-s-i-eq10.true
 
 pub loop-i-preserved-then-at-i : goal.loop-i-preserved-then-at-i
 loop-i-preserved-then-at-i c =
@@ -29,17 +27,19 @@ loop-i-preserved-then-at-i c =
 pub returns-in-Refuses : goal.returns-in-Refuses
 unfolding table_by
 returns-in-Refuses c =
+    let begun : Scan c.args.s.now c.args.from c.args.number c.args.found c.loop-i.programs c.loop-i.at c.loop-i.block = c.loop-i.invariant.2 _ c.blocks-2.invariant in
     record {
       table =
-          refused_opening (begun c) (omega arith) (sym c.is_percent.ensures ∙ c.if-is_percent.false) c.in-Refuses.refusal c.if-s-at-eq79.true
+          refused_opening begun (omega arith) (sym c.is_percent.ensures ∙ c.if-is_percent.false) c.in-Refuses.refusal c.if-s-at-eq79.true
           (ap (entry_of c.loop-i.programs.main (subs_of c.loop-i.programs)) (sym c.read_opening.ensures)
           ∙ sym c.entry_of.ensures ∙ c.in-Refuses.is);
-      ready = (begun c).ready;
+      ready = begun.ready;
     }
 
 pub with_program-programs-requires : goal.with_program-programs-requires
 with_program-programs-requires c =
-    ((begun c).ready, entry_room c.loop-i.programs (begun c).ready c.read_opening.result _ (sym c.entry_of.ensures ∙ c.in-Enters.is))
+    let begun : Scan c.args.s.now c.args.from c.args.number c.args.found c.loop-i.programs c.loop-i.at c.loop-i.block = c.loop-i.invariant.2 _ c.blocks-2.invariant in
+    (begun.ready, entry_room c.loop-i.programs begun.ready c.read_opening.result _ (sym c.entry_of.ensures ∙ c.in-Enters.is))
 
 pub blocks-2-smaller : goal.blocks-2-smaller
 blocks-2-smaller c =
@@ -47,7 +47,8 @@ blocks-2-smaller c =
 
 pub blocks-2-preserved : goal.blocks-2-preserved
 blocks-2-preserved c =
-    passed_opening (begun c) (omega (arith, c.loop-i.invariant, c.loop-i-test.true)) (sym c.is_percent.ensures ∙ c.if-is_percent.false) _ c.next_block-at.result c.with_program-programs.result
+    let begun : Scan c.args.s.now c.args.from c.args.number c.args.found c.loop-i.programs c.loop-i.at c.loop-i.block = c.loop-i.invariant.2 _ c.blocks-2.invariant in
+    passed_opening begun (omega (arith, c.loop-i.invariant, c.loop-i-test.true)) (sym c.is_percent.ensures ∙ c.if-is_percent.false) _ c.next_block-at.result c.with_program-programs.result
     c.if-s-at-eq79.true
     (ap (entry_of c.loop-i.programs.main (subs_of c.loop-i.programs)) (sym c.read_opening.ensures)
     ∙ sym c.entry_of.ensures ∙ c.in-Enters.is)
@@ -61,18 +62,27 @@ loop-i-preserved c =
 pub returns-then-is_percent : goal.returns-then-is_percent
 unfolding table_by
 returns-then-is_percent c =
-    let b = begun c in
+    let begun : Scan c.args.s.now c.args.from c.args.number c.args.found c.loop-i.programs c.loop-i.at c.loop-i.block = c.loop-i.invariant.2 _ c.blocks-2.invariant in
+    let b = begun in
     record { table = stopped_percent b (omega arith) (sym c.is_percent.ensures ∙ c.if-is_percent.true); ready = b.ready }
 
 pub returns-after-loop-i : goal.returns-after-loop-i
 unfolding table_by
-returns-after-loop-i c = let b = begun c in record { table = stopped_end b c.loop-i.invariant.0 (omega arith); ready = b.ready }
+returns-after-loop-i c =
+    let begun : Scan c.args.s.now c.args.from c.args.number c.args.found c.loop-i.programs c.loop-i.at c.loop-i.block = c.loop-i.invariant.2 _ c.blocks-2.invariant in
+    let b = begun in record { table = stopped_end b c.loop-i.invariant.0 (omega arith); ready = b.ready }
 
 pub overflow_add-block : goal.overflow_add-block
-overflow_add-block c = omega (arith, (begun c).counted)
+overflow_add-block c =
+    let begun : Scan c.args.s.now c.args.from c.args.number c.args.found c.loop-i.programs c.loop-i.at c.loop-i.block = c.loop-i.invariant.2 _ c.blocks-2.invariant in
+    omega (arith, begun.counted)
 
 pub entry_of-requires : goal.entry_of-requires
-entry_of-requires c = (begun c).ready
+entry_of-requires c =
+    let begun : Scan c.args.s.now c.args.from c.args.number c.args.found c.loop-i.programs c.loop-i.at c.loop-i.block = c.loop-i.invariant.2 _ c.blocks-2.invariant in
+    begun.ready
 
 pub overflow_add-block-in-Enters : goal.overflow_add-block-in-Enters
-overflow_add-block-in-Enters c = omega (arith, (begun c).counted)
+overflow_add-block-in-Enters c =
+    let begun : Scan c.args.s.now c.args.from c.args.number c.args.found c.loop-i.programs c.loop-i.at c.loop-i.block = c.loop-i.invariant.2 _ c.blocks-2.invariant in
+    omega (arith, begun.counted)

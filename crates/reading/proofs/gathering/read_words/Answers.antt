@@ -15,23 +15,22 @@ loop-status-init c =
 pub text_ends-requires : goal.text_ends-requires
 text_ends-requires c = c.loop-status.invariant.inside
 
--- where the text goes on
-going : (c : goal.In-loop-status) → no_text (drop c.loop-status.i c.args.s.now) ≡ false
-going c = sym c.text_ends.ensures ∙ not-true _ c.loop-status-test.true
-
 pub item_at-requires : goal.item_at-requires
-item_at-requires c = text_inside c.args.s.now c.loop-status.i (going c)
-
--- the gap, and what follows it
-passed : (c : goal.In-Gap) → (words_at c.args.s.now c.loop-status.i ≡ words_at c.args.s.now c.in-Gap.next) × Gone c.args.s.now c.loop-status.i c.in-Gap.next
-passed c =
-    step_gap c.args.s.now c.loop-status.i (going c) c.in-Gap.next (sym c.item_at.ensures ∙ c.in-Gap.is)
+item_at-requires c =
+    let going : no_text (drop c.loop-status.i c.args.s.now) ≡ false = sym c.text_ends.ensures ∙ not-true _ c.loop-status-test.true in
+    text_inside c.args.s.now c.loop-status.i going
 
 pub loop-status-smaller-in-Gap : goal.loop-status-smaller-in-Gap
-loop-status-smaller-in-Gap c = let g = (passed c).1 in omega (arith, g.forward, g.inside)
+loop-status-smaller-in-Gap c =
+    let going : no_text (drop c.loop-status.i c.args.s.now) ≡ false = sym c.text_ends.ensures ∙ not-true _ c.loop-status-test.true in
+    let passed : (words_at c.args.s.now c.loop-status.i ≡ words_at c.args.s.now c.in-Gap.next) × Gone c.args.s.now c.loop-status.i c.in-Gap.next = step_gap c.args.s.now c.loop-status.i going c.in-Gap.next (sym c.item_at.ensures ∙ c.in-Gap.is) in
+    let g = passed.1 in omega (arith, g.forward, g.inside)
 
 pub loop-status-preserved-in-Gap : goal.loop-status-preserved-in-Gap
-loop-status-preserved-in-Gap c = gap_along c.loop-status.invariant c.in-Gap.next (passed c).0 (passed c).1
+loop-status-preserved-in-Gap c =
+    let going : no_text (drop c.loop-status.i c.args.s.now) ≡ false = sym c.text_ends.ensures ∙ not-true _ c.loop-status-test.true in
+    let passed : (words_at c.args.s.now c.loop-status.i ≡ words_at c.args.s.now c.in-Gap.next) × Gone c.args.s.now c.loop-status.i c.in-Gap.next = step_gap c.args.s.now c.loop-status.i going c.in-Gap.next (sym c.item_at.ensures ∙ c.in-Gap.is) in
+    gap_along c.loop-status.invariant c.in-Gap.next passed.0 passed.1
 
 -- the next word, and what follows it
 abbrev Stepped : tie.After-known-told3 invariant-loop decreases-loop → Type 0
@@ -39,21 +38,29 @@ Stepped c =
     (words_at c.before.before.before.before.before.before.before.before.args.s.now c.before.before.before.before.before.before.loop.i ≡ with_word c.before.w.given.0.0 (words_at c.before.before.before.before.before.before.before.before.args.s.now c.before.w.given.0.1.0))
     × Gone c.before.before.before.before.before.before.before.before.args.s.now c.before.before.before.before.before.before.loop.i c.before.w.given.0.1.0 × Written c.before.w.given.0.0.number × (is_capital c.before.w.given.0.0.letter ≡ true)
 
-stepped : (c : goal.In-Says) → Stepped c
-stepped c =
-    step_word c.args.s.now c.loop-status.i (going c) c.in-Says.w c.in-Says.next (sym c.item_at.ensures ∙ c.in-Says.is)
-
 pub loop-status-smaller-then-stopped : goal.loop-status-smaller-then-stopped
-loop-status-smaller-then-stopped c = let g = (stepped c).1 in omega (arith, g.forward, g.inside)
+loop-status-smaller-then-stopped c =
+    let going : no_text (drop c.loop-status.i c.args.s.now) ≡ false = sym c.text_ends.ensures ∙ not-true _ c.loop-status-test.true in
+    let stepped : Stepped c = step_word c.args.s.now c.loop-status.i going c.in-Says.w c.in-Says.next (sym c.item_at.ensures ∙ c.in-Says.is) in
+    let g = stepped.1 in omega (arith, g.forward, g.inside)
 
 pub loop-status-preserved-then-stopped : goal.loop-status-preserved-then-stopped
-loop-status-preserved-then-stopped c = word_halted c.loop-status.invariant c.if-stopped.true c.in-Says.w c.in-Says.next (stepped c).0 (stepped c).1
+loop-status-preserved-then-stopped c =
+    let going : no_text (drop c.loop-status.i c.args.s.now) ≡ false = sym c.text_ends.ensures ∙ not-true _ c.loop-status-test.true in
+    let stepped : Stepped c = step_word c.args.s.now c.loop-status.i going c.in-Says.w c.in-Says.next (sym c.item_at.ensures ∙ c.in-Says.is) in
+    word_halted c.loop-status.invariant c.if-stopped.true c.in-Says.w c.in-Says.next stepped.0 stepped.1
 
 pub letter_place-k-requires : goal.letter_place-k-requires
-letter_place-k-requires c = (stepped c).3
+letter_place-k-requires c =
+    let going : no_text (drop c.loop-status.i c.args.s.now) ≡ false = sym c.text_ends.ensures ∙ not-true _ c.loop-status-test.true in
+    let stepped : Stepped c = step_word c.args.s.now c.loop-status.i going c.in-Says.w c.in-Says.next (sym c.item_at.ensures ∙ c.in-Says.is) in
+    stepped.3
 
 pub bounds-letters-k : goal.bounds-letters-k
-bounds-letters-k c = rw c.letter_place-k.ensures (place_inside _ (stepped c).3)
+bounds-letters-k c =
+    let going : no_text (drop c.loop-status.i c.args.s.now) ≡ false = sym c.text_ends.ensures ∙ not-true _ c.loop-status-test.true in
+    let stepped : Stepped c = step_word c.args.s.now c.loop-status.i going c.in-Says.w c.in-Says.next (sym c.item_at.ensures ∙ c.in-Says.is) in
+    rw c.letter_place-k.ensures (place_inside _ stepped.3)
 
 -- what has been read, no word of it being wrong
 abbrev Read : tie.After-role-of invariant-loop decreases-loop → Type 0
@@ -61,9 +68,6 @@ Read c =
     Sofar c.before.before.before.before.before.before.before.before.before.before.before.args.main c.before.before.before.before.before.before.before.before.before.before.before.args.before c.before.before.before.before.before.before.before.before.before.before.before.args.s.now c.before.before.before.before.before.before.before.before.before.before.before.args.from c.before.before.before.before.before.before.before.before.before.loop.i
     (record { letters = c.before.before.before.before.before.before.before.before.before.loop.letters; groups = c.before.before.before.before.before.before.before.before.before.loop.groups; misc = c.before.before.before.before.before.before.before.before.before.loop.misc; modes = c.before.before.before.before.before.before.before.before.before.loop.modes })
     c.before.before.before.before.before.before.before.before.before.loop.count (words_in c.before.before.before.before.before.before.before.before.before.loop.words c.before.before.before.before.before.before.before.before.before.loop.places)
-
-read : (c : goal.After-role_of) → Read c
-read c = c.loop-status.invariant.going c.if-stopped.false
 
 -- what the word's role says
 playing :
@@ -77,47 +81,64 @@ playing c r is =
     subst (λ x. Plays c.args.main (read c).done c.in-Says.w x) is told
 
 pub loop-status-smaller-in-MayNot : goal.loop-status-smaller-in-MayNot
-loop-status-smaller-in-MayNot c = let g = (stepped c).1 in omega (arith, g.forward, g.inside)
+loop-status-smaller-in-MayNot c =
+    let going : no_text (drop c.loop-status.i c.args.s.now) ≡ false = sym c.text_ends.ensures ∙ not-true _ c.loop-status-test.true in
+    let stepped : Stepped c = step_word c.args.s.now c.loop-status.i going c.in-Says.w c.in-Says.next (sym c.item_at.ensures ∙ c.in-Says.is) in
+    let g = stepped.1 in omega (arith, g.forward, g.inside)
 
 pub loop-status-preserved-in-MayNot : goal.loop-status-preserved-in-MayNot
 loop-status-preserved-in-MayNot c =
-    let step = stepped c in
-    stops (halts (read c) c.in-Says.w c.in-Says.next step.0 step.1 (playing c _ c.in-MayNot.is))
+    let going : no_text (drop c.loop-status.i c.args.s.now) ≡ false = sym c.text_ends.ensures ∙ not-true _ c.loop-status-test.true in
+    let stepped : Stepped c = step_word c.args.s.now c.loop-status.i going c.in-Says.w c.in-Says.next (sym c.item_at.ensures ∙ c.in-Says.is) in
+    let read : Read c = c.loop-status.invariant.going c.if-stopped.false in
+    let step = stepped in
+    stops (halts read c.in-Says.w c.in-Says.next step.0 step.1 (playing c _ c.in-MayNot.is))
 
 pub bounds-groups-g : goal.bounds-groups-g
 bounds-groups-g c = rw c.group_of-g.ensures (group_most _)
 
 pub loop-status-smaller-in-Code : goal.loop-status-smaller-in-Code
-loop-status-smaller-in-Code c = let g = (stepped c).1 in omega (arith, g.forward, g.inside)
+loop-status-smaller-in-Code c =
+    let going : no_text (drop c.loop-status.i c.args.s.now) ≡ false = sym c.text_ends.ensures ∙ not-true _ c.loop-status-test.true in
+    let stepped : Stepped c = step_word c.args.s.now c.loop-status.i going c.in-Says.w c.in-Says.next (sym c.item_at.ensures ∙ c.in-Says.is) in
+    let g = stepped.1 in omega (arith, g.forward, g.inside)
 
 pub loop-status-preserved-in-Code : goal.loop-status-preserved-in-Code
 loop-status-preserved-in-Code c =
-    let step = stepped c in
+    let going : no_text (drop c.loop-status.i c.args.s.now) ≡ false = sym c.text_ends.ensures ∙ not-true _ c.loop-status-test.true in
+    let stepped : Stepped c = step_word c.args.s.now c.loop-status.i going c.in-Says.w c.in-Says.next (sym c.item_at.ensures ∙ c.in-Says.is) in
+    let read : Read c = c.loop-status.invariant.going c.if-stopped.false in
+    let step = stepped in
     let code = playing c _ c.in-Code.is in
     rw (c.if-stopped.false, c.loop-status.invariant.fine c.if-stopped.false, c.group_of-g.ensures, c.switched-modes.ensures)
-    (goes_on (over_code (read c) c.in-Says.w c.in-Says.next step.0 step.1 step.2 step.3 code.0 c.in-Code.c code.1 code.2))
+    (goes_on (over_code read c.in-Says.w c.in-Says.next step.0 step.1 step.2 step.3 code.0 c.in-Code.c code.1 code.2))
 
 pub loop-status-smaller-in-Misc : goal.loop-status-smaller-in-Misc
-loop-status-smaller-in-Misc c = let g = (stepped c).1 in omega (arith, g.forward, g.inside)
+loop-status-smaller-in-Misc c =
+    let going : no_text (drop c.loop-status.i c.args.s.now) ≡ false = sym c.text_ends.ensures ∙ not-true _ c.loop-status-test.true in
+    let stepped : Stepped c = step_word c.args.s.now c.loop-status.i going c.in-Says.w c.in-Says.next (sym c.item_at.ensures ∙ c.in-Says.is) in
+    let g = stepped.1 in omega (arith, g.forward, g.inside)
 
 pub loop-status-preserved-in-Misc : goal.loop-status-preserved-in-Misc
 loop-status-preserved-in-Misc c =
-    let step = stepped c in
+    let going : no_text (drop c.loop-status.i c.args.s.now) ≡ false = sym c.text_ends.ensures ∙ not-true _ c.loop-status-test.true in
+    let stepped : Stepped c = step_word c.args.s.now c.loop-status.i going c.in-Says.w c.in-Says.next (sym c.item_at.ensures ∙ c.in-Says.is) in
+    let read : Read c = c.loop-status.invariant.going c.if-stopped.false in
+    let step = stepped in
     let misc = playing c _ c.in-Misc.is in
-    rw (c.if-stopped.false, c.loop-status.invariant.fine c.if-stopped.false) (goes_on (over_misc (read c) c.in-Says.w c.in-Says.next step.0 step.1 step.2 step.3 misc.0 c.in-Misc.m misc.1 misc.2))
+    rw (c.if-stopped.false, c.loop-status.invariant.fine c.if-stopped.false) (goes_on (over_misc read c.in-Says.w c.in-Says.next step.0 step.1 step.2 step.3 misc.0 c.in-Misc.m misc.1 misc.2))
 
 pub bounds-letters-k-in-Value : goal.bounds-letters-k-in-Value
-bounds-letters-k-in-Value c = rw c.letter_place-k.ensures (place_inside _ (stepped c).3)
-
--- a word with a value has a place
-placed : (c : goal.In-Value) → c.loop-status.count < 13
-placed c =
-    let step = stepped c in
-    let value = playing c _ c.in-Value.is in
-    room (read c) c.in-Says.w c.in-Says.next step.0 step.1 step.2 step.3 value.0 value.1
+bounds-letters-k-in-Value c =
+    let going : no_text (drop c.loop-status.i c.args.s.now) ≡ false = sym c.text_ends.ensures ∙ not-true _ c.loop-status-test.true in
+    let stepped : Stepped c = step_word c.args.s.now c.loop-status.i going c.in-Says.w c.in-Says.next (sym c.item_at.ensures ∙ c.in-Says.is) in
+    rw c.letter_place-k.ensures (place_inside _ stepped.3)
 
 pub pack-requires : goal.pack-requires
-pack-requires c = (stepped c).2
+pack-requires c =
+    let going : no_text (drop c.loop-status.i c.args.s.now) ≡ false = sym c.text_ends.ensures ∙ not-true _ c.loop-status-test.true in
+    let stepped : Stepped c = step_word c.args.s.now c.loop-status.i going c.in-Says.w c.in-Says.next (sym c.item_at.ensures ∙ c.in-Says.is) in
+    stepped.2
 
 mul_words : tie.Need-overflow-mul-words invariant-loop decreases-loop
 mul_words c = omega (arith, placed c.before)
@@ -126,27 +147,41 @@ element-write-words : tie.Need-element-write-words invariant-loop decreases-loop
 element-write-words c = placed c.before
 
 pub overflow_add-count : goal.overflow_add-count
-overflow_add-count c = omega (arith, placed c)
+overflow_add-count c =
+    let going : no_text (drop c.loop-status.i c.args.s.now) ≡ false = sym c.text_ends.ensures ∙ not-true _ c.loop-status-test.true in
+    let stepped : Stepped c = step_word c.args.s.now c.loop-status.i going c.in-Says.w c.in-Says.next (sym c.item_at.ensures ∙ c.in-Says.is) in
+    let read : Read c = c.loop-status.invariant.going c.if-stopped.false in
+    let placed : c.loop-status.count < 13 = let step = stepped in
+    let value = playing c _ c.in-Value.is in
+    room read c.in-Says.w c.in-Says.next step.0 step.1 step.2 step.3 value.0 value.1 in
+    omega (arith, placed)
 
 pub loop-status-smaller : goal.loop-status-smaller
-loop-status-smaller c = let g = (stepped c).1 in omega (arith, g.forward, g.inside)
+loop-status-smaller c =
+    let going : no_text (drop c.loop-status.i c.args.s.now) ≡ false = sym c.text_ends.ensures ∙ not-true _ c.loop-status-test.true in
+    let stepped : Stepped c = step_word c.args.s.now c.loop-status.i going c.in-Says.w c.in-Says.next (sym c.item_at.ensures ∙ c.in-Says.is) in
+    let g = stepped.1 in omega (arith, g.forward, g.inside)
 
 pub loop-status-preserved : goal.loop-status-preserved
 loop-status-preserved c =
-    let step = stepped c in
+    let going : no_text (drop c.loop-status.i c.args.s.now) ≡ false = sym c.text_ends.ensures ∙ not-true _ c.loop-status-test.true in
+    let stepped : Stepped c = step_word c.args.s.now c.loop-status.i going c.in-Says.w c.in-Says.next (sym c.item_at.ensures ∙ c.in-Says.is) in
+    let read : Read c = c.loop-status.invariant.going c.if-stopped.false in
+    let step = stepped in
     let value = playing c _ c.in-Value.is in
     let l = c.loop-status in
     let w = c.in-Says.w in
     let small : w.letter < 256 = omega (arith, place_inside w.letter step.3) in
     rw (c.if-stopped.false, l.invariant.fine c.if-stopped.false, c.letter_place-k.ensures, c.pack.ensures, word_put l.words l.places l.count w step.2 small)
-    (goes_on (over_valued (read c) w c.in-Says.next step.0 step.1 step.2 step.3 value.0 value.1))
+    (goes_on (over_valued read w c.in-Says.next step.0 step.1 step.2 step.3 value.0 value.1))
 
 pub returns-after-loop-status : goal.returns-after-loop-status
 returns-after-loop-status c = end_along c.loop-status.invariant (sym c.text_ends.ensures ∙ not-false _ c.loop-status-test.false)
 
 pub returns-in-Refused : goal.returns-in-Refused
 returns-in-Refused c =
-    bad_along c.loop-status.invariant c.in-Refused.refusal (step_bad c.args.s.now c.loop-status.i (going c) c.in-Refused.refusal (sym c.item_at.ensures ∙ c.in-Refused.is))
+    let going : no_text (drop c.loop-status.i c.args.s.now) ≡ false = sym c.text_ends.ensures ∙ not-true _ c.loop-status-test.true in
+    bad_along c.loop-status.invariant c.in-Refused.refusal (step_bad c.args.s.now c.loop-status.i going c.in-Refused.refusal (sym c.item_at.ensures ∙ c.in-Refused.is))
 
 pub offset_bounds-words-count : goal.offset_bounds-words-count
 offset_bounds-words-count c = mul_words c
