@@ -85,8 +85,8 @@ scan_placed :
     → TablePlaced l (scan main bs subs)
 unfolding scan
 scan_placed [] f m subs s = found m s
-scan_placed {main = main} (b ∷ bs) f m subs s =
-    block_placed b (scan main bs) m (after f) (scan_placed bs (next f) m) (closes b) (opens b) s
+scan_placed {l = l} {n = n} {at = at} {main = main} (b ∷ bs) f m subs s =
+    block_placed b (scan main bs) m (after f) (scan_placed {n = n + 1} bs (next f) m) (closes b) (opens b) s
 
 -- what the openings of the data give
 pub programs_placed : (l : List ℕ) (percent : Block) (bs : List Block) → blocks_of l ≡ percent ∷ bs → TablePlaced l (programs_from percent bs)

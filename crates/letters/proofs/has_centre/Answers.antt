@@ -13,4 +13,4 @@ names_centre-requires c = search rules
 
 pub returns : goal.returns
 unfolding has_centre
-returns c = (λ c ws seen. rw (c.before.is-arc.ensures, c.names-centre.ensures ws seen)) c
+returns c = λ ws seen. rw (c.is_arc.ensures, c.names_centre.ensures ws seen)

@@ -19,12 +19,12 @@ enum_told-in-G19 c = search rules
 
 pub returns-in-G17 : goal.returns-in-G17
 unfolding names_centre centre_letters
-returns-in-G17 c = (λ c ws seen. rw c.enum_told.given.1 (two_seen (byte "I") (byte "J") ws seen.has_i seen.has_j)) c
+returns-in-G17 c = λ ws seen. rw c.in-G17.is (two_seen (byte "I") (byte "J") ws seen.has_i seen.has_j)
 
 pub returns-in-G18 : goal.returns-in-G18
 unfolding names_centre centre_letters
-returns-in-G18 c = (λ c ws seen. rw c.enum-told2.given.1 (two_seen (byte "K") (byte "I") ws seen.has_k seen.has_i)) c
+returns-in-G18 c = λ ws seen. rw c.in-G18.is (two_seen (byte "K") (byte "I") ws seen.has_k seen.has_i)
 
 pub returns-in-G19 : goal.returns-in-G19
 unfolding names_centre centre_letters
-returns-in-G19 c = (λ c ws seen. rw c.enum-told3.given.1 (two_seen (byte "J") (byte "K") ws seen.has_j seen.has_k)) c
+returns-in-G19 c = λ ws seen. rw c.in-G19.is (two_seen (byte "J") (byte "K") ws seen.has_j seen.has_k)

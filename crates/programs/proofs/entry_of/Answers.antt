@@ -9,17 +9,14 @@ returns-in_default c = rw c.in_default.is
 
 pub returns-then-is_taken : goal.returns-then-is_taken
 returns-then-is_taken c =
-    let o = c.in-Number.o-1.given in
-    rw o.1 (sym (entry_taken c.args.t c.requires o.0.0 (sym c.is_taken.ensures ∙ c.if-is_taken.true)))
+    rw c.in-Number.is (sym (entry_taken c.args.t c.requires c.in-Number.n (sym c.is_taken.ensures ∙ c.if-is_taken.true)))
 
 pub returns-then-t-ge10 : goal.returns-then-t-ge10
 returns-then-t-ge10 c =
-    let o = c.in-Number.o-1.given in
-    rw o.1
-    (sym (entry_full c.args.t c.requires o.0.0 (sym c.is_taken.ensures ∙ c.if-is_taken.false) c.if-t-ge10.true))
+    rw c.in-Number.is
+    (sym (entry_full c.args.t c.requires c.in-Number.n (sym c.is_taken.ensures ∙ c.if-is_taken.false) c.if-t-ge10.true))
 
 pub returns : goal.returns
 returns c =
-    let o = c.in-Number.o-1.given in
-    rw o.1
-    (sym (entry_new c.args.t c.requires o.0.0 (sym c.is_taken.ensures ∙ c.if-is_taken.false) c.if-t-ge10.false))
+    rw c.in-Number.is
+    (sym (entry_new c.args.t c.requires c.in-Number.n (sym c.is_taken.ensures ∙ c.if-is_taken.false) c.if-t-ge10.false))

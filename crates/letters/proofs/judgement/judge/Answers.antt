@@ -51,7 +51,7 @@ loop-i-preserved-then-not-bad c =
     c.value_of.result
     c.value_of.ensures
     c.in_default.is
-    (not-true k.bad c.if-not-bad.true)
+    c.if-not-bad.true
 
 pub loop-i-preserved-else-not-bad : goal.loop-i-preserved-else-not-bad
 loop-i-preserved-else-not-bad c =
@@ -69,7 +69,7 @@ loop-i-preserved-else-not-bad c =
     c.if-is_unused.false
     c.value_of.result
     c.value_of.ensures
-    (not-false k.bad c.if-not-bad.false)
+    c.if-not-bad.false
 
 pub bounds-stands-k : goal.bounds-stands-k
 bounds-stands-k c = c.value_place-k.ensures.inside
