@@ -3,4 +3,4 @@ use Rattle.terms.proofs.Common.{◌∙◌}
 use Rattle.look.proofs.judged.Goals as goal
 
 pub returns : goal.returns
-returns c = c.judge.ensures ∙ rw (c.has_centre-centred.ensures ws seen, c.block_code-code.ensures)
+returns c ws seen = c.judge.ensures ∙ rw (c.has_centre-centred.ensures ws seen, c.block_code-code.ensures)

@@ -5,7 +5,7 @@ use Rattle.reading.proofs.is_bad_code.Goals as goal
 pub returns-then-g-eq0 : goal.returns-then-g-eq0
 returns-then-g-eq0 c =
     let a = c.args in
-    record { is = λ done s. told_unknown done a.t1 a.m s a.c (sym c.group_of-g.ensures ∙ c.if-g-eq0.true) }
+    record { is = λ done s. told_unknown done a.groups a.m s a.c (sym c.group_of-g.ensures ∙ c.if-g-eq0.true) }
 
 pub bounds-groups-g : goal.bounds-groups-g
 bounds-groups-g c = rw c.group_of-g.ensures (group_most c.args.c)
@@ -15,7 +15,7 @@ returns-then-groups-g c =
     let a = c.args in
     record {
       is = λ done s.
-          told_group done a.t1 a.m s a.c
+          told_group done a.groups a.m s a.c
           (ap (λ (g : ℕ). get_or c.args.groups g false) (sym c.group_of-g.ensures) ∙ c.if-groups-g.true);
     }
 
@@ -25,7 +25,7 @@ returns-then-g-eq1 c =
     let is = c.group_of-g.ensures in
     record {
       is = λ done s.
-          told_one done a.t1 a.m s a.c _ c.stands_alone-alone.ensures
+          told_one done a.groups a.m s a.c _ c.stands_alone-alone.ensures
           (ap (λ (g : ℕ). get_or c.args.groups g false) (sym is) ∙ c.if-groups-g.false) (sym is ∙ c.if-g-eq1.true);
     }
 
@@ -35,7 +35,7 @@ returns-then-g-eq7 c =
     let is = c.group_of-g.ensures in
     record {
       is = λ done s.
-          told_seven done a.t1 a.m s a.c _ c.stands_alone-alone.ensures
+          told_seven done a.groups a.m s a.c _ c.stands_alone-alone.ensures
           (ap (λ (g : ℕ). get_or c.args.groups g false) (sym is) ∙ c.if-groups-g.false) (sym is ∙ c.if-g-eq7.true);
     }
 
@@ -45,7 +45,7 @@ returns c =
     let is = c.group_of-g.ensures in
     record {
       is = λ done s.
-          told_rest done a.t1 a.m s a.c _ c.stands_alone-alone.ensures (λ e. c.if-g-eq0.false (is ∙ e))
+          told_rest done a.groups a.m s a.c _ c.stands_alone-alone.ensures (λ e. c.if-g-eq0.false (is ∙ e))
           (ap (λ (g : ℕ). get_or c.args.groups g false) (sym is) ∙ c.if-groups-g.false)
           (λ e. absurd (c.if-g-eq1.false (is ∙ e))) (λ e. absurd (c.if-g-eq7.false (is ∙ e)));
     }

@@ -5,7 +5,7 @@ use Rattle.reading.proofs.{Seeing.tells_misc_code}
 use Rattle.reading.proofs.misc_role.Goals as goal
 
 pub returns-then-is_bad_misc : goal.returns-then-is_bad_misc
-returns-then-is_bad_misc c =
+returns-then-is_bad_misc c groups m =
     record {
       is = λ done s e f.
           tells_misc_code c.args.main done c.args.w c.requires e _ c.args.after f
@@ -13,7 +13,7 @@ returns-then-is_bad_misc c =
     }
 
 pub returns : goal.returns
-returns c =
+returns c groups m =
     record {
       is = λ done s e f. (
         tells_misc_code c.args.main done c.args.w c.requires e _ c.args.after f

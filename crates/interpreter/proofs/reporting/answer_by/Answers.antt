@@ -27,16 +27,16 @@ enum_known-how c = search rules
 
 pub returns-in-Ended : goal.returns-in-Ended
 unfolding answer_by how_by
-returns-in-Ended c = by _ _ g c.in-Ended.is
+returns-in-Ended c g = by _ _ g c.in-Ended.is
 
 pub returns-in-Returned : goal.returns-in-Returned
 unfolding answer_by how_by
-returns-in-Returned c = by _ _ g c.in-Returned.is
+returns-in-Returned c g = by _ _ g c.in-Returned.is
 
 pub returns-in-Unfinished : goal.returns-in-Unfinished
 unfolding answer_by how_by
-returns-in-Unfinished c = by _ _ g c.in-Unfinished.is
+returns-in-Unfinished c g = by _ _ g c.in-Unfinished.is
 
 pub returns-in-Refused : goal.returns-in-Refused
 unfolding answer_by how_by
-returns-in-Refused c = by _ _ g c.in-Refused.is
+returns-in-Refused c g = by _ _ g c.in-Refused.is

@@ -5,7 +5,7 @@ use Rattle.interpreter.proofs.{Acting.does_plain, Acting.does_slashed, Acting.do
 use Rattle.interpreter.proofs.walk.do_block.Goals as goal
 
 pub returns-then-slashed-skips : goal.returns-then-slashed-skips
-returns-then-slashed-skips c =
+returns-then-slashed-skips c n =
     let a = c.args in
     let both = c.if-slashed-skips.true in
     let slash = c.begins_with-slashed.result in
@@ -16,7 +16,7 @@ pub exec-requires : goal.exec-requires
 exec-requires c = (⊎_elim (λ w. omega arith) (λ w. omega arith) c.if-slashed.branch, search rules)
 
 pub returns : goal.returns
-returns c =
+returns c n =
     let a = c.args in
     let slash = sym c.begins_with-slashed.ensures in
     ⊎_elim

@@ -20,7 +20,7 @@ pub shape_of-list-then-is_spent : goal.shape_of-list-then-is_spent
 shape_of-list-then-is_spent c = (c.loop-ground.invariant.1 no_programs).kept
 
 pub returns-then-is_spent : goal.returns-then-is_spent
-returns-then-is_spent c =
+returns-then-is_spent c programs =
     let a = c.args in
     rw c.over.ensures
     (walking_spent a.s.now (task_on a.ground a.skips programs) a.ground.left (c.loop-ground.invariant.1 programs)
@@ -33,7 +33,7 @@ pub shape_of-list-then-program_ends : goal.shape_of-list-then-program_ends
 shape_of-list-then-program_ends c = (c.loop-ground.invariant.1 no_programs).kept
 
 pub returns-then-program_ends : goal.returns-then-program_ends
-returns-then-program_ends c =
+returns-then-program_ends c programs =
     let a = c.args in
     rw c.over-then-program_ends.ensures
     (walking_ends a.s.now (task_on a.ground a.skips programs) a.ground.left (c.loop-ground.invariant.1 programs)
@@ -72,7 +72,7 @@ pub shape_of-list-in-Refused : goal.shape_of-list-in-Refused
 shape_of-list-in-Refused c = did_kept (meets c no_programs)
 
 pub returns-in-Refused : goal.returns-in-Refused
-returns-in-Refused c =
+returns-in-Refused c programs =
     rw c.over-in-Refused.ensures (did_refused (meets c programs) c.in-Refused.is)
 
 pub progress_after-after-requires : goal.progress_after-after-requires
@@ -96,7 +96,8 @@ loop-ground-smaller c =
 
 pub loop-ground-preserved : goal.loop-ground-preserved
 loop-ground-preserved c =
-    let done = c.in-Accepted.is in (
+    let done = c.in-Accepted.is in
+    (
       omega (arith, c.loop-ground.invariant.0, did_less (meets c no_programs) done),
       λ programs. rw c.progress_after-after.ensures (did_on (meets c programs) done c.in-On.is),
     )
@@ -105,7 +106,7 @@ pub shape_of-list-in-Call : goal.shape_of-list-in-Call
 shape_of-list-in-Call c = did_kept (meets c no_programs)
 
 pub returns-in-Call : goal.returns-in-Call
-returns-in-Call c =
+returns-in-Call c programs =
     let start = c.args.start in
     rw c.progress_after-after.ensures
     (did_call (meets c programs) c.in-Accepted.is start.block start.byte c.in-Call.is refl c.loop-ground.invariant.0)
@@ -114,7 +115,7 @@ pub shape_of-list-in-Back : goal.shape_of-list-in-Back
 shape_of-list-in-Back c = did_kept (meets c no_programs)
 
 pub returns-in-Back : goal.returns-in-Back
-returns-in-Back c =
+returns-in-Back c programs =
     rw c.progress_after-after.ensures
     (did_back (meets c programs) c.in-Accepted.is _ c.in-Back.is)
 
@@ -122,6 +123,6 @@ pub shape_of-list-in-Stop : goal.shape_of-list-in-Stop
 shape_of-list-in-Stop c = did_kept (meets c no_programs)
 
 pub returns-in-Stop : goal.returns-in-Stop
-returns-in-Stop c =
+returns-in-Stop c programs =
     rw c.progress_after-after.ensures
     (did_stop (meets c programs) c.in-Accepted.is _ c.in-Stop.is)

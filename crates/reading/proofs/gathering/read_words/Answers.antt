@@ -17,158 +17,143 @@ text_ends-requires c = c.loop-status.invariant.inside
 
 pub item_at-requires : goal.item_at-requires
 item_at-requires c =
-    let going : no_text (drop c.loop-status.i c.args.s.now) ≡ false = sym c.text_ends.ensures ∙ not-true _ c.loop-status-test.true in
+    let going = sym c.text_ends.ensures ∙ c.loop-status-test.true in
     text_inside c.args.s.now c.loop-status.i going
 
 pub loop-status-smaller-in-Gap : goal.loop-status-smaller-in-Gap
 loop-status-smaller-in-Gap c =
-    let going : no_text (drop c.loop-status.i c.args.s.now) ≡ false = sym c.text_ends.ensures ∙ not-true _ c.loop-status-test.true in
-    let passed : (words_at c.args.s.now c.loop-status.i ≡ words_at c.args.s.now c.in-Gap.next) × Gone c.args.s.now c.loop-status.i c.in-Gap.next = step_gap c.args.s.now c.loop-status.i going c.in-Gap.next (sym c.item_at.ensures ∙ c.in-Gap.is) in
+    let going = sym c.text_ends.ensures ∙ c.loop-status-test.true in
+    let passed = step_gap c.args.s.now c.loop-status.i going c.in-Gap.next (sym c.item_at.ensures ∙ c.in-Gap.is) in
     let g = passed.1 in omega (arith, g.forward, g.inside)
 
 pub loop-status-preserved-in-Gap : goal.loop-status-preserved-in-Gap
 loop-status-preserved-in-Gap c =
-    let going : no_text (drop c.loop-status.i c.args.s.now) ≡ false = sym c.text_ends.ensures ∙ not-true _ c.loop-status-test.true in
-    let passed : (words_at c.args.s.now c.loop-status.i ≡ words_at c.args.s.now c.in-Gap.next) × Gone c.args.s.now c.loop-status.i c.in-Gap.next = step_gap c.args.s.now c.loop-status.i going c.in-Gap.next (sym c.item_at.ensures ∙ c.in-Gap.is) in
+    let going = sym c.text_ends.ensures ∙ c.loop-status-test.true in
+    let passed = step_gap c.args.s.now c.loop-status.i going c.in-Gap.next (sym c.item_at.ensures ∙ c.in-Gap.is) in
     gap_along c.loop-status.invariant c.in-Gap.next passed.0 passed.1
-
--- the next word, and what follows it
-abbrev Stepped : tie.After-known-told3 invariant-loop decreases-loop → Type 0
-Stepped c =
-    (words_at c.before.before.before.before.before.before.before.before.args.s.now c.before.before.before.before.before.before.loop.i ≡ with_word c.before.w.given.0.0 (words_at c.before.before.before.before.before.before.before.before.args.s.now c.before.w.given.0.1.0))
-    × Gone c.before.before.before.before.before.before.before.before.args.s.now c.before.before.before.before.before.before.loop.i c.before.w.given.0.1.0 × Written c.before.w.given.0.0.number × (is_capital c.before.w.given.0.0.letter ≡ true)
 
 pub loop-status-smaller-then-stopped : goal.loop-status-smaller-then-stopped
 loop-status-smaller-then-stopped c =
-    let going : no_text (drop c.loop-status.i c.args.s.now) ≡ false = sym c.text_ends.ensures ∙ not-true _ c.loop-status-test.true in
-    let stepped : Stepped c = step_word c.args.s.now c.loop-status.i going c.in-Says.w c.in-Says.next (sym c.item_at.ensures ∙ c.in-Says.is) in
+    let going = sym c.text_ends.ensures ∙ c.loop-status-test.true in
+    let stepped = step_word c.args.s.now c.loop-status.i going c.in-Says.w c.in-Says.next (sym c.item_at.ensures ∙ c.in-Says.is) in
     let g = stepped.1 in omega (arith, g.forward, g.inside)
 
 pub loop-status-preserved-then-stopped : goal.loop-status-preserved-then-stopped
 loop-status-preserved-then-stopped c =
-    let going : no_text (drop c.loop-status.i c.args.s.now) ≡ false = sym c.text_ends.ensures ∙ not-true _ c.loop-status-test.true in
-    let stepped : Stepped c = step_word c.args.s.now c.loop-status.i going c.in-Says.w c.in-Says.next (sym c.item_at.ensures ∙ c.in-Says.is) in
+    let going = sym c.text_ends.ensures ∙ c.loop-status-test.true in
+    let stepped = step_word c.args.s.now c.loop-status.i going c.in-Says.w c.in-Says.next (sym c.item_at.ensures ∙ c.in-Says.is) in
     word_halted c.loop-status.invariant c.if-stopped.true c.in-Says.w c.in-Says.next stepped.0 stepped.1
 
 pub letter_place-k-requires : goal.letter_place-k-requires
 letter_place-k-requires c =
-    let going : no_text (drop c.loop-status.i c.args.s.now) ≡ false = sym c.text_ends.ensures ∙ not-true _ c.loop-status-test.true in
-    let stepped : Stepped c = step_word c.args.s.now c.loop-status.i going c.in-Says.w c.in-Says.next (sym c.item_at.ensures ∙ c.in-Says.is) in
+    let going = sym c.text_ends.ensures ∙ c.loop-status-test.true in
+    let stepped = step_word c.args.s.now c.loop-status.i going c.in-Says.w c.in-Says.next (sym c.item_at.ensures ∙ c.in-Says.is) in
     stepped.3
 
 pub bounds-letters-k : goal.bounds-letters-k
 bounds-letters-k c =
-    let going : no_text (drop c.loop-status.i c.args.s.now) ≡ false = sym c.text_ends.ensures ∙ not-true _ c.loop-status-test.true in
-    let stepped : Stepped c = step_word c.args.s.now c.loop-status.i going c.in-Says.w c.in-Says.next (sym c.item_at.ensures ∙ c.in-Says.is) in
+    let going = sym c.text_ends.ensures ∙ c.loop-status-test.true in
+    let stepped = step_word c.args.s.now c.loop-status.i going c.in-Says.w c.in-Says.next (sym c.item_at.ensures ∙ c.in-Says.is) in
     rw c.letter_place-k.ensures (place_inside _ stepped.3)
-
--- what has been read, no word of it being wrong
-abbrev Read : tie.After-role-of invariant-loop decreases-loop → Type 0
-Read c =
-    Sofar c.before.before.before.before.before.before.before.before.before.before.before.args.main c.before.before.before.before.before.before.before.before.before.before.before.args.before c.before.before.before.before.before.before.before.before.before.before.before.args.s.now c.before.before.before.before.before.before.before.before.before.before.before.args.from c.before.before.before.before.before.before.before.before.before.loop.i
-    (record { letters = c.before.before.before.before.before.before.before.before.before.loop.letters; groups = c.before.before.before.before.before.before.before.before.before.loop.groups; misc = c.before.before.before.before.before.before.before.before.before.loop.misc; modes = c.before.before.before.before.before.before.before.before.before.loop.modes })
-    c.before.before.before.before.before.before.before.before.before.loop.count (words_in c.before.before.before.before.before.before.before.before.before.loop.words c.before.before.before.before.before.before.before.before.before.loop.places)
-
--- what the word's role says
-playing :
-    (c : goal.After-role_of) (r : Role) → c.role_of.result ≡ r
-    → Plays c.args.main (read c).done c.in-Says.w r
-playing c r is =
-    let told =
-    c.role_of.ensures.is (read c).done (read c).sums.coded
-    (ap (λ (k : ℕ). get_or c.loop-status.letters k false) c.letter_place-k.ensures ∙ letter_stood (read c) _ (stepped c).3)
-    ((read c).sums.letters 6 (lit< tt)) in
-    subst (λ x. Plays c.args.main (read c).done c.in-Says.w x) is told
 
 pub loop-status-smaller-in-MayNot : goal.loop-status-smaller-in-MayNot
 loop-status-smaller-in-MayNot c =
-    let going : no_text (drop c.loop-status.i c.args.s.now) ≡ false = sym c.text_ends.ensures ∙ not-true _ c.loop-status-test.true in
-    let stepped : Stepped c = step_word c.args.s.now c.loop-status.i going c.in-Says.w c.in-Says.next (sym c.item_at.ensures ∙ c.in-Says.is) in
+    let going = sym c.text_ends.ensures ∙ c.loop-status-test.true in
+    let stepped = step_word c.args.s.now c.loop-status.i going c.in-Says.w c.in-Says.next (sym c.item_at.ensures ∙ c.in-Says.is) in
     let g = stepped.1 in omega (arith, g.forward, g.inside)
 
 pub loop-status-preserved-in-MayNot : goal.loop-status-preserved-in-MayNot
 loop-status-preserved-in-MayNot c =
-    let going : no_text (drop c.loop-status.i c.args.s.now) ≡ false = sym c.text_ends.ensures ∙ not-true _ c.loop-status-test.true in
-    let stepped : Stepped c = step_word c.args.s.now c.loop-status.i going c.in-Says.w c.in-Says.next (sym c.item_at.ensures ∙ c.in-Says.is) in
-    let read : Read c = c.loop-status.invariant.going c.if-stopped.false in
+    let going = sym c.text_ends.ensures ∙ c.loop-status-test.true in
+    let stepped = step_word c.args.s.now c.loop-status.i going c.in-Says.w c.in-Says.next (sym c.item_at.ensures ∙ c.in-Says.is) in
+    let read = c.loop-status.invariant.going c.if-stopped.false in
     let step = stepped in
-    stops (halts read c.in-Says.w c.in-Says.next step.0 step.1 (playing c _ c.in-MayNot.is))
+    stops (halts read c.in-Says.w c.in-Says.next step.0 step.1 (subst (λ (r : Role). Plays c.args.main read.done c.in-Says.w r) c.in-MayNot.is
+    (c.role_of.ensures.is read.done read.sums.coded
+    (ap (λ (k : ℕ). get_or c.loop-status.letters k false) c.letter_place-k.ensures ∙ letter_stood read _ stepped.3)
+    (read.sums.letters 6 (lit< tt)))))
 
 pub bounds-groups-g : goal.bounds-groups-g
 bounds-groups-g c = rw c.group_of-g.ensures (group_most _)
 
 pub loop-status-smaller-in-Code : goal.loop-status-smaller-in-Code
 loop-status-smaller-in-Code c =
-    let going : no_text (drop c.loop-status.i c.args.s.now) ≡ false = sym c.text_ends.ensures ∙ not-true _ c.loop-status-test.true in
-    let stepped : Stepped c = step_word c.args.s.now c.loop-status.i going c.in-Says.w c.in-Says.next (sym c.item_at.ensures ∙ c.in-Says.is) in
+    let going = sym c.text_ends.ensures ∙ c.loop-status-test.true in
+    let stepped = step_word c.args.s.now c.loop-status.i going c.in-Says.w c.in-Says.next (sym c.item_at.ensures ∙ c.in-Says.is) in
     let g = stepped.1 in omega (arith, g.forward, g.inside)
 
 pub loop-status-preserved-in-Code : goal.loop-status-preserved-in-Code
 loop-status-preserved-in-Code c =
-    let going : no_text (drop c.loop-status.i c.args.s.now) ≡ false = sym c.text_ends.ensures ∙ not-true _ c.loop-status-test.true in
-    let stepped : Stepped c = step_word c.args.s.now c.loop-status.i going c.in-Says.w c.in-Says.next (sym c.item_at.ensures ∙ c.in-Says.is) in
-    let read : Read c = c.loop-status.invariant.going c.if-stopped.false in
+    let going = sym c.text_ends.ensures ∙ c.loop-status-test.true in
+    let stepped = step_word c.args.s.now c.loop-status.i going c.in-Says.w c.in-Says.next (sym c.item_at.ensures ∙ c.in-Says.is) in
+    let read = c.loop-status.invariant.going c.if-stopped.false in
     let step = stepped in
-    let code = playing c _ c.in-Code.is in
+    let code = subst (λ (r : Role). Plays c.args.main read.done c.in-Says.w r) c.in-Code.is
+    (c.role_of.ensures.is read.done read.sums.coded
+    (ap (λ (k : ℕ). get_or c.loop-status.letters k false) c.letter_place-k.ensures ∙ letter_stood read _ stepped.3)
+    (read.sums.letters 6 (lit< tt))) in
     rw (c.if-stopped.false, c.loop-status.invariant.fine c.if-stopped.false, c.group_of-g.ensures, c.switched-modes.ensures)
     (goes_on (over_code read c.in-Says.w c.in-Says.next step.0 step.1 step.2 step.3 code.0 c.in-Code.c code.1 code.2))
 
 pub loop-status-smaller-in-Misc : goal.loop-status-smaller-in-Misc
 loop-status-smaller-in-Misc c =
-    let going : no_text (drop c.loop-status.i c.args.s.now) ≡ false = sym c.text_ends.ensures ∙ not-true _ c.loop-status-test.true in
-    let stepped : Stepped c = step_word c.args.s.now c.loop-status.i going c.in-Says.w c.in-Says.next (sym c.item_at.ensures ∙ c.in-Says.is) in
+    let going = sym c.text_ends.ensures ∙ c.loop-status-test.true in
+    let stepped = step_word c.args.s.now c.loop-status.i going c.in-Says.w c.in-Says.next (sym c.item_at.ensures ∙ c.in-Says.is) in
     let g = stepped.1 in omega (arith, g.forward, g.inside)
 
 pub loop-status-preserved-in-Misc : goal.loop-status-preserved-in-Misc
 loop-status-preserved-in-Misc c =
-    let going : no_text (drop c.loop-status.i c.args.s.now) ≡ false = sym c.text_ends.ensures ∙ not-true _ c.loop-status-test.true in
-    let stepped : Stepped c = step_word c.args.s.now c.loop-status.i going c.in-Says.w c.in-Says.next (sym c.item_at.ensures ∙ c.in-Says.is) in
-    let read : Read c = c.loop-status.invariant.going c.if-stopped.false in
+    let going = sym c.text_ends.ensures ∙ c.loop-status-test.true in
+    let stepped = step_word c.args.s.now c.loop-status.i going c.in-Says.w c.in-Says.next (sym c.item_at.ensures ∙ c.in-Says.is) in
+    let read = c.loop-status.invariant.going c.if-stopped.false in
     let step = stepped in
-    let misc = playing c _ c.in-Misc.is in
+    let misc = subst (λ (r : Role). Plays c.args.main read.done c.in-Says.w r) c.in-Misc.is
+    (c.role_of.ensures.is read.done read.sums.coded
+    (ap (λ (k : ℕ). get_or c.loop-status.letters k false) c.letter_place-k.ensures ∙ letter_stood read _ stepped.3)
+    (read.sums.letters 6 (lit< tt))) in
     rw (c.if-stopped.false, c.loop-status.invariant.fine c.if-stopped.false) (goes_on (over_misc read c.in-Says.w c.in-Says.next step.0 step.1 step.2 step.3 misc.0 c.in-Misc.m misc.1 misc.2))
 
 pub bounds-letters-k-in-Value : goal.bounds-letters-k-in-Value
 bounds-letters-k-in-Value c =
-    let going : no_text (drop c.loop-status.i c.args.s.now) ≡ false = sym c.text_ends.ensures ∙ not-true _ c.loop-status-test.true in
-    let stepped : Stepped c = step_word c.args.s.now c.loop-status.i going c.in-Says.w c.in-Says.next (sym c.item_at.ensures ∙ c.in-Says.is) in
+    let going = sym c.text_ends.ensures ∙ c.loop-status-test.true in
+    let stepped = step_word c.args.s.now c.loop-status.i going c.in-Says.w c.in-Says.next (sym c.item_at.ensures ∙ c.in-Says.is) in
     rw c.letter_place-k.ensures (place_inside _ stepped.3)
 
 pub pack-requires : goal.pack-requires
 pack-requires c =
-    let going : no_text (drop c.loop-status.i c.args.s.now) ≡ false = sym c.text_ends.ensures ∙ not-true _ c.loop-status-test.true in
-    let stepped : Stepped c = step_word c.args.s.now c.loop-status.i going c.in-Says.w c.in-Says.next (sym c.item_at.ensures ∙ c.in-Says.is) in
+    let going = sym c.text_ends.ensures ∙ c.loop-status-test.true in
+    let stepped = step_word c.args.s.now c.loop-status.i going c.in-Says.w c.in-Says.next (sym c.item_at.ensures ∙ c.in-Says.is) in
     stepped.2
-
-mul_words : tie.Need-overflow-mul-words invariant-loop decreases-loop
-mul_words c = omega (arith, placed c.before)
-
-element-write-words : tie.Need-element-write-words invariant-loop decreases-loop
-element-write-words c = placed c.before
 
 pub overflow_add-count : goal.overflow_add-count
 overflow_add-count c =
-    let going : no_text (drop c.loop-status.i c.args.s.now) ≡ false = sym c.text_ends.ensures ∙ not-true _ c.loop-status-test.true in
-    let stepped : Stepped c = step_word c.args.s.now c.loop-status.i going c.in-Says.w c.in-Says.next (sym c.item_at.ensures ∙ c.in-Says.is) in
-    let read : Read c = c.loop-status.invariant.going c.if-stopped.false in
-    let placed : c.loop-status.count < 13 = let step = stepped in
-    let value = playing c _ c.in-Value.is in
-    room read c.in-Says.w c.in-Says.next step.0 step.1 step.2 step.3 value.0 value.1 in
+    let going = sym c.text_ends.ensures ∙ c.loop-status-test.true in
+    let stepped = step_word c.args.s.now c.loop-status.i going c.in-Says.w c.in-Says.next (sym c.item_at.ensures ∙ c.in-Says.is) in
+    let read = c.loop-status.invariant.going c.if-stopped.false in
+    let step = stepped in
+    let value = subst (λ (r : Role). Plays c.args.main read.done c.in-Says.w r) c.in-Value.is
+    (c.role_of.ensures.is read.done read.sums.coded
+    (ap (λ (k : ℕ). get_or c.loop-status.letters k false) c.letter_place-k.ensures ∙ letter_stood read _ stepped.3)
+    (read.sums.letters 6 (lit< tt))) in
+    let placed = room read c.in-Says.w c.in-Says.next step.0 step.1 step.2 step.3 value.0 value.1 in
     omega (arith, placed)
 
 pub loop-status-smaller : goal.loop-status-smaller
 loop-status-smaller c =
-    let going : no_text (drop c.loop-status.i c.args.s.now) ≡ false = sym c.text_ends.ensures ∙ not-true _ c.loop-status-test.true in
-    let stepped : Stepped c = step_word c.args.s.now c.loop-status.i going c.in-Says.w c.in-Says.next (sym c.item_at.ensures ∙ c.in-Says.is) in
+    let going = sym c.text_ends.ensures ∙ c.loop-status-test.true in
+    let stepped = step_word c.args.s.now c.loop-status.i going c.in-Says.w c.in-Says.next (sym c.item_at.ensures ∙ c.in-Says.is) in
     let g = stepped.1 in omega (arith, g.forward, g.inside)
 
 pub loop-status-preserved : goal.loop-status-preserved
 loop-status-preserved c =
-    let going : no_text (drop c.loop-status.i c.args.s.now) ≡ false = sym c.text_ends.ensures ∙ not-true _ c.loop-status-test.true in
-    let stepped : Stepped c = step_word c.args.s.now c.loop-status.i going c.in-Says.w c.in-Says.next (sym c.item_at.ensures ∙ c.in-Says.is) in
-    let read : Read c = c.loop-status.invariant.going c.if-stopped.false in
+    let going = sym c.text_ends.ensures ∙ c.loop-status-test.true in
+    let stepped = step_word c.args.s.now c.loop-status.i going c.in-Says.w c.in-Says.next (sym c.item_at.ensures ∙ c.in-Says.is) in
+    let read = c.loop-status.invariant.going c.if-stopped.false in
     let step = stepped in
-    let value = playing c _ c.in-Value.is in
+    let value = subst (λ (r : Role). Plays c.args.main read.done c.in-Says.w r) c.in-Value.is
+    (c.role_of.ensures.is read.done read.sums.coded
+    (ap (λ (k : ℕ). get_or c.loop-status.letters k false) c.letter_place-k.ensures ∙ letter_stood read _ stepped.3)
+    (read.sums.letters 6 (lit< tt))) in
     let l = c.loop-status in
     let w = c.in-Says.w in
     let small : w.letter < 256 = omega (arith, place_inside w.letter step.3) in
@@ -176,21 +161,61 @@ loop-status-preserved c =
     (goes_on (over_valued read w c.in-Says.next step.0 step.1 step.2 step.3 value.0 value.1))
 
 pub returns-after-loop-status : goal.returns-after-loop-status
-returns-after-loop-status c = end_along c.loop-status.invariant (sym c.text_ends.ensures ∙ not-false _ c.loop-status-test.false)
+returns-after-loop-status c = end_along c.loop-status.invariant (sym c.text_ends.ensures ∙ c.loop-status-test.false)
 
 pub returns-in-Refused : goal.returns-in-Refused
 returns-in-Refused c =
-    let going : no_text (drop c.loop-status.i c.args.s.now) ≡ false = sym c.text_ends.ensures ∙ not-true _ c.loop-status-test.true in
+    let going = sym c.text_ends.ensures ∙ c.loop-status-test.true in
     bad_along c.loop-status.invariant c.in-Refused.refusal (step_bad c.args.s.now c.loop-status.i going c.in-Refused.refusal (sym c.item_at.ensures ∙ c.in-Refused.is))
 
 pub offset_bounds-words-count : goal.offset_bounds-words-count
-offset_bounds-words-count c = mul_words c
+offset_bounds-words-count c =
+    let going = sym c.text_ends.ensures ∙ c.loop-status-test.true in
+    let stepped = step_word c.args.s.now c.loop-status.i going c.in-Says.w c.in-Says.next (sym c.item_at.ensures ∙ c.in-Says.is) in
+    let read = c.loop-status.invariant.going c.if-stopped.false in
+    let step = stepped in
+    let value = subst (λ (r : Role). Plays c.args.main read.done c.in-Says.w r) c.in-Value.is
+    (c.role_of.ensures.is read.done read.sums.coded
+    (ap (λ (k : ℕ). get_or c.loop-status.letters k false) c.letter_place-k.ensures ∙ letter_stood read _ stepped.3)
+    (read.sums.letters 6 (lit< tt))) in
+    let placed = room read c.in-Says.w c.in-Says.next step.0 step.1 step.2 step.3 value.0 value.1 in
+    omega (arith, placed)
 
 pub bounds-words-count : goal.bounds-words-count
-bounds-words-count c = element-write-words c
+bounds-words-count c =
+    let going = sym c.text_ends.ensures ∙ c.loop-status-test.true in
+    let stepped = step_word c.args.s.now c.loop-status.i going c.in-Says.w c.in-Says.next (sym c.item_at.ensures ∙ c.in-Says.is) in
+    let read = c.loop-status.invariant.going c.if-stopped.false in
+    let step = stepped in
+    let value = subst (λ (r : Role). Plays c.args.main read.done c.in-Says.w r) c.in-Value.is
+    (c.role_of.ensures.is read.done read.sums.coded
+    (ap (λ (k : ℕ). get_or c.loop-status.letters k false) c.letter_place-k.ensures ∙ letter_stood read _ stepped.3)
+    (read.sums.letters 6 (lit< tt))) in
+    let placed = room read c.in-Says.w c.in-Says.next step.0 step.1 step.2 step.3 value.0 value.1 in
+    placed
 
 pub offset_bounds-places-count : goal.offset_bounds-places-count
-offset_bounds-places-count c = mul_words c
+offset_bounds-places-count c =
+    let going = sym c.text_ends.ensures ∙ c.loop-status-test.true in
+    let stepped = step_word c.args.s.now c.loop-status.i going c.in-Says.w c.in-Says.next (sym c.item_at.ensures ∙ c.in-Says.is) in
+    let read = c.loop-status.invariant.going c.if-stopped.false in
+    let step = stepped in
+    let value = subst (λ (r : Role). Plays c.args.main read.done c.in-Says.w r) c.in-Value.is
+    (c.role_of.ensures.is read.done read.sums.coded
+    (ap (λ (k : ℕ). get_or c.loop-status.letters k false) c.letter_place-k.ensures ∙ letter_stood read _ stepped.3)
+    (read.sums.letters 6 (lit< tt))) in
+    let placed = room read c.in-Says.w c.in-Says.next step.0 step.1 step.2 step.3 value.0 value.1 in
+    omega (arith, placed)
 
 pub bounds-places-count : goal.bounds-places-count
-bounds-places-count c = element-write-words c
+bounds-places-count c =
+    let going = sym c.text_ends.ensures ∙ c.loop-status-test.true in
+    let stepped = step_word c.args.s.now c.loop-status.i going c.in-Says.w c.in-Says.next (sym c.item_at.ensures ∙ c.in-Says.is) in
+    let read = c.loop-status.invariant.going c.if-stopped.false in
+    let step = stepped in
+    let value = subst (λ (r : Role). Plays c.args.main read.done c.in-Says.w r) c.in-Value.is
+    (c.role_of.ensures.is read.done read.sums.coded
+    (ap (λ (k : ℕ). get_or c.loop-status.letters k false) c.letter_place-k.ensures ∙ letter_stood read _ stepped.3)
+    (read.sums.letters 6 (lit< tt))) in
+    let placed = room read c.in-Says.w c.in-Says.next step.0 step.1 step.2 step.3 value.0 value.1 in
+    placed

@@ -5,7 +5,7 @@ use Rattle.reading.proofs.gathering.read_words.Given as goal
 
 abbrev pub invariant-loop-status : goal.invariant-loop-status
 invariant-loop-status l =
-    Along l.stopped l.main l.initial.modes l.s l.from l.i l.status (record { l.letters = l.letters; l.groups = l.groups; l.misc = l.misc; l.modes = l.modes }) l.count (words_in l.words l.places)
+    Along l.stopped l.main l.initial.modes l.s l.from l.i l.status (record { letters = l.letters; groups = l.groups; misc = l.misc; modes = l.modes }) l.count (words_in l.words l.places)
 
 abbrev pub decreases-loop-status : goal.decreases-loop-status
 decreases-loop-status l =
