@@ -1,17 +1,8 @@
 -- `arcs::root_of` meets its contract. At each turn r is the root of the digits of q that are brought down, and `rest` what they are
 -- above its square.
-use Rattle.terms.proofs.Common.{ℕ, ◌-◌, ◌*◌, ◌/◌, ◌^◌, ◌≤◌, ◌<◌, ◌≡◌, div-eq_of_lt, div-one, div-le_self, arith, rules}
+use Rattle.terms.proofs.Common.{◌-◌, ◌*◌, ◌/◌, ◌^◌, ◌<◌, ◌≡◌, div-eq_of_lt, div-one, div-le_self, arith, rules}
 use Rattle.arcs.proofs.{Root.Brought, Root.quarter, Root.digit_one, Root.digit_zero, Root.root_one, Root.root_is}
 use Rattle.arcs.proofs.root_of.Goals as goal
-
--- `pairs` pairs of digits are not brought down yet
-pub record Kept (q r rest pairs : ℕ) : Type 0 where
-  pub few : pairs ≤ 32
-  pub brought : Brought (q / 2 ^ (2 * pairs)) r rest
-
--- the digits that are brought down in a turn, and what the turn before left
-abbrev below : tie.At-loop invariant-loop decreases-loop → ℕ
-below c = c.before.args.q / 2 ^ (2 * (c.loop.pairs - 1))
 
 pub loop-pairs-init : goal.loop-pairs-init
 loop-pairs-init c =
@@ -22,17 +13,20 @@ loop-pairs-init c =
           rw e (record { is_root = record { not_above = omega arith; largest = omega arith }; left = omega arith; small = omega arith });
     }
 
+-- `below` is the number of the digits that are brought down in a turn
 pub loop-pairs-preserved-then-r-rest : goal.loop-pairs-preserved-then-r-rest
 loop-pairs-preserved-then-r-rest c =
-    let fits : below c < 2 ^ 64 = omega (arith, div-le_self c.args.q (2 ^ (2 * (c.loop-pairs.pairs - 1)))) in
-    let was : Brought (below c / 4) c.loop-pairs.r c.loop-pairs.rest = rw (quarter c.args.q c.loop-pairs.pairs c.loop-pairs-test.true) at c.loop-pairs.invariant.brought in
-    record { few = omega arith; brought = digit_one (below c) c.loop-pairs.r c.loop-pairs.rest fits was c.if-r-rest.true }
+    let below = c.args.q / 2 ^ (2 * (c.loop-pairs.pairs - 1)) in
+    let fits : below < 2 ^ 64 = omega (arith, div-le_self c.args.q (2 ^ (2 * (c.loop-pairs.pairs - 1)))) in
+    let was : Brought (below / 4) c.loop-pairs.r c.loop-pairs.rest = rw (quarter c.args.q c.loop-pairs.pairs c.loop-pairs-test.true) at c.loop-pairs.invariant.brought in
+    record { few = omega arith; brought = digit_one below c.loop-pairs.r c.loop-pairs.rest fits was c.if-r-rest.true }
 
 pub loop-pairs-preserved : goal.loop-pairs-preserved
 loop-pairs-preserved c =
-    let fits : below c < 2 ^ 64 = omega (arith, div-le_self c.args.q (2 ^ (2 * (c.loop-pairs.pairs - 1)))) in
-    let was : Brought (below c / 4) c.loop-pairs.r c.loop-pairs.rest = rw (quarter c.args.q c.loop-pairs.pairs c.loop-pairs-test.true) at c.loop-pairs.invariant.brought in
-    record { few = omega arith; brought = digit_zero (below c) c.loop-pairs.r c.loop-pairs.rest fits was c.if-r-rest.false }
+    let below = c.args.q / 2 ^ (2 * (c.loop-pairs.pairs - 1)) in
+    let fits : below < 2 ^ 64 = omega (arith, div-le_self c.args.q (2 ^ (2 * (c.loop-pairs.pairs - 1)))) in
+    let was : Brought (below / 4) c.loop-pairs.r c.loop-pairs.rest = rw (quarter c.args.q c.loop-pairs.pairs c.loop-pairs-test.true) at c.loop-pairs.invariant.brought in
+    record { few = omega arith; brought = digit_zero below c.loop-pairs.r c.loop-pairs.rest fits was c.if-r-rest.false }
 
 pub returns : goal.returns
 returns c =
