@@ -8,7 +8,7 @@ pub returns : goal.returns
 unfolding axes_of
 returns c =
     let a = c.args in
-    let x : SFits w64 (figure_at a.t1 a.at) = search rules in
-    let y : SFits w64 (figure_at a.t1 (a.at + 1)) = search rules in
-    let z : SFits w64 (figure_at a.t1 (a.at + 2)) = search rules in
+    let x : SFits w64 (figure_at a.numbers a.at) = search rules in
+    let y : SFits w64 (figure_at a.numbers (a.at + 1)) = search rules in
+    let z : SFits w64 (figure_at a.numbers (a.at + 2)) = search rules in
     rw (to_z-of_z x, to_z-of_z y, to_z-of_z z)
