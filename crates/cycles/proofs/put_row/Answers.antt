@@ -25,8 +25,7 @@ returns-in-Cut c = rw c.in-Cut.is c.put_cut.ensures
 pub returns-in-Dwell : goal.returns-in-Dwell
 unfolding record_bytes plane_bytes plane_of numbers_of record_moved
 returns-in-Dwell c =
-    let row = c.in-Dwell.row-in-Dwell-1 in
-    rw row.given.1 (put_one c.args.by (DW row.given.0.0) c.put_single.ensures)
+    rw c.in-Dwell.is (put_one c.args.by (DW c.in-Dwell.ms) c.put_single.ensures)
 
 pub shape_of-list-in-Rapid : goal.shape_of-list-in-Rapid
 shape_of-list-in-Rapid c = wrote_length (returns-in-Rapid c)
