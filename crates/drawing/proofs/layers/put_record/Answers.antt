@@ -1,5 +1,5 @@
 -- `drawing::layers::put_record` meets its contract: a cut as such, and of all else the rapid.
-use Rattle.terms.proofs.Common.{[], ◌≡◌, refl, ◌∷◌, not-true, not-false}
+use Rattle.terms.proofs.Common.{[], ◌≡◌, refl, ◌∷◌}
 use denote.Enum.Declared.{tag_of}
 use types.Run.{OneOf, miss}
 use Rattle.lengths.specs.declared.Point.{Point}
@@ -25,14 +25,14 @@ others view from EN h = refl
 
 pub returns-then-not-rapids : goal.returns-then-not-rapids
 unfolding drawn
-returns-then-not-rapids c = rw (not-true c.args.rapids c.if-not-rapids.true) c.put_as_cut.ensures
+returns-then-not-rapids c = rw c.if-not-rapids.true c.put_as_cut.ensures
 
 pub returns-in-RP : goal.returns-in-RP
 unfolding drawn as_rapid
-returns-in-RP c = rw (not-false c.args.rapids c.if-not-rapids.false, c.in-RP.is) c.put_line.ensures
+returns-in-RP c = rw (c.if-not-rapids.false, c.in-RP.is) c.put_line.ensures
 
 pub returns-in_default : goal.returns-in_default
 unfolding drawn
 returns-in_default c =
     let x = c.args in
-    rw (not-false x.rapids c.if-not-rapids.false, others x.view x.from x.r (opened c.in_default.in_default-own.keys2)) (fills_none x.out.now x.at)
+    rw (c.if-not-rapids.false, others x.view x.from x.r (opened c.in_default.in_default-own.keys2)) (fills_none x.out.now x.at)

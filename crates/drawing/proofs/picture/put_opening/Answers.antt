@@ -4,4 +4,4 @@ use Rattle.drawing.proofs.picture.put_opening.Goals as goal
 
 pub returns : goal.returns
 unfolding opening
-returns c = rw (← c.corner_of-corner.ensures, ← c.type_size.ensures) c.put_form.ensures
+returns c = rw (← c.corner_of-corner.ensures, ← c.size_of-size.ensures) c.put_form.ensures
