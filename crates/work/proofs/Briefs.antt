@@ -8,7 +8,7 @@ use Rattle.records.specs.{Path.still, Path.path_of, Path.path_end, Path.end_of, 
 use Rattle.arcs.specs.{Arcs.path_stays, Staying.stays_in}
 use Rattle.work.specs.{declared.Brief.Brief, declared.Extent.Extent, Work.brief_records, Work.grown}
 use Rattle.work.specs.declared.Brief.TheVariants.{Speed, SpindleOff, Pause, End, Nothing}
-use Rattle.work.proofs.{Brief.the_type, Extents.grown_one}
+use Rattle.work.{specs.contracts.Brief.the_type, proofs.Extents.grown_one}
 
 abbrev pub AllStill : List Record → Type 0
 AllStill [] = Unit
@@ -58,7 +58,7 @@ grown_mark e Nothing h f = absurd (miss (1 ∷ 2 ∷ 3 ∷ []) 4 tt h)
 module _ (by : Point) (b : Brief) where
   brief_moved : map (record_moved by) (brief_records b) ≡ brief_records b
   unfolding brief_records record_moved
-  brief_moved = elim b [ Speed n ↦ refl | SpindleOff ↦ refl | Pause ↦ refl | End ↦ refl | Nothing ↦ refl ]
+  brief_moved = elim b as (λ (k : Brief). map (record_moved by) (brief_records k) ≡ brief_records k) [ Speed n ↦ refl | SpindleOff ↦ refl | Pause ↦ refl | End ↦ refl | Nothing ↦ refl ]
 
   pub brief_asks : {list : List ℕ} {at : ℕ} → RoomFor list at by (brief_records b) → (at + room_of (brief_records b) ≤ length list) × ListShort (brief_records b)
   brief_asks h = (h.room, rw brief_moved at h.short)

@@ -6,8 +6,7 @@ use Rattle.runs.proofs.one_less.Goals as goal
 pub overflow_sub-result : goal.overflow_sub-result
 unfolding is_spent
 overflow_sub-result c =
-    let b = c.in-First.b-1.given in
-    omega (arith, eqb-false b.0.0 0 (sym (ap is_spent b.1) ∙ c.requires))
+    omega (arith, eqb-false c.in-First.n 0 (sym (ap is_spent c.in-First.is) ∙ c.requires))
 
 pub enum_told-1 : goal.enum_told-1
 unfolding one_less

@@ -6,7 +6,7 @@ use Rattle.refusals.specs.declared.Place.{Place}
 use Rattle.runs.specs.Walk.{nowhere}
 use Rattle.interpreter.specs.{Progressing.next_by, declared.How.How}
 use Rattle.interpreter.specs.declared.How.TheVariants.{Ended, Returned, Unfinished, Refused}
-use Rattle.interpreter.proofs.{How.the_type}
+use Rattle.interpreter.specs.contracts.How.{the_type}
 use borrow.Enum.Refused.{opened}
 use Rattle.interpreter.proofs.reporting.next_by.Goals as goal
 

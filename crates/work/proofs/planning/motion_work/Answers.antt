@@ -3,7 +3,6 @@ use Rattle.terms.proofs.Common.{sym, ◌∙◌, true}
 use Rattle.blocks.specs.Motions.{motion_of}
 use Rattle.work.specs.Work.{straight_record}
 use Rattle.work.proofs.{Plans.makes_none, Plans.motion_turns, Plans.motion_rests}
-use borrow.Enum.Refused.{opened}
 use Rattle.work.proofs.planning.motion_work.Goals as goal
 
 pub returns-then-turns : goal.returns-then-turns
@@ -28,7 +27,7 @@ returns-in-Drilling c = rw c.in-Drilling.is c.cycle_work.ensures
 pub returns-in_default : goal.returns-in_default
 returns-in_default c =
     let a = c.args in
-    makes_none true c.no_work.ensures (motion_rests a.s a.origin a.v a.named a.motion (opened c.in_default.in_default-own.keys4) (sym c.turns.ensures ∙ c.if-turns.false))
+    makes_none true c.no_work.ensures (motion_rests a.s a.origin a.v a.named a.motion c.in_default.in_default-own.keys4 (sym c.turns.ensures ∙ c.if-turns.false))
 
 pub arc_work-requires : goal.arc_work-requires
 arc_work-requires c = c.requires.0

@@ -1,5 +1,5 @@
 -- `work::testing::check_pass` meets its contract: the records that are left lead to where all lead.
-use Rattle.terms.proofs.Common.{arith, true, ◌∙◌, not-true, not-false}
+use Rattle.terms.proofs.Common.{arith, true, ◌∙◌, not-true, not-false, ap, not}
 use Rattle.records.proofs.Moved.{kind_few}
 use Rattle.cycles.specs.{Cycles.pass_to, Bounds.row_record}
 use Rattle.work.proofs.{Extents.tested_starts, Extents.tested_ends, Extents.tested_leaves, Extents.tested_next, Extents.row_stays}
@@ -17,7 +17,7 @@ returns-then-not-is_inside c =
     let l = c.loop-i in
     let row = c.row_at-row.result in
     tested_leaves a.t a.e (pass_to a.h a.e.end.z a.to) l.i l.invariant.0 c.row_at-row.ensures
-    (row_stays a.t l.end l.invariant.1 row ∙ rw (← c.row_end-end.ensures, ← c.is_inside.ensures) (not-true c.is_inside.result c.if-not-is_inside.true))
+    (row_stays a.t l.end l.invariant.1 row ∙ rw (← c.row_end-end.ensures, ← c.is_inside.ensures) (not-true c.is_inside.result (ap not c.if-not-is_inside.true)))
 
 pub overflow_add-room : goal.overflow_add-room
 overflow_add-room c =
@@ -28,7 +28,7 @@ loop-i-preserved c =
     let a = c.args in
     let l = c.loop-i in
     let row = c.row_at-row.result in
-    let stays = rw c.is_inside.ensures at (not-false c.is_inside.result c.if-not-is_inside.false) in (
+    let stays = rw c.is_inside.ensures at (not-false c.is_inside.result (ap not c.if-not-is_inside.false)) in (
       tested_next a.t a.e (pass_to a.h a.e.end.z a.to) l.i l.invariant.0 c.row_at-row.ensures
           (row_stays a.t l.end l.invariant.1 row ∙ rw (← c.row_end-end.ensures) stays)
           (omega (arith, c.row_count-n.ensures.is a.e.end.z a.to)) c.row_end-end.ensures c.row_room-room.ensures,

@@ -3,7 +3,7 @@ use Rattle.work.specs.Work.{pass_fits}
 use Rattle.work.proofs.testing.work_fits.Goals as goal
 
 pub record_fits-requires : goal.record_fits-requires
-record-fits-requires c κs = (c.before.before.before.requires.0, rw c.before.pass.given.1 at c.before.before.before.requires.1)
+record_fits-requires c = (c.requires.0, rw c.in-One.is at c.requires.1)
 
 pub returns-in-One : goal.returns-in-One
 unfolding pass_fits

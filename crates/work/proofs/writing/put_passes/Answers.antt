@@ -1,14 +1,10 @@
 -- `work::writing::put_passes` meets its contract: the passes that are left, written here, leave what all of them leave.
-use Rattle.terms.proofs.Common.{arith, ℕ, ◌-◌, refl, List}
-use Rattle.lengths.specs.declared.Point.{Point}
-use Rattle.cycles.specs.{declared.Hole.Hole, Cycles.pass_to}
-use Rattle.records.{specs.declared.Record.Record, specs.Path.end_of, proofs.Written.wrote_length}
-use Rattle.work.specs.{declared.Aim.Aim, declared.Pass.TheVariants.Drill, Work.rows_of, Work.passes_of, Work.leads, Work.work_records}
+use Rattle.terms.proofs.Common.{arith, ◌-◌, refl}
+use Rattle.cycles.specs.{Cycles.pass_to}
+use Rattle.records.{specs.Path.end_of, proofs.Written.wrote_length}
+use Rattle.work.specs.{declared.Pass.TheVariants.Drill, Work.rows_of, Work.passes_of, Work.leads, Work.work_records}
 use Rattle.work.proofs.Passing.{passes_to, passes_none, can_lead, going_starts, going_ends, going_asks, going_on, inside_starts, inside_on}
 use Rattle.work.proofs.writing.put_passes.Goals as goal
-
-abbrev rest : Hole → Aim → ℕ → Point → List Record
-rest h aim left tool = passes_of left (Drill h) (leads aim) tool
 
 pub loop-left-init : goal.loop-left-init
 unfolding work_records
