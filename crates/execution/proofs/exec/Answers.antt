@@ -1,4 +1,4 @@
--- `execution::exec` meets its contract: what is read of the block is refused, or check-blocked.
+-- `execution::exec` meets its contract: what is read of the block is refused, or checked.
 use Rattle.terms.proofs.Common.{◌∙◌}
 use Rattle.execution.specs.BlockReading.{BlockSays}
 use Rattle.execution.proofs.{Verdicts.does_refused, Verdicts.does_as}
@@ -12,7 +12,7 @@ next_block-after-requires c =
 pub check_block-requires : goal.check_block-requires
 check_block-requires c =
     let says : let a = c.args in BlockSays a.ground.bed a.ground.left a.state a.s.now a.spot.from c.in-Says.said c.in-Says.end = rw c.in-Says.is at c.read_block-found.ensures in
-    record { at_in_bounds = c.requires.at_in_bounds.0; steady = says.steady }
+    record { at_in_bounds = c.requires.at_in_bounds; steady = says.steady }
 
 pub returns-in-Refused : goal.returns-in-Refused
 returns-in-Refused c =

@@ -12,7 +12,7 @@ work_fits-requires c = block_loose c.requires.plans
 pub returns-then-not-work_fits : goal.returns-then-not-work_fits
 returns-then-not-work_fits c =
     let yes = c.work_fits.ensures ∙ block_fits c.requires.plans in
-    let no = not-true c.work_fits.result c.if-not-work_fits.true in
+    let no = c.if-not-work_fits.true in
     let wrong : ◌≡◌ {A = ℕ} 0 1 = cc in
     absurd (omega arith)
 

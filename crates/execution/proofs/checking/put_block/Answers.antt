@@ -9,8 +9,9 @@ pub put_brief-spun-requires : goal.put_brief-spun-requires
 unfolding planned_records
 put_brief-spun-requires c =
     let a = c.args in
-    brief_asks a.offset a.p.first
-    (first_ready a.offset (brief_records a.p.first) (work_records a.p.work a.p.aim a.p.works.at) (brief_records a.p.last) c.requires.room_for)
+    let h = brief_asks a.offset a.p.first
+    (first_ready a.offset (brief_records a.p.first) (work_records a.p.work a.p.aim a.p.works.at) (brief_records a.p.last) c.requires.room_for) in
+    record { b_in_bounds = h.0; list_short = h.1 }
 
 pub put_work-moved-requires : goal.put_work-moved-requires
 unfolding planned_records
@@ -24,8 +25,9 @@ unfolding planned_records
 put_brief-requires c =
     let p = c.args.p in
     let w = brief_put c.args.offset p.first c.put_brief-spun.ensures in
-    brief_asks c.args.offset p.last
-    (third_ready c.args.offset (brief_records p.first) (work_records p.work p.aim p.works.at) (brief_records p.last) w c.put_work-moved.ensures c.requires.room_for)
+    let h = brief_asks c.args.offset p.last
+    (third_ready c.args.offset (brief_records p.first) (work_records p.work p.aim p.works.at) (brief_records p.last) w c.put_work-moved.ensures c.requires.room_for) in
+    record { b_in_bounds = h.0; list_short = h.1 }
 
 pub returns : goal.returns
 unfolding planned_records

@@ -1,5 +1,5 @@
 -- `interpreter::reporting::next_by` meets its contract, ending by ending.
-use Rattle.terms.proofs.Common.{[], ◌≡◌, refl, sym, ap, ◌∷◌, rules}
+use Rattle.terms.proofs.Common.{◌≡◌, refl, sym, ap, [], ◌∷◌, rules}
 use denote.Enum.Declared.{tag_of}
 use types.Run.{OneOf, miss}
 use Rattle.refusals.specs.declared.Place.{Place}

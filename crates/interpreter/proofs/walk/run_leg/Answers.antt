@@ -13,7 +13,7 @@ loop-ground-init c =
     let a = c.args in (
       omega arith,
       λ programs.
-          walking_starts a.s.now (task_on a.ground a.skips programs) a.ground.left a.start.block a.start.byte a.p a.list.now c.requires.begins.0 c.requires.begins.1,
+          walking_starts a.s.now (task_on a.ground a.skips programs) a.ground.left a.start.block a.start.byte a.p a.list.now c.requires.begins c.requires.fits,
     )
 
 pub shape_of-list-then-is_spent : goal.shape_of-list-then-is_spent
@@ -50,7 +50,7 @@ module _ (c : goal.Else-program_ends) where
 pub do_block-requires : goal.do_block-requires
 do_block-requires c =
     let fits = (c.loop-ground.invariant.1 no_programs).fits in
-    (goes_inside c.args.s.now c.loop-ground.at (stays c), (fits.next, (c.requires.fair, fits.state)))
+    record { at_in_bounds = goes_inside c.args.s.now c.loop-ground.at (stays c); next_in_bounds = fits.next; fair = c.requires.fair; reachable = fits.state }
 
 -- the block is executed or skipped
 module _ (c : goal.After-do_block) (programs : Programs) where
@@ -96,8 +96,7 @@ loop-ground-smaller c =
 
 pub loop-ground-preserved : goal.loop-ground-preserved
 loop-ground-preserved c =
-    let done = c.in-Accepted.is in
-    (
+    let done = c.in-Accepted.is in (
       omega (arith, c.loop-ground.invariant.0, did_less (meets c no_programs) done),
       λ programs. rw c.progress_after-after.ensures (did_on (meets c programs) done c.in-On.is),
     )
