@@ -64,6 +64,13 @@ pub record Comes (l : List ℕ) (task : Task) (left : ℕ) (whole : Outcome) (p�
   pub walking : Walking l task left whole p₀ was list n at p
   pub reaches : Reaches l task left n at p list is number leg
 
+pub comes :
+    {l : List ℕ} {task : Task} {left : ℕ} {whole : Outcome} {p₀ : Progress} {was list : List ℕ} {n at : ℕ} {p : Progress} {is : List ℕ}
+    {number : ℕ} {leg : Leg}
+    → Walking l task left whole p₀ was list n at p → Reaches l task left n at p list is number leg
+    → Comes l task left whole p₀ was list n at p is number leg
+comes walking reaches = record { walking = walking; reaches = reaches }
+
 module _ {l : List ℕ} {task : Task} {left : ℕ} {whole : Outcome} {p₀ : Progress} {was list : List ℕ} {n at : ℕ} {p : Progress} {is : List ℕ}
     {number : ℕ} {leg : Leg} (c : Comes l task left whole p₀ was list n at p is number leg) where
   pub caller_kept : length is ≡ length was

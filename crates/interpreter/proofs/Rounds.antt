@@ -91,6 +91,13 @@ pub record Meets (l : List ℕ) (task : Task) (left : ℕ) (whole : Outcome) (p�
   pub stays : program_ends (drop at l) ≡ false
   pub did : Does task.bed.offset (verdict_on l task left list n at p) list p.next (at + length_from (drop at l)) is a
 
+pub meets :
+    {l : List ℕ} {task : Task} {left : ℕ} {whole : Outcome} {p₀ : Progress} {was list : List ℕ} {n at : ℕ} {p : Progress} {is : List ℕ} {a : Executed}
+    → Walking l task left whole p₀ was list n at p → Fair task.bed → is_spent p.budget ≡ false → program_ends (drop at l) ≡ false
+    → Does task.bed.offset (verdict_on l task left list n at p) list p.next (at + length_from (drop at l)) is a
+    → Meets l task left whole p₀ was list n at p is a
+meets walking fair budget stays did = record { walking = walking; fair = fair; budget = budget; stays = stays; did = did }
+
 module _ {l : List ℕ} {task : Task} {left : ℕ} {whole : Outcome} {p₀ : Progress} {was list : List ℕ} {n at : ℕ} {p : Progress} {is : List ℕ}
     {a : Executed} (m : Meets l task left whole p₀ was list n at p is a) where
   abbrev v : Verdict

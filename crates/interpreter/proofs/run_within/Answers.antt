@@ -1,7 +1,5 @@
 -- `interpreter::run_within` meets its contract, in the order of document 01.
-use Rattle.terms.proofs.Common.{◌≤◌, ◌≡◌, sym, ◌∙◌, true, arith, length, drop}
-use Rattle.lines.specs.Blocks.{is_percent, text_from}
-use Rattle.setup.specs.Limits.{valid_setup}
+use Rattle.terms.proofs.Common.{sym, ◌∙◌, arith, length}
 use Rattle.interpreter.proofs.Starting.{some_byte, gives_too_long, gives_bad_setup, gives_first_block, gives_opening, programs_opened, gives_main}
 use Rattle.interpreter.proofs.run_within.Goals as goal
 
@@ -23,34 +21,23 @@ returns-then-not-is_percent c =
     (sym c.is_valid.ensures ∙ c.if-not-is_valid.false)
     (sym c.is_percent.ensures ∙ c.if-not-is_percent.true) c.refused-then-not-is_percent.ensures
 
--- the data are short enough, the setup keeps its limits, and the first block is `%` alone
-module _ (c : goal.Else-not-is_percent) where
-  short : length c.args.bytes.now ≤ 65_535
-  short = omega (arith, c.if-bytes-gt65535.false)
-
-  valid : valid_setup c.args.setup ≡ true
-  valid = sym c.is_valid.ensures ∙ c.if-not-is_valid.false
-
-  percent : is_percent (text_from (drop 0 c.args.bytes.now)) ≡ true
-  percent = sym c.is_percent.ensures ∙ c.if-not-is_percent.false
-
 pub find_programs-found-requires : goal.find_programs-found-requires
 find_programs-found-requires c =
     let a = c.args in
-    some_byte a.setup a.bytes.now (length a.list.now) a.budget (short c) (valid c) (percent c)
+    some_byte a.setup a.bytes.now (length a.list.now) a.budget (omega arith) (sym c.is_valid.ensures ∙ c.if-not-is_valid.false) (sym c.is_percent.ensures ∙ c.if-not-is_percent.false)
 
 pub run_main-requires : goal.run_main-requires
 run_main-requires c =
     let a = c.args in
-    record { setup_value = valid c; opened = programs_opened a.setup a.bytes.now a.budget a.list.now (short c) (valid c) (percent c) c.find_programs-found.ensures c.in-Fine.is }
+    record { setup_value = sym c.is_valid.ensures ∙ c.if-not-is_valid.false; opened = programs_opened a.setup a.bytes.now a.budget a.list.now (omega arith) (sym c.is_valid.ensures ∙ c.if-not-is_valid.false) (sym c.is_percent.ensures ∙ c.if-not-is_percent.false) c.find_programs-found.ensures c.in-Fine.is }
 
 pub returns-in-Refused : goal.returns-in-Refused
 returns-in-Refused c =
     let a = c.args in
-    gives_opening a.setup a.bytes.now a.budget a.list.now (short c) (valid c) (percent c) c.find_programs-found.ensures c.in-Refused.is c.refused-in-Refused.ensures
+    gives_opening a.setup a.bytes.now a.budget a.list.now (omega arith) (sym c.is_valid.ensures ∙ c.if-not-is_valid.false) (sym c.is_percent.ensures ∙ c.if-not-is_percent.false) c.find_programs-found.ensures c.in-Refused.is c.refused-in-Refused.ensures
 
 pub returns-in-Fine : goal.returns-in-Fine
 returns-in-Fine c =
     let a = c.args in
-    gives_main a.setup a.bytes.now a.budget a.list.now (short c) (valid c) (percent c) c.find_programs-found.ensures c.in-Fine.is
+    gives_main a.setup a.bytes.now a.budget a.list.now (omega arith) (sym c.is_valid.ensures ∙ c.if-not-is_valid.false) (sym c.is_percent.ensures ∙ c.if-not-is_percent.false) c.find_programs-found.ensures c.in-Fine.is
     c.run_main.ensures

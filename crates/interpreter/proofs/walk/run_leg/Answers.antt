@@ -5,7 +5,7 @@ use Rattle.runs.specs.Walk.{is_spent}
 use Rattle.interpreter.specs.Progressing.{task_on, walk_from, program_ends}
 use Rattle.runs.specs.Serving.{progress_by}
 use Rattle.interpreter.proofs.{Walking.goes_inside}
-use Rattle.interpreter.proofs.Rounds.{Meets, no_programs, walking_starts, walking_spent, walking_ends, did_kept, did_refused, did_fits, did_less, did_back, did_stop, did_on, did_call}
+use Rattle.interpreter.proofs.Rounds.{meets, no_programs, walking_starts, walking_spent, walking_ends, did_kept, did_refused, did_fits, did_less, did_back, did_stop, did_on, did_call}
 use Rattle.interpreter.proofs.walk.run_leg.Goals as goal
 
 pub loop-ground-init : goal.loop-ground-init
@@ -39,89 +39,65 @@ returns-then-program_ends c programs =
     (walking_ends a.s.now (task_on a.ground a.skips programs) a.ground.left (c.loop-ground.invariant.1 programs)
     (sym c.is_spent.ensures ∙ c.if-is_spent.false) (sym c.program_ends.ensures ∙ c.if-program_ends.true))
 
--- there is budget for the block, and the program does not end
-module _ (c : goal.Else-program_ends) where
-  budget : is_spent c.loop-ground.p.budget ≡ false
-  budget = sym c.is_spent.ensures ∙ c.if-is_spent.false
-
-  stays : program_ends (drop c.loop-ground.at c.args.s.now) ≡ false
-  stays = sym c.program_ends.ensures ∙ c.if-program_ends.false
-
 pub do_block-requires : goal.do_block-requires
 do_block-requires c =
     let fits = (c.loop-ground.invariant.1 no_programs).fits in
-    record { at_in_bounds = goes_inside c.args.s.now c.loop-ground.at (stays c); next_in_bounds = fits.next; fair = c.requires.fair; reachable = fits.state }
-
--- the block is executed or skipped
-module _ (c : goal.After-do_block) (programs : Programs) where
-  meets :
-      let a = c.args in
-      let task = task_on a.ground a.skips programs in
-      Meets a.s.now task a.ground.left (walk_from a.s.now (length a.list.now) task a.ground.left a.start.block a.start.byte a.p) a.p
-      a.list.now c.loop-ground.list c.loop-ground.block c.loop-ground.at c.loop-ground.p c.do_block.new.1.0 c.do_block.result
-  meets =
-      record {
-        walking = c.loop-ground.invariant.1 programs;
-        fair = c.requires.fair;
-        budget = budget c;
-        stays = stays c;
-        did = c.do_block.ensures c.loop-ground.block;
-      }
+    record { at_in_bounds = goes_inside c.args.s.now c.loop-ground.at (sym c.program_ends.ensures ∙ c.if-program_ends.false); next_in_bounds = fits.next; fair = c.requires.fair; reachable = fits.state }
 
 pub shape_of-list-in-Refused : goal.shape_of-list-in-Refused
-shape_of-list-in-Refused c = did_kept (meets c no_programs)
+shape_of-list-in-Refused c = did_kept (meets (c.loop-ground.invariant.1 no_programs) c.requires.fair (sym c.is_spent.ensures ∙ c.if-is_spent.false) (sym c.program_ends.ensures ∙ c.if-program_ends.false) (c.do_block.ensures c.loop-ground.block))
 
 pub returns-in-Refused : goal.returns-in-Refused
 returns-in-Refused c programs =
-    rw c.over-in-Refused.ensures (did_refused (meets c programs) c.in-Refused.is)
+    rw c.over-in-Refused.ensures (did_refused (meets (c.loop-ground.invariant.1 programs) c.requires.fair (sym c.is_spent.ensures ∙ c.if-is_spent.false) (sym c.program_ends.ensures ∙ c.if-program_ends.false) (c.do_block.ensures c.loop-ground.block)) c.in-Refused.is)
 
 pub progress_after-after-requires : goal.progress_after-after-requires
 unfolding progress_by
 progress_after-after-requires c =
-    let fits = did_fits (meets c no_programs) c.in-Accepted.is in
-    record { budget_value = budget c; count_bound = omega (arith, fits.next, fits.count) }
+    let fits = did_fits (meets (c.loop-ground.invariant.1 no_programs) c.requires.fair (sym c.is_spent.ensures ∙ c.if-is_spent.false) (sym c.program_ends.ensures ∙ c.if-program_ends.false) (c.do_block.ensures c.loop-ground.block)) c.in-Accepted.is in
+    record { budget_value = sym c.is_spent.ensures ∙ c.if-is_spent.false; count_bound = omega (arith, fits.next, fits.count) }
 
 -- and accepted
 pub overflow_add-block : goal.overflow_add-block
 overflow_add-block c =
-    omega (arith, (c.loop-ground.invariant.1 no_programs).begins.few, goes_inside c.args.s.now c.loop-ground.at (stays c))
+    omega (arith, (c.loop-ground.invariant.1 no_programs).begins.few, goes_inside c.args.s.now c.loop-ground.at (sym c.program_ends.ensures ∙ c.if-program_ends.false))
 
 pub loop-ground-smaller : goal.loop-ground-smaller
 loop-ground-smaller c =
     omega (
       arith,
-      goes_inside c.args.s.now c.loop-ground.at (stays c),
-      did_less (meets c no_programs) c.in-Accepted.is,
+      goes_inside c.args.s.now c.loop-ground.at (sym c.program_ends.ensures ∙ c.if-program_ends.false),
+      did_less (meets (c.loop-ground.invariant.1 no_programs) c.requires.fair (sym c.is_spent.ensures ∙ c.if-is_spent.false) (sym c.program_ends.ensures ∙ c.if-program_ends.false) (c.do_block.ensures c.loop-ground.block)) c.in-Accepted.is,
     )
 
 pub loop-ground-preserved : goal.loop-ground-preserved
 loop-ground-preserved c =
     let done = c.in-Accepted.is in (
-      omega (arith, c.loop-ground.invariant.0, did_less (meets c no_programs) done),
-      λ programs. rw c.progress_after-after.ensures (did_on (meets c programs) done c.in-On.is),
+      omega (arith, c.loop-ground.invariant.0, did_less (meets (c.loop-ground.invariant.1 no_programs) c.requires.fair (sym c.is_spent.ensures ∙ c.if-is_spent.false) (sym c.program_ends.ensures ∙ c.if-program_ends.false) (c.do_block.ensures c.loop-ground.block)) done),
+      λ programs. rw c.progress_after-after.ensures (did_on (meets (c.loop-ground.invariant.1 programs) c.requires.fair (sym c.is_spent.ensures ∙ c.if-is_spent.false) (sym c.program_ends.ensures ∙ c.if-program_ends.false) (c.do_block.ensures c.loop-ground.block)) done c.in-On.is),
     )
 
 pub shape_of-list-in-Call : goal.shape_of-list-in-Call
-shape_of-list-in-Call c = did_kept (meets c no_programs)
+shape_of-list-in-Call c = did_kept (meets (c.loop-ground.invariant.1 no_programs) c.requires.fair (sym c.is_spent.ensures ∙ c.if-is_spent.false) (sym c.program_ends.ensures ∙ c.if-program_ends.false) (c.do_block.ensures c.loop-ground.block))
 
 pub returns-in-Call : goal.returns-in-Call
 returns-in-Call c programs =
     let start = c.args.start in
     rw c.progress_after-after.ensures
-    (did_call (meets c programs) c.in-Accepted.is start.block start.byte c.in-Call.is refl c.loop-ground.invariant.0)
+    (did_call (meets (c.loop-ground.invariant.1 programs) c.requires.fair (sym c.is_spent.ensures ∙ c.if-is_spent.false) (sym c.program_ends.ensures ∙ c.if-program_ends.false) (c.do_block.ensures c.loop-ground.block)) c.in-Accepted.is start.block start.byte c.in-Call.is refl c.loop-ground.invariant.0)
 
 pub shape_of-list-in-Back : goal.shape_of-list-in-Back
-shape_of-list-in-Back c = did_kept (meets c no_programs)
+shape_of-list-in-Back c = did_kept (meets (c.loop-ground.invariant.1 no_programs) c.requires.fair (sym c.is_spent.ensures ∙ c.if-is_spent.false) (sym c.program_ends.ensures ∙ c.if-program_ends.false) (c.do_block.ensures c.loop-ground.block))
 
 pub returns-in-Back : goal.returns-in-Back
 returns-in-Back c programs =
     rw c.progress_after-after.ensures
-    (did_back (meets c programs) c.in-Accepted.is _ c.in-Back.is)
+    (did_back (meets (c.loop-ground.invariant.1 programs) c.requires.fair (sym c.is_spent.ensures ∙ c.if-is_spent.false) (sym c.program_ends.ensures ∙ c.if-program_ends.false) (c.do_block.ensures c.loop-ground.block)) c.in-Accepted.is _ c.in-Back.is)
 
 pub shape_of-list-in-Stop : goal.shape_of-list-in-Stop
-shape_of-list-in-Stop c = did_kept (meets c no_programs)
+shape_of-list-in-Stop c = did_kept (meets (c.loop-ground.invariant.1 no_programs) c.requires.fair (sym c.is_spent.ensures ∙ c.if-is_spent.false) (sym c.program_ends.ensures ∙ c.if-program_ends.false) (c.do_block.ensures c.loop-ground.block))
 
 pub returns-in-Stop : goal.returns-in-Stop
 returns-in-Stop c programs =
     rw c.progress_after-after.ensures
-    (did_stop (meets c programs) c.in-Accepted.is _ c.in-Stop.is)
+    (did_stop (meets (c.loop-ground.invariant.1 programs) c.requires.fair (sym c.is_spent.ensures ∙ c.if-is_spent.false) (sym c.program_ends.ensures ∙ c.if-program_ends.false) (c.do_block.ensures c.loop-ground.block)) c.in-Accepted.is _ c.in-Stop.is)
