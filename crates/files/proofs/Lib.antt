@@ -1,4 +1,4 @@
 pub mod Fates
-pub mod Spelling
 pub mod Naming
 pub mod Zeros
+pub mod Missing

@@ -1,8 +1,7 @@
 -- Which file a name stands for, and what becomes of it where a command wants to write there.
-use Rattle.terms.specs.Common.{ℕ, ◌+◌, ◌/◌, ◌%◌, ◌≤◌, ◌≡◌, Bool, false, not, ℤ, pos, ◌&&◌, ◌||◌, List, [], ◌∷◌, ◌++◌, eqb, length, take}
-use Rattle.libc.specs.{Io.Ended, declared.types.stat.stat}
+use Rattle.terms.specs.Common.{ℕ, ◌/◌, ◌%◌, ◌≤◌, ◌≡◌, Bool, false, not, ℤ, pos, ◌&&◌, ◌||◌, List, eqb}
 use Rattle.terms.specs.Terms.{if◌then◌else◌}
-use Rattle.files.specs.declared.{Named.Named, Fate.Fate}
+use Rattle.files.specs.declared.{Named.Named, Fate.Fate, status.Filed.Filed}
 use Rattle.files.specs.declared.Fate.TheVariants.{New, Old, Read, Link, Folder, Special, Locked, Unknown}
 
 -- "device and inode": two names of one file, whatever they are
@@ -29,12 +28,12 @@ fate_of out first second =
     else kind_fate (out.mode / 4096 % 16) out.locked
 
 -- what the system said of a file, told of its name: a file that is there is not missing
-unfoldable pub named_of : stat → Bool → Bool → ℤ → Bool → Bool → Named
+unfoldable pub named_of : Filed → Bool → Bool → ℤ → Bool → Bool → Named
 named_of file there absent error link locked =
     record {
-      device = file.st_dev;
-      number = file.st_ino;
-      mode = file.st_mode;
+      device = file.device;
+      number = file.number;
+      mode = file.mode;
       error = error;
       there = there;
       missing = not there && absent;
@@ -52,7 +51,6 @@ pub record NamedBy (bytes : ℕ) (named : Named) : Type 0 where
   pub long : 4_096 ≤ bytes → named ≡ too_long
   pub missing : named.missing ≡ (not named.there && named.missing)
 
--- a name as the system is handed it: its bytes and a 0 after them, in an array that has a 0 at its end
-pub record Spelt (name array : List ℕ) : Type 0 where
-  pub ended : Ended array
-  pub text : take (length name + 1) array ≡ name ++ (0 ∷ [])
+-- a name as the system is handed it, as text: all of its bytes
+pub record Spelt (name text : List ℕ) : Type 0 where
+  pub whole : text ≡ name

@@ -1,6 +1,6 @@
--- The file beside a path, which has the bytes until all of them are there. The system puts six characters for the X's, so
+-- The file beside a path, which has the bytes until all of them are there. A number's six figures take the place of the X's, so
 -- that no other file has the name.
-use Rattle.terms.specs.Common.{ℕ, ◌+◌, ◌≡◌, List, [], ◌++◌, ltb, length, take, paste}
+use Rattle.terms.specs.Common.{ℕ, ◌+◌, ◌-◌, ◌/◌, ◌%◌, ◌≡◌, ◌≤◌, List, [], ◌∷◌, ◌++◌, ltb, length, take, paste}
 use Rattle.io.specs.Counts.{IsPrefixLen}
 use Rattle.terms.specs.Terms.{if◌then◌else◌, bytes}
 
@@ -20,3 +20,15 @@ pub record Puts (was : List ℕ) (at : ℕ) (text is : List ℕ) (next : ℕ) : 
 pub record Names (path was is : List ℕ) (n : ℕ) : Type 0 where
   pub counts : IsPrefixLen n is
   pub name : take n is ≡ part_in (length was) path
+
+-- a number's last figure, as a byte
+abbrev pub figure : ℕ → ℕ
+figure k = 48 + k % 10
+
+-- its last six
+abbrev pub figures : ℕ → List ℕ
+figures k = figure (k / 100_000) ∷ (figure (k / 10_000) ∷ (figure (k / 1_000) ∷ (figure (k / 100) ∷ (figure (k / 10) ∷ (figure k ∷ [])))))
+
+-- a name whose last six bytes are a number's figures, and whose other bytes are as they were
+abbrev pub Numbered : List ℕ → ℕ → List ℕ → Type 0
+Numbered was k is = 6 ≤ length was → Puts was (length was - 6) (figures k) is (length was)

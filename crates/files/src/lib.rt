@@ -8,12 +8,14 @@ mod part_names;
 mod placing;
 mod read_files;
 mod status;
+mod system;
 mod write_files;
 
 pub use buffers::{list_room, picture_room};
 pub use messages::{begin_line, complain, complain_record, complain_why, show_text, write_line};
 pub use placing::{Spot, spot_for};
 pub use read_files::{Got, read_start, read_whole};
+pub use system::{STDERR_FILENO, STDIN_FILENO, STDOUT_FILENO};
 pub use write_files::write_whole;
 
 // What the system says of a name. Device, number and mode are those of the file that the name leads to, links followed, and

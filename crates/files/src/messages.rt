@@ -3,7 +3,11 @@ ghost use Rattle.terms.specs.Common.{◌≡◌};
 ghost use Rattle.io.specs.Counts.{IsPrefixLen};
 ghost use Rattle.files.specs.Shown.{shown_as};
 
-use libc::{EACCES, EFBIG, EISDIR, ELOOP, ENAMETOOLONG, ENOENT, ENOSPC, ENOTDIR, EPERM, EROFS};
+use crate::system::{
+    EACCES, EFBIG, EILSEQ, EISDIR, ELOOP, ENAMETOOLONG, ENOENT, ENOSPC, ENOTDIR, EPERM, EROFS,
+    number_by,
+};
+use std::io::Error;
 
 // The line as far as a place's name: what comes next says what is wrong there.
 pub fn begin_line(err: i32, name: &[u8]) {
@@ -22,8 +26,8 @@ pub fn complain(err: i32, name: &[u8], what: &[u8]) {
 }
 
 // The same of a call that has just failed, with the reason that the system gives for it.
-pub fn complain_why(err: i32, name: &[u8], what: &[u8]) {
-    complain_error(err, name, what, os::errno());
+pub fn complain_why(err: i32, name: &[u8], what: &[u8], why: Error) {
+    complain_error(err, name, what, number_by(why));
 }
 
 // The same of an error that the system gave before: the reasons that somebody at the machine can do something about in plain
@@ -47,7 +51,8 @@ pub fn complain_error(err: i32, name: &[u8], what: &[u8], error: i32) {
           : no space left\n\
           : the file would be too large\n\
           : the name is too long\n\
-          : links lead in a circle\n",
+          : links lead in a circle\n\
+          : the name is no text in UTF-8\n",
         reason,
     );
 }
@@ -71,7 +76,7 @@ fn reason_of(error: i32) -> u64 {
     if error == EISDIR {
         return 3;
     }
-    if (error == EACCES) | (error == EPERM) | (error == EROFS) {
+    if is_refused(error) {
         return 4;
     }
     if error == ENOSPC {
@@ -86,7 +91,15 @@ fn reason_of(error: i32) -> u64 {
     if error == ELOOP {
         return 8;
     }
+    if error == EILSEQ {
+        return 9;
+    }
     0
+}
+
+// Whether the system does not let this user do what was asked.
+pub fn is_refused(error: i32) -> bool {
+    (error == EACCES) | (error == EPERM) | (error == EROFS)
 }
 
 // A line of a text by its number, the first being 1; whether all of it was written.

@@ -2,13 +2,8 @@
 ghost use Rattle.terms.specs.Common.{◌≡◌};
 ghost use Rattle.files.specs.Names.{same_file, kind_fate, fate_of};
 
+use crate::system::{FOLDER, REGULAR};
 use crate::{Fate, Named};
-use libc::{S_IFDIR, S_IFREG};
-
-// Kinds of files, as the system numbers them in four bits of the mode.
-const REGULAR: u32 = S_IFREG / 4096;
-
-const FOLDER: u32 = S_IFDIR / 4096;
 
 // Whether two names lead to one file.
 fn same_file(a: Named, b: Named) -> bool

@@ -1,6 +1,6 @@
-// The file beside a path, to which bytes go until all of them are there: its name, as the system is asked to make it up.
+// The file beside a path, to which bytes go until all of them are there: its name, six characters of which a number takes.
 ghost use Rattle.terms.specs.Common.{◌≡◌, ◌+◌, ◌≤◌, length};
-ghost use Rattle.files.specs.Parts.{Puts, Names};
+ghost use Rattle.files.specs.Parts.{Puts, Names, Numbered, figures, figure};
 
 // The path with `.part-XXXXXX` after it, or no byte where there is no room for that and a 0.
 pub fn part_name(path: &[u8], name: &mut [u8]) -> usize
@@ -27,4 +27,35 @@ pub fn put(name: &mut [u8], at: usize, text: &[u8]) -> usize
         i += 1;
     }
     at + i
+}
+
+// The six X's at a name's end replaced by the six figures of a number.
+pub fn put_number(name: &mut [u8], number: u32)
+    ensures { Numbered name.old number name.new }
+{
+    if name.len() < 6 {
+        return;
+    }
+    let at = name.len() - 6;
+    let text = figures(number);
+    put(name, at, &text);
+}
+
+fn figures(number: u32) -> [u8; 6]
+    ensures { result ≡ figures number }
+{
+    [
+        figure(number / 100_000),
+        figure(number / 10_000),
+        figure(number / 1_000),
+        figure(number / 100),
+        figure(number / 10),
+        figure(number),
+    ]
+}
+
+fn figure(number: u32) -> u8
+    ensures { result ≡ figure number }
+{
+    b'0' + (number % 10) as u8
 }

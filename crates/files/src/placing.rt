@@ -3,6 +3,7 @@ use crate::messages::{begin_line, complain_error, write_line};
 use crate::names::fate_of;
 use crate::status::named_by;
 use crate::{Fate, Named};
+use std::rt::Files;
 
 // Where a command may write: whether it may at all, and if so whether a file stands there, whose rights the new one gets.
 #[derive(Clone, Copy)]
@@ -13,9 +14,15 @@ pub struct Spot {
 }
 
 // The spot of a name, for a command that reads two other files. Where it may not be written to, a line says why.
-pub fn spot_for(path: &[u8], first: &[u8], second: &[u8], err: i32) -> Spot {
-    let out = named_by(path);
-    let fate = fate_of(out, named_by(first), named_by(second));
+pub fn spot_for(
+    rt: &impl Files,
+    path: &[u8],
+    first: &[u8],
+    second: &[u8],
+    err: i32,
+) -> Spot {
+    let out = named_by(rt, path);
+    let fate = fate_of(out, named_by(rt, first), named_by(rt, second));
     match fate {
         Fate::New => Spot {
             mode: 0,

@@ -1,22 +1,34 @@
 // The system asked about a name.
-ghost use Rattle.terms.specs.Common.{◌≡◌, ◌<◌, not, ◌&&◌, length};
-ghost use Rattle.libc.specs.Io.{Ended, Status};
+ghost use Rattle.terms.specs.Common.{◌≡◌, not, ◌&&◌, length};
+ghost use Rattle.std.specs.Prelude.{IfOk};
 ghost use Rattle.files.specs.Names.{named_of, NamedBy, Spelt};
 
+use crate::messages::is_refused;
+use crate::system::{EILSEQ, ENAMETOOLONG, ENOENT, PATH_MAX, REGULAR, number_by};
 use crate::Named;
-use crate::part_names::put;
-use libc::types::{stat, timespec};
-use libc::{ENAMETOOLONG, ENOENT, PATH_MAX, W_OK};
+use std::fs::{Metadata, OpenOptions};
+use std::io::{Error, Result};
+use std::os::unix::fs::MetadataExt;
+use std::rt::Files;
 
-// The system's answer, 0 where it is fine, and what it says of the file.
+// What the system says of a file.
+#[derive(Clone, Copy)]
+pub struct Filed {
+    pub device: u64,
+    pub number: u64,
+    pub mode: u32,
+}
+
+// The system's answer, an error of 0 where it is fine, and what it says of the file.
 #[derive(Clone, Copy)]
 struct Told {
-    pub answer: i32,
-    pub file: stat,
+    pub there: bool,
+    pub error: i32,
+    pub file: Filed,
 }
 
 // What the system says of a name. One that is too long leads nowhere.
-pub fn named_by(path: &[u8]) -> Named
+pub fn named_by(rt: &impl Files, path: &[u8]) -> Named
     ensures { NamedBy (length path.now) result }
 {
     if PATH_MAX <= path.len() {
@@ -31,31 +43,31 @@ pub fn named_by(path: &[u8]) -> Named
             locked: false,
         };
     }
-    asked_of(spelt(path))
+    match spelt(path) {
+        Ok(name) => asked_of(rt, name),
+        Err(why) => named_of(blank(), false, false, number_by(why), false, false),
+    }
 }
 
-fn asked_of(path: [u8; PATH_MAX]) -> Named
-    requires { Ended path }
+fn asked_of(rt: &impl Files, path: &str) -> Named
     ensures { result.missing ≡ (not result.there && result.missing) }
 {
-    let told = told_of(&path, blank());
-    let error = os::errno();
+    let told = told_of(rt.metadata(path));
     let file = told.file;
-    let there = told.answer == 0;
-    let locked = libc::access(&path, W_OK) != 0;
-    let mut text = [0u8; 1];
-    let link = libc::readlink(&path, &mut text) >= 0;
-    named_of(file, there, error == ENOENT, error, link, locked)
+    let error = told.error;
+    let locked = is_locked(rt, path, file.mode);
+    let link = is_link(rt, path);
+    named_of(file, told.there, error == ENOENT, error, link, locked)
 }
 
 // What the system said of a file, told of its name; `absent` tells that it found nothing of that name.
-fn named_of(file: stat, there: bool, absent: bool, error: i32, link: bool, locked: bool) -> Named
+fn named_of(file: Filed, there: bool, absent: bool, error: i32, link: bool, locked: bool) -> Named
     ensures { result ≡ named_of file there absent error link locked }
 {
     Named {
-        device: file.st_dev,
-        number: file.st_ino,
-        mode: file.st_mode,
+        device: file.device,
+        number: file.number,
+        mode: file.mode,
         error,
         there,
         missing: !there & absent,
@@ -64,49 +76,61 @@ fn named_of(file: stat, there: bool, absent: bool, error: i32, link: bool, locke
     }
 }
 
-// The one function that lends a struct, which the prover's own walk does not cover: its proof is by hand. Links are followed.
-fn told_of(path: &[u8; PATH_MAX], mut file: stat) -> Told
-    requires { Ended path.now }
-    ensures { Status result.answer }
-{
-    let answer = libc::stat(path, &mut file);
-    Told { answer, file }
-}
-
-// Something for the system to write over.
-fn blank() -> stat {
-    let none = [0i64; 3];
-    let time = timespec {
-        tv_sec: 0,
-        tv_nsec: 0,
-    };
-    stat {
-        st_dev: 0,
-        st_ino: 0,
-        st_nlink: 0,
-        st_mode: 0,
-        st_uid: 0,
-        st_gid: 0,
-        __pad: 0,
-        st_rdev: 0,
-        st_size: 0,
-        st_blksize: 0,
-        st_blocks: 0,
-        st_atim: time,
-        st_mtim: time,
-        st_ctim: time,
-        __unused: none,
+// The system's answer to the question which file a name leads to, links followed.
+fn told_of(answer: Result<Metadata>) -> Told {
+    match answer {
+        Ok(file) => Told {
+            there: true,
+            error: 0,
+            file: Filed {
+                device: file.dev(),
+                number: file.ino(),
+                mode: file.mode(),
+            },
+        },
+        Err(why) => Told {
+            there: false,
+            error: number_by(why),
+            file: blank(),
+        },
     }
 }
 
-// A name as C reads it, up to a 0.
-fn spelt(path: &[u8]) -> [u8; PATH_MAX]
-    requires { length path.now < 4096 }
-    ensures { Spelt path.now result }
+// What is said where no file is.
+fn blank() -> Filed {
+    Filed {
+        device: 0,
+        number: 0,
+        mode: 0,
+    }
+}
+
+// Whether this user may not write a file: a regular one is opened to be written, and nothing is written to it. Nothing else
+// is opened, since that may wait or do something.
+fn is_locked(rt: &impl Files, path: &str, mode: u32) -> bool {
+    if mode / 4096 % 16 != REGULAR {
+        return false;
+    }
+    match OpenOptions::new().write(true).open(rt, path) {
+        Ok(_) => false,
+        Err(why) => is_refused(number_by(why)),
+    }
+}
+
+// Whether a name itself is a symbolic link.
+fn is_link(rt: &impl Files, path: &str) -> bool {
+    match rt.symlink_metadata(path) {
+        Ok(file) => file.is_symlink(),
+        Err(_) => false,
+    }
+}
+
+// A name as the system is handed it: all of its bytes, as text.
+pub fn spelt(path: &[u8]) -> Result<&str>
+    ensures { IfOk result (λ text. Spelt path.now text.now) }
 {
-    let mut name = io::buffer();
-    let n = put(&mut name, 0, path);
-    name[PATH_MAX - 1] = 0;
-    name[n] = 0;
-    name
+    match str::from_utf8(path) {
+        Ok(text) => Ok(text),
+        Err(_) => Err(Error::from_raw_os_error(EILSEQ)),
+    }
 }

@@ -1,75 +1,83 @@
 // A file written whole or not at all: the bytes go to a new file beside it, which takes its name once all of them have reached
 // the device. What stood there before stays until then.
-use crate::messages::{complain, complain_error, complain_why};
-use crate::part_names::part_name;
+use crate::messages::{complain, complain_why};
+use crate::part_names::{part_name, put_number};
 use crate::placing::Spot;
-
-// Whether calls that were just made went well, and the system's error where one did not.
-#[derive(Clone, Copy)]
-struct Ending {
-    pub well: bool,
-    pub error: i32,
-}
+use crate::status::spelt;
+use crate::system::EEXIST;
+use std::fs::{OpenFile, OpenOptions, Permissions};
+use std::io::{Error, Result, Write};
+use std::os::unix::fs::PermissionsExt;
+use std::rt::Files;
 
 // Answers whether the bytes are there. Where not, a line says why, and nothing new stands at the path or beside it.
-pub fn write_whole(path: &[u8], bytes: &[u8], spot: Spot, err: i32) -> bool {
+pub fn write_whole(rt: &impl Files, path: &[u8], bytes: &[u8], spot: Spot, err: i32) -> bool {
     let mut name = io::buffer();
     let n = part_name(path, &mut name);
     if n == 0 {
         complain(err, path, b"cannot be written: the name is too long");
         return false;
     }
-    write_by(&mut name[..n], path, bytes, spot, err)
+    match write_by(rt, &mut name[..n], path, bytes, spot) {
+        Ok(()) => true,
+        Err(why) => {
+            complain_why(err, path, b"cannot be written", why);
+            false
+        }
+    }
 }
 
 // The bytes by way of a new file, which is removed where not all goes well.
-fn write_by(part: &mut [u8], path: &[u8], bytes: &[u8], spot: Spot, err: i32) -> bool {
-    let fd = create_own(part);
-    if fd < 0 {
-        complain_why(err, path, b"cannot be written");
-        return false;
-    }
-    let filled = fill_part(fd, bytes, spot);
-    let placed = if filled.well {
-        ended(os::rename(part, path) == 0)
-    } else {
-        filled
+fn write_by(rt: &impl Files, part: &mut [u8], path: &[u8], bytes: &[u8], spot: Spot) -> Result<()> {
+    let file = create_own(rt, part)?;
+    let filled = fill_part(file, bytes, spot);
+    let placed = match filled {
+        Ok(()) => rename(rt, part, path),
+        Err(why) => Err(why),
     };
-    if placed.well {
-        return true;
+    if placed.is_err() {
+        let _ = remove(rt, part);
     }
-    os::unlink(part);
-    complain_error(err, path, b"cannot be written", placed.error);
-    false
+    placed
 }
 
-// A new file under a name of its own, which the system puts for the X's. A file that the system names so is for its owner
-// alone; so only the name is taken from it, and the file is made again, new as before, with the rights that this user's files
-// have.
-fn create_own(name: &mut [u8]) -> i32 {
-    let fd = os::create_temp(name);
-    if fd < 0 {
-        return fd;
+// A new file under a name of its own, with the rights that this user's files have: a number takes the place of the X's, the
+// first that is free.
+fn create_own<R: Files>(rt: &R, part: &mut [u8]) -> Result<R::File> {
+    for number in 0..1_000_000 {
+        put_number(part, number);
+        match create_new(rt, part) {
+            Ok(file) => return Ok(file),
+            Err(why) => {
+                if why.raw_os_error() != Some(EEXIST) {
+                    return Err(why);
+                }
+            }
+        }
     }
-    libc::close(fd);
-    os::unlink(name);
-    os::create(name)
+    Err(Error::from_raw_os_error(EEXIST))
+}
+
+fn create_new<R: Files>(rt: &R, name: &[u8]) -> Result<R::File> {
+    OpenOptions::new()
+        .write(true)
+        .create_new(true)
+        .open(rt, spelt(name)?)
 }
 
 // All bytes, and the rights of the file that is replaced, brought to the device. The new file is closed.
-fn fill_part(fd: i32, bytes: &[u8], spot: Spot) -> Ending {
-    let put = ended(
-        io::write_all(fd, bytes)
-            && (!spot.old || libc::fchmod(fd, spot.mode) == 0)
-            && libc::fsync(fd) == 0,
-    );
-    let shut = ended(libc::close(fd) == 0);
-    if put.well { shut } else { put }
+fn fill_part<F: Write + OpenFile + Drop>(mut file: F, bytes: &[u8], spot: Spot) -> Result<()> {
+    file.write_all(bytes)?;
+    if spot.old {
+        file.set_permissions(Permissions::from_mode(spot.mode))?;
+    }
+    file.sync_all()
 }
 
-fn ended(well: bool) -> Ending {
-    Ending {
-        well,
-        error: os::errno(),
-    }
+fn rename(rt: &impl Files, part: &[u8], path: &[u8]) -> Result<()> {
+    rt.rename(spelt(part)?, spelt(path)?)
+}
+
+fn remove(rt: &impl Files, part: &[u8]) -> Result<()> {
+    rt.remove_file(spelt(part)?)
 }
