@@ -7,7 +7,7 @@ mod meanings;
 mod places;
 mod standings;
 
-use libc::STDOUT_FILENO;
+use files::STDOUT_FILENO;
 use listings::show_refused;
 pub use listings::{show_count, show_list, show_run};
 use meanings::show_meaning;

@@ -3,8 +3,8 @@
 // nothing more is tried.
 use crate::Shown;
 use codes::Plane;
+use files::STDOUT_FILENO;
 use lengths::{Len, Point};
-use libc::STDOUT_FILENO;
 use records::{Arc, Fault, Listed, Record};
 use refusals::{Answer, Place};
 

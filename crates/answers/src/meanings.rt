@@ -1,6 +1,5 @@
 // What each refusal means, in plain words.
-use files::write_line;
-use libc::STDOUT_FILENO;
+use files::{STDOUT_FILENO, write_line};
 use refusals::Refusal;
 
 // A line for each refusal, in the order of their numbers.

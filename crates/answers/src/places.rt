@@ -3,7 +3,7 @@ ghost use Rattle.terms.specs.Common.{◌≡◌, ◌+◌, ◌≤◌, length, drop
 ghost use Rattle.lines.specs.Blocks.{text_from};
 ghost use Rattle.answers.specs.Places.{Begins};
 
-use libc::STDOUT_FILENO;
+use files::STDOUT_FILENO;
 
 // Where the block begins that a place lies in.
 fn block_start(s: &[u8], at: usize) -> usize

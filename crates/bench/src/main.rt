@@ -3,13 +3,14 @@
 // measured from outside, by two numbers of runs, so that all that is done once is taken off.
 #![tactic(auto)]
 
-use libc::{STDERR_FILENO, STDIN_FILENO, STDOUT_FILENO};
+use files::{STDERR_FILENO, STDIN_FILENO, STDOUT_FILENO};
 use refusals::Answer;
+use std::rt::Env;
 use texts::Digits;
 
-fn main() {
+fn main(rt: HostRuntime) {
     let mut word = [0u8; 32];
-    let n = os::arg(1, &mut word);
+    let n = rt.arg(1, &mut word).unwrap_or(0);
     let Digits::Are(times) = texts::digits_at(&word[..n], 0, n) else {
         io::write_all(STDERR_FILENO, b"bench: wants a number of runs\n");
         return;

@@ -9,7 +9,7 @@ ghost use Rattle.interpreter.specs.Owing.{Owes};
 ghost use Rattle.cases.specs.Budgets.{budget_by};
 
 use case_text::case_at;
-use libc::{STDIN_FILENO, STDOUT_FILENO};
+use files::{STDIN_FILENO, STDOUT_FILENO};
 use runs::Report;
 use setup::Setup;
 use texts::Digits;

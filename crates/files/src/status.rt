@@ -3,9 +3,9 @@ ghost use Rattle.terms.specs.Common.{◌≡◌, not, ◌&&◌, length};
 ghost use Rattle.std.specs.Prelude.{IfOk};
 ghost use Rattle.files.specs.Names.{named_of, NamedBy, Spelt};
 
+use crate::Named;
 use crate::messages::is_refused;
 use crate::system::{EILSEQ, ENAMETOOLONG, ENOENT, PATH_MAX, REGULAR, number_by};
-use crate::Named;
 use std::fs::{Metadata, OpenOptions};
 use std::io::{Error, Result};
 use std::os::unix::fs::MetadataExt;

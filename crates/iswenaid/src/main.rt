@@ -2,9 +2,12 @@
 #![tactic(auto)]
 
 ghost use Rattle.terms.specs.Common.{◌≡◌, ◌≤◌, length};
+ghost use Rattle.std.specs.Prelude.{IfSome};
 ghost use Rattle.io.specs.Counts.{IsPrefixLen};
 
-use libc::STDERR_FILENO;
+use files::STDERR_FILENO;
+use std::env::FillError;
+use std::rt::Env;
 
 // The words of a command at the start of a buffer, or that they do not fit.
 #[derive(Clone, Copy)]
@@ -19,30 +22,32 @@ fn command_room() -> [u8; 8192]
     [0; 8192]
 }
 
-fn main() {
+fn main(rt: HostRuntime) {
     let mut line = command_room();
-    let gathered = gather(&mut line, os::arg_count());
+    let gathered = gather(&rt, &mut line);
     if !gathered.fits {
         io::write_all(STDERR_FILENO, b"iswenaid: the command is too long\n");
         return;
     }
     let n = gathered.count;
-    shop::do_command(&line[..n], STDERR_FILENO);
+    shop::do_command(&rt, &line[..n], STDERR_FILENO);
 }
 
 // The arguments after the program's own name, each ended by a byte 0.
-fn gather(line: &mut [u8], arguments: usize) -> Gathered
+fn gather(rt: &impl Env, line: &mut [u8]) -> Gathered
     ensures { IsPrefixLen result.count line.new }
 {
     let mut at: usize = 0;
-    let mut i: usize = 1;
-    while i < arguments {
-        let next = put_argument(line, at, i);
-        if !next.fits {
-            return next;
+    for i in 1..usize::MAX {
+        match put_argument(rt, line, at, i) {
+            None => break,
+            Some(next) => {
+                if !next.fits {
+                    return next;
+                }
+                at = next.count;
+            }
         }
-        at = next.count;
-        i += 1;
     }
     Gathered {
         fits: true,
@@ -50,21 +55,35 @@ fn gather(line: &mut [u8], arguments: usize) -> Gathered
     }
 }
 
-// One argument from a place on, and the place after its end.
-fn put_argument(line: &mut [u8], at: usize, i: usize) -> Gathered
+// One argument from a place on, and the place after its end; nothing where there is none.
+fn put_argument(rt: &impl Env, line: &mut [u8], at: usize, i: usize) -> Option<Gathered>
     requires { at ≤ length line.old }
+    ensures { IfSome result (λ next. next.count ≤ length line.new) }
+{
+    match rt.arg(i, &mut line[at..]) {
+        Ok(n) => Some(ended(line, at + n)),
+        Err(FillError::NotPresent) => None,
+        Err(FillError::TooLong) => Some(unfit()),
+    }
+}
+
+// The byte 0 after an argument that ends at a place.
+fn ended(line: &mut [u8], end: usize) -> Gathered
     ensures { result.count ≤ length line.new }
 {
-    let n = os::arg(i, &mut line[at..]);
-    let whole = os::errno() == 0;
-    let end = at + n;
     if end < line.len() {
         line[end] = 0;
         return Gathered {
-            fits: whole,
+            fits: true,
             count: end + 1,
         };
     }
+    unfit()
+}
+
+fn unfit() -> Gathered
+    ensures { result.count ≡ 0 }
+{
     Gathered {
         fits: false,
         count: 0,

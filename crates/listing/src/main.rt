@@ -2,7 +2,7 @@
 // records and then the answer.
 #![tactic(auto)]
 
-use libc::STDIN_FILENO;
+use files::STDIN_FILENO;
 
 // The buffer holds one byte more than data may have, so that longer data is refused and not cut.
 fn main() {

@@ -10,9 +10,9 @@ ghost use Rattle.lengths.specs.Units.{len};
 ghost use Rattle.settings.specs.Settings.{first_modes};
 ghost use Rattle.letters.specs.{Letters.code_under, Letters.has_centre, Judging.CentreSeen, Judging.Stored, Judging.judged_by};
 
+use files::{STDIN_FILENO, STDOUT_FILENO};
 use lengths::{Len, Point};
 use letters::{Judged, Speeds};
-use libc::{STDIN_FILENO, STDOUT_FILENO};
 use programs::{Program, Programs, Verdict};
 use reading::{Reading, Status};
 use refusals::{Place, Refusal};

@@ -11,13 +11,14 @@ ghost use Rattle.shop.specs.Asking.{asked_by};
 
 use answers::{Shown, show_list};
 use commands::{count_of, is, word};
-use files::{complain, complain_record, complain_why};
-use libc::STDOUT_FILENO;
+use files::{STDOUT_FILENO, complain, complain_record, complain_why};
 use limits::show_fault;
 use plotting::plot;
 use running::run;
 use setup::{Fault, Setup};
 use setup_files::setup_in;
+use std::io::Print;
+use std::rt::Files;
 
 // A setup is of use only where all is fine. Else a line has said what is wrong.
 #[derive(Clone, Copy)]
@@ -38,31 +39,39 @@ pub enum Asked {
 
 // Does what a command asks. Each of its words ends in a byte 0. What comes of it goes to standard output, and one line about
 // a wrong use to the descriptor, and then nothing is written. What standard output does not take is told there too.
-pub fn do_command(line: &[u8], err: i32) {
-    if !is_command_printed(line, err) {
-        complain_why(err, b"standard output", b"cannot be written");
+pub fn do_command<R: Files + Print>(rt: &R, line: &[u8], err: i32) {
+    if !is_command_printed(rt, line, err) {
+        complain_unprinted(rt, err);
+    }
+}
+
+// The reason is asked for by a line's end, which also ends a line that broke off.
+fn complain_unprinted(rt: &impl Print, err: i32) {
+    match rt.print("\n") {
+        Ok(()) => complain(err, b"standard output", b"cannot be written"),
+        Err(why) => complain_why(err, b"standard output", b"cannot be written", why),
     }
 }
 
 // Answers whether standard output took what there was to print.
-fn is_command_printed(line: &[u8], err: i32) -> bool {
+fn is_command_printed(rt: &impl Files, line: &[u8], err: i32) -> bool {
     let count = count_of(line);
     if count == 0 {
         return help();
     }
     let asked = asked_by(word(line, 0));
     match asked {
-        Asked::Run => run(line, count, err),
-        Asked::Show => show(line, count, err),
-        Asked::Plot => plotted(line, count, err),
-        Asked::Check => check(line, count, err),
+        Asked::Run => run(rt, line, count, err),
+        Asked::Show => show(rt, line, count, err),
+        Asked::Plot => plotted(rt, line, count, err),
+        Asked::Check => check(rt, line, count, err),
         Asked::Other => no_such(word(line, 0), err),
     }
 }
 
 // A command that prints nothing.
-fn plotted(line: &[u8], count: usize, err: i32) -> bool {
-    plot(line, count, err);
+fn plotted(rt: &impl Files, line: &[u8], count: usize, err: i32) -> bool {
+    plot(rt, line, count, err);
     true
 }
 
@@ -97,13 +106,13 @@ fn asked_by(given: &[u8]) -> Asked
 }
 
 // The records of a list that a file holds.
-fn show(line: &[u8], count: usize, err: i32) -> bool {
+fn show(rt: &impl Files, line: &[u8], count: usize, err: i32) -> bool {
     if count != 2 {
         complain(err, b"show", b"wants LIST");
         return true;
     }
     let mut list = files::list_room();
-    let got = files::read_whole(word(line, 1), &mut list, err);
+    let got = files::read_whole(rt, word(line, 1), &mut list, err);
     if !got.fine {
         return true;
     }
@@ -122,12 +131,12 @@ fn is_faulty(path: &[u8], place: usize, err: i32) -> bool {
 }
 
 // Whether the setup that a file holds keeps its limits.
-fn check(line: &[u8], count: usize, err: i32) -> bool {
+fn check(rt: &impl Files, line: &[u8], count: usize, err: i32) -> bool {
     if count != 2 {
         complain(err, b"check", b"wants SETUP");
         return true;
     }
-    let known = setup_in(word(line, 1), err);
+    let known = setup_in(rt, word(line, 1), err);
     if !known.fine {
         return true;
     }

@@ -1,6 +1,5 @@
 // Which limit a setup breaks, in plain words, to the end of a line; and whether all of it was written.
-use files::write_line;
-use libc::STDOUT_FILENO;
+use files::{STDOUT_FILENO, write_line};
 use setup::{Axis, Fault, Offset};
 
 pub fn show_fault(fault: Fault) -> bool {

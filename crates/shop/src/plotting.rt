@@ -4,38 +4,39 @@ use commands::word;
 use drawing::Drawn;
 use files::{Spot, complain, complain_record, list_room, picture_room, spot_for};
 use setup::Setup;
+use std::rt::Files;
 
-pub fn plot(line: &[u8], count: usize, err: i32) {
+pub fn plot(rt: &impl Files, line: &[u8], count: usize, err: i32) {
     if count != 4 {
         complain(err, b"plot", b"wants LIST SETUP PICTURE");
         return;
     }
-    let spot = spot_for(word(line, 3), word(line, 1), word(line, 2), err);
+    let spot = spot_for(rt, word(line, 3), word(line, 1), word(line, 2), err);
     if !spot.fine {
         return;
     }
-    let known = setup_in(word(line, 2), err);
+    let known = setup_in(rt, word(line, 2), err);
     if known.fine {
         let setup = known.setup;
-        plot_file(setup, line, spot, err);
+        plot_file(rt, setup, line, spot, err);
     }
 }
 
-fn plot_file(setup: Setup, line: &[u8], spot: Spot, err: i32) {
+fn plot_file(rt: &impl Files, setup: Setup, line: &[u8], spot: Spot, err: i32) {
     let mut list = list_room();
-    let got = files::read_whole(word(line, 1), &mut list, err);
+    let got = files::read_whole(rt, word(line, 1), &mut list, err);
     if got.fine {
         let n = got.count;
-        plot_list(setup, &list[..n], line, spot, err);
+        plot_list(rt, setup, &list[..n], line, spot, err);
     }
 }
 
-fn plot_list(setup: Setup, list: &[u8], line: &[u8], spot: Spot, err: i32) {
+fn plot_list(rt: &impl Files, setup: Setup, list: &[u8], line: &[u8], spot: Spot, err: i32) {
     let mut picture = picture_room();
     let drawn = drawing::draw(list, setup, &mut picture);
     match drawn {
         Drawn::Is(n) => {
-            files::write_whole(word(line, 3), &picture[..n], spot, err);
+            files::write_whole(rt, word(line, 3), &picture[..n], spot, err);
         }
         Drawn::NoRoom => complain(
             err,

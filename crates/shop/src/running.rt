@@ -4,13 +4,13 @@ ghost use Rattle.terms.specs.Common.{◌≤◌};
 use crate::setup_files::setup_in;
 use answers::{show_answer, show_standing};
 use commands::{Options, options_of, word};
-use files::{Spot, complain, list_room, show_text, spot_for};
-use libc::STDOUT_FILENO;
+use files::{STDOUT_FILENO, Spot, complain, list_room, show_text, spot_for};
 use list_files::{Made, is_written, make_list};
 use setup::Setup;
+use std::rt::Files;
 
 // Answers whether standard output took what there was to print.
-pub fn run(line: &[u8], count: usize, err: i32) -> bool {
+pub fn run(rt: &impl Files, line: &[u8], count: usize, err: i32) -> bool {
     if count < 3 {
         complain(
             err,
@@ -23,17 +23,17 @@ pub fn run(line: &[u8], count: usize, err: i32) -> bool {
     if !options.fine {
         return true;
     }
-    let spot = spot_of(line, options, err);
+    let spot = spot_of(rt, line, options, err);
     if !spot.fine {
         return true;
     }
-    run_files(line, options, spot, err)
+    run_files(rt, line, options, spot, err)
 }
 
 // Where the list goes. A run without one writes nothing, which it may.
-fn spot_of(line: &[u8], options: Options, err: i32) -> Spot {
+fn spot_of(rt: &impl Files, line: &[u8], options: Options, err: i32) -> Spot {
     if options.listed {
-        return spot_for(word(line, 3), word(line, 1), word(line, 2), err);
+        return spot_for(rt, word(line, 3), word(line, 1), word(line, 2), err);
     }
     Spot {
         mode: 0,
@@ -43,24 +43,32 @@ fn spot_of(line: &[u8], options: Options, err: i32) -> Spot {
 }
 
 // The buffer holds one byte more than data may have, so that longer data is refused and not cut.
-fn run_files(line: &[u8], options: Options, spot: Spot, err: i32) -> bool
+fn run_files(rt: &impl Files, line: &[u8], options: Options, spot: Spot, err: i32) -> bool
     requires { options.room ≤ 1048576 }
 {
-    let known = setup_in(word(line, 1), err);
+    let known = setup_in(rt, word(line, 1), err);
     if !known.fine {
         return true;
     }
     let mut data = io::large_buffer();
-    let got = files::read_start(word(line, 2), &mut data, err);
+    let got = files::read_start(rt, word(line, 2), &mut data, err);
     if !got.fine {
         return true;
     }
     let n = got.count;
     let setup = known.setup;
-    run_data(setup, &data[..n], word(line, 3), options, spot, err)
+    run_data(rt, setup, &data[..n], word(line, 3), options, spot, err)
 }
 
-fn run_data(setup: Setup, data: &[u8], path: &[u8], options: Options, spot: Spot, err: i32) -> bool
+fn run_data(
+    rt: &impl Files,
+    setup: Setup,
+    data: &[u8],
+    path: &[u8],
+    options: Options,
+    spot: Spot,
+    err: i32,
+) -> bool
     requires { options.room ≤ 1048576 }
 {
     let mut list = list_room();
@@ -70,7 +78,7 @@ fn run_data(setup: Setup, data: &[u8], path: &[u8], options: Options, spot: Spot
     if !is_written(answer, options) {
         return show_made(data, made) && show_kept(path, options.listed);
     }
-    if !files::write_whole(path, &list[..end], spot, err) {
+    if !files::write_whole(rt, path, &list[..end], spot, err) {
         return true;
     }
     show_made(data, made)

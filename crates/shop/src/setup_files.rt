@@ -6,12 +6,13 @@ ghost use Rattle.shop.specs.Knowing.{known_by, line_of};
 
 use crate::Known;
 use files::{begin_line, write_line};
+use std::rt::Files;
 use texts::{Wrong, none_wrong};
 
 // The setup in a file.
-pub fn setup_in(path: &[u8], err: i32) -> Known {
+pub fn setup_in(rt: &impl Files, path: &[u8], err: i32) -> Known {
     let mut text = io::large_buffer();
-    let got = files::read_whole(path, &mut text, err);
+    let got = files::read_whole(rt, path, &mut text, err);
     let n = got.count;
     known_from(path, &text[..n], got.fine, err)
 }

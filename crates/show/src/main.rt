@@ -3,7 +3,7 @@
 // shorter than 1 MiB.
 #![tactic(auto)]
 
-use libc::{STDIN_FILENO, STDOUT_FILENO};
+use files::{STDIN_FILENO, STDOUT_FILENO};
 
 fn main() {
     let mut buffer = files::list_room();

@@ -5,19 +5,40 @@
 ghost use Rattle.terms.specs.Common.{◌≤◌, ◌<◌, length};
 ghost use Rattle.io.specs.Counts.{IsPrefixLen};
 
-use libc::{STDIN_FILENO, STDOUT_FILENO};
+use files::{STDIN_FILENO, STDOUT_FILENO};
+use std::fs;
+use std::io::{Print, Result};
+use std::os::unix::fs::symlink;
+use std::rt::Files;
 
-fn main() {
+fn main(rt: HostRuntime) -> Result<()> {
+    make_links(&rt)?;
     let mut input = io::large_buffer();
     let n = io::read_full(STDIN_FILENO, &mut input);
-    do_lines(&input[..n]);
+    do_lines(&rt, &input[..n]);
+    Ok(())
 }
 
-fn do_lines(input: &[u8]) {
+// The links among the files, which a repository does not hold: to the data, to a list, to a setup, to nothing, and in a circle.
+fn make_links(rt: &impl Files) -> Result<()> {
+    make_link(rt, "../first.nc", "links/data")?;
+    make_link(rt, "../whole.list", "links/list")?;
+    make_link(rt, "../examples/T.setup", "links/setup")?;
+    make_link(rt, "../none.list", "links/nowhere")?;
+    make_link(rt, "circle", "links/circle")
+}
+
+// A link in place of what stands under its name.
+fn make_link(rt: &impl Files, to: &str, name: &str) -> Result<()> {
+    let _ = fs::remove_file(rt, name);
+    symlink(rt, to, name)
+}
+
+fn do_lines<R: Files + Print>(rt: &R, input: &[u8]) {
     let mut from: usize = 0;
     while from < input.len() {
         let end = line_end(input, from);
-        do_line(&input[from..end]);
+        do_line(rt, &input[from..end]);
         from = end + 1;
     }
 }
@@ -36,25 +57,25 @@ fn line_end(input: &[u8], from: usize) -> usize
     i
 }
 
-fn do_line(line: &[u8]) {
+fn do_line<R: Files + Print>(rt: &R, line: &[u8]) {
     io::write_all(STDOUT_FILENO, b"$ ");
     io::write_all(STDOUT_FILENO, line);
     io::write_all(STDOUT_FILENO, b"\n");
     if 6 <= line.len() {
         if texts::is_word(line, 0, 6, b"print ") {
-            print(&line[6..]);
+            print(rt, &line[6..]);
             return;
         }
     }
     let mut words = io::large_buffer();
     let n = put_words(line, &mut words);
-    shop::do_command(&words[..n], STDOUT_FILENO);
+    shop::do_command(rt, &words[..n], STDOUT_FILENO);
 }
 
 // A file of 65,536 bytes at most.
-fn print(path: &[u8]) {
+fn print(rt: &impl Files, path: &[u8]) {
     let mut text = io::large_buffer();
-    let got = files::read_whole(path, &mut text, STDOUT_FILENO);
+    let got = files::read_whole(rt, path, &mut text, STDOUT_FILENO);
     let n = got.count;
     io::write_all(STDOUT_FILENO, &text[..n]);
 }
