@@ -1,0 +1,24 @@
+-- `cases::case_text::case_at` meets its contract: line by line, and the three words.
+use Rattle.cases.proofs.{Laws.line_inside, Laws.data_inside, Laws.case_is}
+use Rattle.cases.proofs.case_text.case_at.Goals as goal
+
+pub next_block-from-requires : goal.next_block-from-requires
+next_block-from-requires c =
+    line_inside c.args.input.now c.args.at _ c.next_block-line.ensures c.requires
+
+pub slice_bounds-read_setup-end : goal.slice_bounds-read_setup-end
+slice_bounds-read_setup-end c =
+    data_inside c.args.input.now c.args.at c.next_block-line.ensures c.next_block-from.ensures c.requires
+
+pub slice_bounds-words-end : goal.slice_bounds-words-end
+slice_bounds-words-end c =
+    line_inside c.args.input.now c.args.at _ c.next_block-line.ensures c.requires
+
+pub end_after-end-requires : goal.end_after-end-requires
+end_after-end-requires c =
+    data_inside c.args.input.now c.args.at c.next_block-line.ensures c.next_block-from.ensures c.requires
+
+pub returns : goal.returns
+returns c =
+    let a = c.args in
+    case_is a.input.now a.at c.next_block-line.ensures c.next_block-from.ensures a.most c.read_setup-read.ensures c.count_at-first.ensures c.count_at-second.ensures c.count_at-third.ensures c.type_size.ensures c.size_of.ensures c.end_after-end.ensures c.none_wrong.ensures c.is_line_end.ensures

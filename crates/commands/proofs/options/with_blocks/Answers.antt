@@ -1,0 +1,22 @@
+-- `commands::options::with_blocks` meets its contract.
+use Rattle.terms.proofs.Common.{sym, ◌∙◌}
+use Rattle.texts.specs.Figures.{digits_in}
+use Rattle.commands.proofs.{Choosing.digits_known, Choosing.blocks_twice, Choosing.blocks_none, Choosing.blocks_are}
+use Rattle.commands.proofs.options.with_blocks.Goals as goal
+
+pub returns-then-not-options : goal.returns-then-not-options
+returns-then-not-options c =
+    let a = c.args in
+    c.given_twice.ensures ∙ sym (blocks_twice a.options (digits_in a.number.now) c.if-not-options.true)
+
+pub returns-in_default : goal.returns-in_default
+returns-in_default c =
+    let a = c.args in
+    c.wrong.ensures
+    ∙ sym (blocks_none a.options (digits_known a.number.now c.digits_at.ensures c.in_default.is))
+
+pub returns : goal.returns
+returns c =
+    let a = c.args in
+    sym
+    (blocks_are a.options (digits_known a.number.now c.digits_at.ensures c.in-Are.is) c.if-not-options.false)

@@ -1,0 +1,15 @@
+-- `list_files::make_list` meets its contract: a part of the buffer is the run's room.
+use Rattle.terms.proofs.Common.{◌≡◌, sym, ◌∙◌, length, length-map, length-take-le}
+use Rattle.list_files.proofs.{Listing.made}
+use Rattle.list_files.proofs.make_list.Goals as goal
+
+pub slice_bounds-report_in-end-2 : goal.slice_bounds-report_in-end-2
+slice_bounds-report_in-end-2 c =
+    sym (length-take-le c.args.options.room c.args.list.now c.requires)
+
+pub returns : goal.returns
+returns c =
+    let a = c.args in
+    let known = c.well_formed.0.1.1.1.1.1.1.0.1.0.1 in
+    let six : length a.setup.origins ≡ 6 = sym (length-map a.setup.origins _) ∙ known in
+    made a.setup six a.bytes.now a.options c.requires c.report_in-report.ensures

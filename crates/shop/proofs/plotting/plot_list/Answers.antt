@@ -1,0 +1,12 @@
+-- `shop::plotting::plot_list` meets its contract: the picture lies in its buffer.
+use Rattle.terms.proofs.Common.{sym, arith, length-take-le}
+use Rattle.drawing.proofs.Fitting.{draws_inside}
+use Rattle.shop.proofs.plotting.plot_list.Goals as goal
+
+pub slice_bounds-picture-end : goal.slice_bounds-picture-end
+slice_bounds-picture-end c =
+    omega (arith, draws_inside c.draw-drawn.ensures c.in-Is.is)
+
+pub slice_bounds-write_whole-end : goal.slice_bounds-write_whole-end
+slice_bounds-write_whole-end c =
+    sym (length-take-le c.in-Is.n c.draw-drawn.new.1.1.0 (omega (arith, c.draw-drawn.auto.1.1.0, draws_inside c.draw-drawn.ensures c.in-Is.is)))
