@@ -4,9 +4,9 @@ use Rattle.drawing.proofs.Fitting.{draws_inside}
 use Rattle.shop.proofs.plotting.plot_list.Goals as goal
 
 pub slice_bounds-picture-end : goal.slice_bounds-picture-end
-slice_bounds-picture-end c =
+slice_bounds-picture-end g c =
     omega (arith, draws_inside c.draw-drawn.ensures c.in-Is.is)
 
 pub slice_bounds-write_whole-end : goal.slice_bounds-write_whole-end
-slice_bounds-write_whole-end c =
+slice_bounds-write_whole-end g c =
     sym (length-take-le c.in-Is.n c.draw-drawn.new.1.1.0 (omega (arith, c.draw-drawn.auto.1.1.0, draws_inside c.draw-drawn.ensures c.in-Is.is)))

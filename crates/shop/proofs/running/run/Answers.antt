@@ -4,6 +4,6 @@ use Rattle.commands.{specs.declared.options.Options.Options, proofs.Choosing.roo
 use Rattle.shop.proofs.running.run.Goals as goal
 
 pub run_files-requires : goal.run_files-requires
-run_files-requires c =
+run_files-requires g c =
     let a = c.args in
     omega (arith, ap (λ (x : Options). x.room) c.options_of-options.ensures, room_fits a.line.now a.count)
