@@ -1,5 +1,6 @@
 -- Where a byte of the data stands: the text of its block around it.
-use Rattle.terms.specs.Common.{ℕ, ◌+◌, ◌≤◌, ◌<◌, ◌≡◌, true, false, List, get_or}
+use Rattle.std.specs.Prelude.{◌+◌, ◌≤◌, ◌<◌, ◌≡◌}
+use Rattle.terms.specs.Common.{ℕ, true, false, List, get_or}
 use Rattle.lines.specs.Blocks.{is_lf}
 
 -- The block that a place lies in begins here: no LF stands between, and just before it the data begins or an LF stands.

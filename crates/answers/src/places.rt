@@ -1,5 +1,6 @@
 // A place in the data, shown by its block's text with a caret under the byte.
-ghost use Rattle.terms.specs.Common.{◌≡◌, ◌+◌, ◌≤◌, length, drop};
+ghost use Rattle.std.specs.Prelude.{◌≡◌, ◌+◌, ◌≤◌};
+ghost use Rattle.terms.specs.Common.{length, drop};
 ghost use Rattle.lines.specs.Blocks.{text_from};
 ghost use Rattle.answers.specs.Places.{Begins};
 

@@ -1,6 +1,7 @@
 -- Document 01, "G02, G03": the radius, the end's tolerance, and the path of an arc in the travel.
-use Rattle.terms.specs.Common.{ℕ, ◌+◌, ◌-◌, ◌*◌, Bool, true, not, ◌&&◌, ◌||◌, leb, ℤ, pos, negsuc, ◌-ℤ◌, le_z, lt_z}
-use Rattle.terms.specs.Terms.{if◌then◌else◌, between}
+use Rattle.std.specs.Prelude.{◌+◌, ◌-◌, ◌*◌, ◌&&◌, ◌||◌, ◌-ℤ◌, if◌then◌else◌}
+use Rattle.terms.specs.Common.{ℕ, Bool, true, not, leb, ℤ, pos, negsuc, le_z, lt_z}
+use Rattle.terms.specs.Terms.{between}
 use Rattle.lengths.specs.{Units.len, Units.sq, Units.fits_four, declared.Len.Len, declared.Point.Point, declared.Flat.Flat, declared.Travel.Travel, Points.flat, Points.inside}
 use Rattle.records.specs.{declared.Arc.Arc, Path.Path, Path.straight, Path.clockwise, Path.counter, Path.still}
 use Rattle.arcs.specs.{Root.root, Turning.direction, Turning.on_left_way}
@@ -38,8 +39,8 @@ not_below a q b = le_z b.v a.v || leb (sq (b.v -ℤ a.v)) q
 unfoldable pub coordinate_inside : ℤ → Len → ℕ → Len → Len → Bool
 coordinate_inside way centre q low high =
     if lt_z (pos 0) way then not_below centre q low && not_above centre q high
-    else if lt_z way (pos 0) then not_above low q centre && not_below high q centre
-    else between low.v high.v centre.v
+    else (if lt_z way (pos 0) then not_above low q centre && not_below high q centre
+    else between low.v high.v centre.v)
 
 -- The circle's extreme in an axis direction is inside: both its coordinates are. Across the plane an arc does not move, so there
 -- the extreme is where the arc's end is, which is tested by itself.

@@ -1,5 +1,6 @@
 -- The bounds under which every product of the arc rule fits 64 bits, as linear facts of naturals (specs/View.antt of `lengths`).
-use Rattle.terms.specs.Common.{ℕ, ◌+◌, ◌≤◌, ◌≡◌, true}
+use Rattle.std.specs.Prelude.{◌+◌, ◌≤◌, ◌≡◌}
+use Rattle.terms.specs.Common.{ℕ, true}
 use Rattle.lengths.specs.{declared.Len.Len, View.over, View.under, View.Within, declared.Point.Point, declared.Flat.Flat, declared.Travel.Travel, Points.flat}
 use Rattle.records.specs.{declared.Arc.Arc, Path.Path, Path.straight, Path.clockwise, Path.counter, Path.still}
 use Rattle.arcs.specs.{Turning.direction, Arcs.centre_of, Arcs.arc_holds}

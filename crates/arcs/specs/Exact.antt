@@ -1,5 +1,6 @@
 -- What it is that a length plus a real root is not above another length, and that it is not below one.
-use Rattle.terms.specs.Common.{ℕ, ◌*◌, ◌≤◌, ◌≡◌, true, pos, ◌+ℤ◌, ◌*ℤ◌, le_z}
+use Rattle.std.specs.Prelude.{◌*◌, ◌≤◌, ◌≡◌, ◌+ℤ◌, ◌*ℤ◌}
+use Rattle.terms.specs.Common.{ℕ, true, pos, le_z}
 use Rattle.lengths.specs.declared.Len.{Len}
 
 -- The real root of q is the least number that is not below any fraction p / n whose square is at most q. So a plus the root is not

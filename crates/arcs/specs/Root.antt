@@ -1,6 +1,6 @@
 -- "Let r be the largest whole number whose square is not above the squared start radius."
-use Rattle.terms.specs.Common.{ℕ, zero, suc, ◌+◌, ◌*◌, ◌/◌, ◌<◌, ◌≤◌, leb}
-use Rattle.terms.specs.Terms.{if◌then◌else◌}
+use Rattle.std.specs.Prelude.{◌+◌, ◌*◌, ◌/◌, ◌<◌, ◌≤◌, if◌then◌else◌}
+use Rattle.terms.specs.Common.{ℕ, zero, suc, leb}
 
 -- r is the largest whole number whose square is not above q
 pub record Root (q r : ℕ) : Type 0 where

@@ -1,6 +1,6 @@
 -- Directions in a plane, and which of them lie on the way of an arc.
-use Rattle.terms.specs.Common.{Bool, true, not, ◌&&◌, ℤ, pos, ◌+ℤ◌, ◌-ℤ◌, ◌*ℤ◌, lt_z}
-use Rattle.terms.specs.Terms.{if◌then◌else◌}
+use Rattle.std.specs.Prelude.{◌&&◌, ◌+ℤ◌, ◌-ℤ◌, ◌*ℤ◌, if◌then◌else◌}
+use Rattle.terms.specs.Common.{Bool, true, not, ℤ, pos, lt_z}
 use Rattle.lengths.specs.{Units.◌⊖◌, declared.Flat.Flat}
 
 -- the direction from one point to another
@@ -23,6 +23,6 @@ left a b = lt_z (pos 0) (cross a b)
 unfoldable pub on_left_way : Flat → Flat → Flat → Bool
 on_left_way u w d =
     if left u w then not (left d u) && not (left w d)
-    else if left w u then not (left w d && left d u)
-    else if lt_z (pos 0) (dot u w) then true
-    else not (left d u)
+    else (if left w u then not (left w d && left d u)
+    else (if lt_z (pos 0) (dot u w) then true
+    else not (left d u)))

@@ -3,7 +3,7 @@
 
 mod staying;
 
-ghost use Rattle.terms.specs.Common.{◌≡◌, ◌&&◌, ◌*◌, ◌^◌, ◌≤◌};
+ghost use Rattle.std.specs.Prelude.{◌≡◌, ◌&&◌, ◌*◌, ◌^◌, ◌≤◌};
 ghost use Rattle.lengths.specs.{Units.fits_four, Near.Near, Points.flat};
 ghost use Rattle.records.specs.{Path.arc_moved, Displacing.LooseArc};
 ghost use Rattle.arcs.specs.Arcs.{distance², centre_of, radius², round_enough, arc_holds};

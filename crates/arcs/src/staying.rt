@@ -1,5 +1,6 @@
 // Arcs and the travel: an arc stays in it where its end does and every extreme that it passes.
-ghost use Rattle.terms.specs.Common.{◌≡◌, lt_z, pos};
+ghost use Rattle.std.specs.Prelude.{◌≡◌};
+ghost use Rattle.terms.specs.Common.{lt_z, pos};
 ghost use Rattle.lengths.specs.Points.{flat};
 ghost use Rattle.arcs.specs.Arcs.{centre_of, not_above, not_below, coordinate_inside, extreme_inside, towards, extremes_inside, left_way, right_way, arc_stays};
 ghost use Rattle.arcs.specs.Bounds.{Close, Reach, Small, Bounds, Accepted, Direction, Framed};

@@ -1,7 +1,8 @@
 -- A block that calls makes no record, so that after 5 and 6 nothing can refuse it: its call may be tested last, where it is followed.
 -- Assumes nothing.
+use Rattle.std.specs.Prelude.{if◌then◌else◌}
 use Rattle.terms.proofs.Common.{ℕ, ◌≡◌, refl, sym, ◌∙◌, ap, Bool, true, false, not, ◌&&◌, and-false, Option, none, some, List, [], ◌∷◌, ◌++◌, append-nil, arith, eqb-true, le-ltb, eqb, ltb}
-use Rattle.terms.{specs.Terms.if◌then◌else◌, specs.Terms.first, specs.Terms.first_of, specs.Terms.all, specs.Terms.lookup, proofs.Laws.either_left}
+use Rattle.terms.{specs.Terms.first, specs.Terms.first_of, specs.Terms.all, specs.Terms.lookup, proofs.Laws.either_left}
 use Rattle.refusals.specs.declared.Refusal.{Refusal}
 use Rattle.refusals.specs.declared.Refusal.TheVariants.{BadParameter, AddressUndefined, ParameterUndefined, CannotExecute, NumberNotFound, NestOver, LeavesTravel, NoRoom, CentreTooFar}
 use Rattle.codes.specs.{declared.Misc.Misc, declared.Plane.Plane, Codes.misc_number, Codes.is_m, Codes.ends_program}
@@ -163,7 +164,7 @@ calls_none : (b : Said) → is_m 98 b.misc ≡ false → call_to (control_of b) 
 unfolding control_of call_to
 calls_none b e = rw e (go (is_m 99 b.misc) (ends_program b.misc))
   where
-    go : (t u : Bool) → call_to (if t then Back else if u then Stop else On) ≡ none
+    go : (t u : Bool) → call_to (if t then Back else (if u then Stop else On)) ≡ none
     go true u = refl
     go false true = refl
     go false false = refl

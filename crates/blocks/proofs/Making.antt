@@ -1,6 +1,7 @@
 -- The records that a whole block makes, and the state that it leaves. Assumes nothing.
+use Rattle.std.specs.Prelude.{if◌then◌else◌}
 use Rattle.terms.proofs.Common.{ℕ, zero, suc, ◌≡◌, refl, Bool, true, false, not, ◌&&◌, ◌||◌, List, [], ◌∷◌, ◌++◌, map, arith}
-use Rattle.terms.specs.Terms.{if◌then◌else◌, all}
+use Rattle.terms.specs.Terms.{all}
 use Rattle.lengths.specs.{declared.Len.Len, View.Short, declared.Point.Point, Points.at_height}
 use Rattle.codes.specs.declared.{Cycle.Cycle, Cycle.TheVariants.G81, Cycle.TheVariants.G82, Cycle.TheVariants.G85, Cycle.TheVariants.G89, Misc.Misc, Motion.Motion, Return.Return}
 use Rattle.codes.specs.{declared.Return.TheVariants.ToInitial, declared.Return.TheVariants.ToR, Codes.is_m, Codes.ends_program}
@@ -33,7 +34,7 @@ module _ (by : Point) where
   last_others : (m : Misc) → AllOthers by (last_records m)
   unfolding last_records
   last_others m =
-      either_others (is_m 5 m) (SO ∷ []) (if is_m 0 m then PA ∷ [] else if ends_program m then EN ∷ [] else []) (tt, tt)
+      either_others (is_m 5 m) (SO ∷ []) (if is_m 0 m then PA ∷ [] else (if ends_program m then EN ∷ [] else [])) (tt, tt)
       (either_others (is_m 0 m) (PA ∷ []) (if ends_program m then EN ∷ [] else []) (tt, tt)
       (either_others (ends_program m) (EN ∷ []) [] (tt, tt) tt))
 

@@ -1,7 +1,8 @@
 -- What the words of a block say in a state that a run can reach: an origin of the table, and values within their limits. Assumes
 -- nothing.
+use Rattle.std.specs.Prelude.{if◌then◌else◌}
 use Rattle.terms.proofs.Common.{ℕ, ◌<◌, ◌≡◌, refl, Bool, true, false, none, List, [], ◌∷◌, eqb, ltb, ltb-true}
-use Rattle.terms.{specs.Terms.if◌then◌else◌, specs.Terms.all, specs.Terms.lookup, proofs.Laws.both_left, proofs.Laws.both_right}
+use Rattle.terms.{specs.Terms.all, specs.Terms.lookup, proofs.Laws.both_left, proofs.Laws.both_right}
 use Rattle.codes.specs.{declared.Code.Code, Codes.g_table, Codes.code_of}
 use Rattle.codes.specs.declared.Code.TheVariants.{GroupA, GroupB, GroupC, GroupD, GroupE, GroupF, G04, Unknown}
 use Rattle.words.specs.{declared.Word.Word, Values.is_plain}

@@ -1,6 +1,7 @@
 -- Points of a run and how near they are, in the frame of the common offset and in machine units. Assumes nothing.
+use Rattle.std.specs.Prelude.{if◌then◌else◌}
 use Rattle.terms.proofs.Common.{ℕ, ◌^◌, ◌≡◌, refl, ap₂, Bool, true, false, not, ◌&&◌, ◌||◌, arith, ℤ, ◌+ℤ◌, le_z}
-use Rattle.terms.{specs.Terms.if◌then◌else◌, specs.Terms.between, proofs.Laws.both_left, proofs.Laws.both_right}
+use Rattle.terms.{specs.Terms.between, proofs.Laws.both_left, proofs.Laws.both_right}
 use Rattle.lengths.specs.{Units.fits_four, View.Within, View.Short, declared.Point.Point, declared.Flat.Flat, Points.moved, Points.flat, Points.inside, Near.Near}
 use Rattle.lengths.proofs.{Laws.view, Laws.sum_bal, Four.short_four, Near.flat_near}
 use Rattle.codes.specs.declared.{Cycle.Cycle, Plane.Plane, Plane.TheVariants.G17, Plane.TheVariants.G18, Plane.TheVariants.G19}

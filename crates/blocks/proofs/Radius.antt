@@ -1,8 +1,8 @@
 -- Document 02, #101: arcs by their radius. R stands for the centre words. Where the radius is accepted, nothing else of the arc's
 -- geometry refuses it, whatever the plane. And G02 and G03, with R positive and with R negative, have the centre on the side that
 -- makes it the arc of at most half a turn or the larger one. Assumes nothing.
+use Rattle.std.specs.Prelude.{if◌then◌else◌}
 use Rattle.terms.proofs.Common.{◌<◌, ◌≡◌, refl, sym, subst, ap, ◌∙◌, Bool, true, false, not, ◌&&◌, ◌||◌, or-true, and-false, [], ◌∷◌, arith, ℤ, pos, lt_z}
-use Rattle.terms.specs.Terms.{if◌then◌else◌}
 use Rattle.lengths.{specs.View.Within, specs.declared.Point.Point, specs.Points.moved, specs.Points.flat, proofs.Laws.view}
 use Rattle.codes.specs.declared.Motion.{Motion, TheVariants.Off, TheVariants.G00, TheVariants.G01, TheVariants.G02, TheVariants.G03, TheVariants.Drilling}
 use Rattle.words.specs.declared.Values.{Values}

@@ -1,7 +1,8 @@
 -- What only serves the code of the walk: the verdict on a block that is not asked for its call, and the two tests of a call, which
 -- come where the call is followed.
-use Rattle.terms.specs.Common.{ℕ, true, [], ◌∷◌, eqb}
-use Rattle.terms.specs.Terms.{if◌then◌else◌, first_of}
+use Rattle.std.specs.Prelude.{◌∷◌, if◌then◌else◌}
+use Rattle.terms.specs.Common.{ℕ, true, [], eqb}
+use Rattle.terms.specs.Terms.{first_of}
 use Rattle.refusals.specs.declared.Refusal.TheVariants.{NumberNotFound, NestOver}
 use Rattle.blocks.specs.Exec.{Calls, call_to, unknown_call, too_deep, at_start, Verdict, refused, accepted, unless}
 

@@ -1,5 +1,6 @@
 -- What the code of a block answers and leaves in the list, by the verdict of the rules.
-use Rattle.terms.specs.Common.{ℕ, ◌+◌, ◌≡◌, List, [], length, sets}
+use Rattle.std.specs.Prelude.{◌+◌, ◌≡◌}
+use Rattle.terms.specs.Common.{ℕ, List, [], length, sets}
 use Rattle.lengths.specs.declared.Point.{Point}
 use Rattle.records.specs.{declared.Record.Record, Layout.room_of, Writing.moved_bytes}
 use Rattle.blocks.specs.{Exec.Verdict, Exec.refused, Exec.accepted, declared.Executed.Executed, declared.Executed.TheVariants.Refused, declared.Executed.TheVariants.Accepted}

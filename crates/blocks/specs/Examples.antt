@@ -1,6 +1,7 @@
 -- Document 01, "Numbers to try": the table of numbers. A row is a block as it is written there, read as any block is, and
 -- what it gives.
-use Rattle.terms.specs.Common.{ℕ, String, true, List, [], ◌∷◌, pos}
+use Rattle.std.specs.Prelude.{◌∷◌}
+use Rattle.terms.specs.Common.{ℕ, String, true, List, [], pos}
 use Rattle.terms.specs.Terms.{byte, bytes}
 use Rattle.refusals.specs.Numbers.{number_of}
 use Rattle.lengths.specs.{Units.len, declared.Point.Point}

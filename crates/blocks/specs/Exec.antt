@@ -1,6 +1,7 @@
 -- What one block does: the order of its refusals, and its effects in their order.
-use Rattle.terms.specs.Common.{ℕ, Bool, true, false, not, ◌&&◌, ◌||◌, Option, none, some, List, [], ◌∷◌, ◌++◌, eqb, ltb, nat_abs}
-use Rattle.terms.specs.Terms.{if◌then◌else◌, all, first_of, stands, when}
+use Rattle.std.specs.Prelude.{◌&&◌, ◌||◌, ◌∷◌, ◌++◌, if◌then◌else◌}
+use Rattle.terms.specs.Common.{ℕ, Bool, true, false, not, Option, none, some, List, [], eqb, ltb, nat_abs}
+use Rattle.terms.specs.Terms.{all, first_of, stands, when}
 use Rattle.refusals.specs.declared.Refusal.{Refusal}
 use Rattle.refusals.specs.declared.Refusal.TheVariants.{BadParameter, AddressUndefined, ParameterUndefined, CannotExecute, NumberNotFound, NestOver, LeavesTravel, NoRoom, Unreadable, CentreTooFar}
 use Rattle.codes.specs.declared.{Misc.Misc, Motion.Motion, Distance.Distance, Plane.Plane, Plane.TheVariants.G17, Plane.TheVariants.G18, Plane.TheVariants.G19}
@@ -63,9 +64,9 @@ moves_in machine s b = moves_of b.code b.named (working s b) (machine.origin b.m
 unfoldable pub last_records : Misc → List Record
 last_records m =
     if is_m 5 m then SO ∷ []
-    else if is_m 0 m then PA ∷ []
-    else if ends_program m then EN ∷ []
-    else []
+    else (if is_m 0 m then PA ∷ []
+    else (if ends_program m then EN ∷ []
+    else []))
 
 unfoldable pub made_by : Machine → State → Said → List Record
 made_by machine s b = spindle_records s b ++ (moves_in machine s b).records ++ last_records b.misc
@@ -85,9 +86,9 @@ settled machine s b =
 unfoldable pub control_of : Said → Control
 control_of b =
     if is_m 98 b.misc then Call (nat_abs b.values.p.v.v)
-    else if is_m 99 b.misc then Back
-    else if ends_program b.misc then Stop
-    else On
+    else (if is_m 99 b.misc then Back
+    else (if ends_program b.misc then Stop
+    else On))
 
 -- "Order: .. 15 leftmost; 4 leftmost ..; 2 leftmost; 1 leftmost by value; 3; 5; 6; 4 for a cycle ..; 1 by geometry; 16;
 -- 9; 10." Each names a word's letter, else the block's first byte.

@@ -1,6 +1,7 @@
 -- What an accepted block keeps: the state after it is one that a run can reach again, its records stay in the travel, fit the list
 -- and their four bytes, and the tool is where they end.
-use Rattle.terms.specs.Common.{ℕ, ◌≤◌, ◌≡◌, true, List, map}
+use Rattle.std.specs.Prelude.{◌≤◌, ◌≡◌}
+use Rattle.terms.specs.Common.{ℕ, true, List, map}
 use Rattle.records.specs.{declared.Record.Record, Layout.room_of, Path.end_of, Path.path_stays_in, Path.record_moved, Writing.ListShort}
 use Rattle.setup.specs.declared.Bed.{Bed}
 use Rattle.settings.specs.declared.State.{State}

@@ -1,6 +1,6 @@
 -- Document 01, "G00, G01", "G02, G03", "Cycles", "P as dwell": the motion or the dwell of a block.
-use Rattle.terms.specs.Common.{Bool, true, false, not, ◌||◌, List, [], ◌∷◌, pos, lt_z}
-use Rattle.terms.specs.Terms.{if◌then◌else◌}
+use Rattle.std.specs.Prelude.{◌||◌, ◌∷◌, if◌then◌else◌}
+use Rattle.terms.specs.Common.{Bool, true, false, not, List, [], pos, lt_z}
 use Rattle.codes.specs.declared.{Cycle.Cycle, Motion.Motion}
 use Rattle.codes.specs.declared.Motion.TheVariants.{Off, G00, G01, G02, G03, Drilling}
 use Rattle.words.specs.declared.Values.{Values}

@@ -1,6 +1,7 @@
 -- The states that a run can reach, and what the words of a block can say in them. Every block keeps this, as it is proved in
 -- proofs/.
-use Rattle.terms.specs.Common.{◌<◌, ◌≡◌, true}
+use Rattle.std.specs.Prelude.{◌<◌, ◌≡◌}
+use Rattle.terms.specs.Common.{true}
 use Rattle.lengths.specs.{View.Within, Points.inside}
 use Rattle.setup.specs.{declared.Bed.Bed, Fair.Fair}
 use Rattle.letters.specs.Sizes.{Sizes}

@@ -1,6 +1,7 @@
 -- On which side of the way from its start to its end the centre of a block's arc by radius lies. Only proofs/Radius.antt speaks of
 -- it, where it is shown of G02 and G03 with R positive and with R negative.
-use Rattle.terms.specs.Common.{◌≡◌, Bool, true, false, [], ◌∷◌}
+use Rattle.std.specs.Prelude.{◌≡◌, ◌∷◌}
+use Rattle.terms.specs.Common.{Bool, true, false, []}
 use Rattle.words.specs.declared.Values.{Values}
 use Rattle.lengths.specs.{declared.Point.Point, declared.Flat.Flat, Points.flat}
 use Rattle.records.specs.declared.{Arc.Arc, Record.Record}

@@ -1,7 +1,8 @@
 -- A case as it is written. Its first line begins with three words: the count of blocks to run, or no count, as `-1`, for the
 -- whole run; the room for records; and the data's length in bytes. Its second line is the setup. Then come the data and a
 -- line's end.
-use Rattle.terms.specs.Common.{ℕ, ◌+◌, ◌-◌, ◌^◌, min, ◌&&◌, List, leb, length, take, drop}
+use Rattle.std.specs.Prelude.{◌+◌, ◌-◌, ◌^◌, ◌&&◌}
+use Rattle.terms.specs.Common.{ℕ, min, List, leb, length, take, drop}
 use Rattle.terms.specs.Terms.{byte}
 use Rattle.lines.specs.Blocks.{length_from, begins_with}
 use Rattle.texts.specs.{Texts.none_wrong, Texts.next, Texts.word_at, Figures.digits_in, declared.Digits.Digits, declared.Digits.TheVariants.Are, declared.Digits.TheVariants.Others}

@@ -1,7 +1,8 @@
 // A case as it is written. Its first line begins with three words: the count of blocks to run, or no count, as `-1`, for the
 // whole run; the room for records; and the data's length in bytes. What else this line has is not read. Then come a line with
 // the setup's 35 numbers, the data's bytes as they are, and a line's end.
-ghost use Rattle.terms.specs.Common.{◌≡◌, ◌+◌, ◌≤◌, min, length, drop};
+ghost use Rattle.std.specs.Prelude.{◌≡◌, ◌+◌, ◌≤◌};
+ghost use Rattle.terms.specs.Common.{min, length, drop};
 ghost use Rattle.lines.specs.Blocks.{begins_with};
 ghost use Rattle.cases.specs.Cases.{count_at, size_of, case_at};
 

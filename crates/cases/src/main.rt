@@ -4,7 +4,8 @@
 
 mod case_text;
 
-ghost use Rattle.terms.specs.Common.{◌≤◌, length};
+ghost use Rattle.std.specs.Prelude.{◌≤◌};
+ghost use Rattle.terms.specs.Common.{length};
 ghost use Rattle.interpreter.specs.Owing.{Owes};
 ghost use Rattle.cases.specs.Budgets.{budget_by};
 

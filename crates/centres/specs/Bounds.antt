@@ -1,5 +1,6 @@
 -- The bounds under which every number of the centre's computation fits, as linear facts of naturals (specs/View.antt of `lengths`).
-use Rattle.terms.specs.Common.{ℕ, ◌+◌, ◌*◌, ◌/◌, ◌%◌, ◌≤◌, ◌<◌, ◌≡◌, true, ℤ}
+use Rattle.std.specs.Prelude.{◌+◌, ◌*◌, ◌/◌, ◌%◌, ◌≤◌, ◌<◌, ◌≡◌}
+use Rattle.terms.specs.Common.{ℕ, true, ℤ}
 use Rattle.lengths.specs.{declared.Len.Len, Units.len, Units.sq, View.Within, declared.Flat.Flat, Near.FlatNear}
 use Rattle.wide.specs.declared.Division.{Division}
 use Rattle.centres.specs.Centres.{radius_holds, scaled_root}

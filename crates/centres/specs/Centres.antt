@@ -1,7 +1,7 @@
 -- Document 02, #101: "R positive is the arc of at most half a turn, R negative the larger one. The centre is the exact one, each
 -- coordinate rounded down to a whole unit".
-use Rattle.terms.specs.Common.{ℕ, ◌-◌, ◌*◌, ◌/◌, ◌≡◌, Bool, true, false, ◌&&◌, leb, ltb, eqb, ℤ, pos, negsuc, neg_ℤ, ◌+ℤ◌, ◌-ℤ◌, ◌*ℤ◌, nat_abs, le_z, lt_z}
-use Rattle.terms.specs.Terms.{if◌then◌else◌}
+use Rattle.std.specs.Prelude.{◌-◌, ◌*◌, ◌/◌, ◌≡◌, ◌&&◌, ◌+ℤ◌, ◌-ℤ◌, ◌*ℤ◌, if◌then◌else◌}
+use Rattle.terms.specs.Common.{ℕ, Bool, true, false, leb, ltb, eqb, ℤ, pos, negsuc, neg_ℤ, nat_abs, le_z, lt_z}
 use Rattle.lengths.specs.{Units.len, Units.sq, Units.halved, declared.Flat.Flat}
 use Rattle.arcs.specs.{Root.root, Turning.direction, Arcs.distance²}
 
@@ -45,8 +45,8 @@ unfoldable pub scaled_root : ℤ → ℕ → ℕ → ℤ
 scaled_root q n d =
     let m = root (sq q * n / d) in
     if le_z (pos 0) q then pos m
-    else if eqb (m * m * d) (sq q * n) then neg_ℤ (pos m)
-    else negsuc m
+    else (if eqb (m * m * d) (sq q * n) then neg_ℤ (pos m)
+    else negsuc m)
 
 unfoldable pub coordinate : ℤ → ℤ → ℕ → ℕ → ℤ
 coordinate p q n d = halved (p +ℤ scaled_root q n d)

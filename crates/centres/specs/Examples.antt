@@ -1,5 +1,6 @@
 -- Arcs by their radius, in units of 0.00001 mm: the centre, or none where the radius is refused.
-use Rattle.terms.specs.Common.{ℕ, Bool, true, false, List, [], ◌∷◌, Option, none, some, ℤ, pos, neg_ℤ}
+use Rattle.std.specs.Prelude.{◌∷◌}
+use Rattle.terms.specs.Common.{ℕ, Bool, true, false, List, [], Option, none, some, ℤ, pos, neg_ℤ}
 use Rattle.terms.specs.Terms.{when}
 use Rattle.lengths.specs.{Units.len, declared.Flat.Flat}
 use Rattle.centres.specs.Centres.{radius_holds, centre_by}

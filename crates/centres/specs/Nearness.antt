@@ -1,6 +1,7 @@
 -- How round an arc is about its rounded centre: both ends are |R| from the exact centre, and from the rounded one less than two
 -- units more or less. proofs/Nearness.antt shows it of every arc by its radius that is accepted.
-use Rattle.terms.specs.Common.{◌+◌, ◌-◌, ◌*◌, ◌<◌, ℤ, nat_abs}
+use Rattle.std.specs.Prelude.{◌+◌, ◌-◌, ◌*◌, ◌<◌}
+use Rattle.terms.specs.Common.{ℤ, nat_abs}
 use Rattle.lengths.specs.declared.Flat.{Flat}
 use Rattle.arcs.specs.Arcs.{distance²}
 

@@ -1,7 +1,8 @@
 -- The points straight across from the chord's middle, a fraction f / n of q / 2 away from it; the exact centre is the one where f / n
 -- is the root of N / d² (specs/Centres.antt). They need not be whole, so they are given 2 n times as large. proofs/Sides.antt tells
 -- how start and end are seen from them.
-use Rattle.terms.specs.Common.{ℕ, Bool, pos, ◌+ℤ◌, ◌*ℤ◌}
+use Rattle.std.specs.Prelude.{◌+ℤ◌, ◌*ℤ◌}
+use Rattle.terms.specs.Common.{ℕ, Bool, pos}
 use Rattle.lengths.specs.{Units.len, declared.Flat.Flat}
 use Rattle.arcs.specs.Turning.{direction}
 use Rattle.centres.specs.Centres.{across}

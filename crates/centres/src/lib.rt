@@ -1,7 +1,8 @@
 // The centre of an arc that is given by its radius. The rules stand in specs/.
 #![tactic(auto)]
 
-ghost use Rattle.terms.specs.Common.{◌≡◌, ℕ, ◌≤◌, ◌+ℤ◌};
+ghost use Rattle.std.specs.Prelude.{◌≡◌, ◌≤◌, ◌+ℤ◌};
+ghost use Rattle.terms.specs.Common.{ℕ};
 ghost use Rattle.lengths.specs.{Units.len, Near.FlatNear};
 ghost use Rattle.arcs.specs.Arcs.{distance²};
 ghost use Rattle.centres.specs.Bounds.{Chord, Spanned, Shares, Part, Parted, Scaled, Coordinates};

@@ -1,7 +1,8 @@
 -- Demand 3, both halves, of the whole and of the first n blocks where the program ends within them. In the frame of the common
 -- offset the two setups have the same start and the same computation, and differ in the travel alone.
+use Rattle.std.specs.Prelude.{if◌then◌else◌}
 use Rattle.terms.proofs.Common.{ℕ, zero, suc, ◌≤◌, ◌≡◌, refl, sym, ◌∙◌, ap, subst, Bool, true, false, false≢true, ◌&&◌, ◌⊎◌, inl, inr, ⊎_elim, List, [], ◌∷◌, ◌++◌, map, append-nil, arith, length, length-map}
-use Rattle.terms.{specs.Terms.if◌then◌else◌, proofs.Laws.both_left, proofs.Laws.both_right}
+use Rattle.terms.{proofs.Laws.both_left, proofs.Laws.both_right}
 use Rattle.lengths.{specs.Units.len, specs.declared.Point.Point, specs.Points.moved, specs.Points.moved_back, proofs.Ring.shift}
 use Rattle.refusals.specs.declared.{Refusal.Refusal, Refusal.TheVariants.LeavesTravel, Place.Place}
 use Rattle.refusals.specs.{Numbers.number_of, Answers.refused_with, Answers.report_of, declared.Answer.TheVariants.Done}

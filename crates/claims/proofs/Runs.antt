@@ -1,7 +1,8 @@
 -- The run block by block (specs/Blockwise.antt) gives what the rules of the run give, for every budget: a data set's outcome is where
 -- the run block by block stands. Every run comes to its end or to a refusal after some number of blocks.
+use Rattle.std.specs.Prelude.{if◌then◌else◌}
 use Rattle.terms.proofs.Common.{ℕ, zero, suc, ◌+◌, ◌-◌, ◌≡◌, refl, sym, ◌∙◌, ap, ap₂, subst, Bool, true, false, false≢true, not, ◌||◌, or-true, List, [], ◌∷◌, ◌++◌, append_assoc, append-nil, arith, eqb, ltb, length, drop, ne_eqb}
-use Rattle.terms.specs.Terms.{if◌then◌else◌, any}
+use Rattle.terms.specs.Terms.{any}
 use Rattle.refusals.specs.{declared.Refusal.Refusal, declared.Place.Place, Numbers.number_of}
 use Rattle.refusals.specs.declared.Refusal.TheVariants.{NoEnd, FirstBlock, BadSetup, DataTooLong, BadParameter}
 use Rattle.setup.specs.{declared.Setup.Setup, Limits.valid_setup, declared.Bed.Bed, Fair.Fair}
@@ -394,11 +395,11 @@ module _ (s : Setup) (bytes : List ℕ) (room : ℕ) (budget : Budget) (P : Sofa
           (too valid : Bool) → (valid ≡ true → Tabled)
           → P
           (if too then refused_at_once (first_of s) room DataTooLong nowhere
-          else if not valid then refused_at_once (first_of s) room BadSetup nowhere
-          else begun_by (table_in (blocks_of bytes)) (first_of s) (blocks_of bytes) room)
+          else (if not valid then refused_at_once (first_of s) room BadSetup nowhere
+          else begun_by (table_in (blocks_of bytes)) (first_of s) (blocks_of bytes) room))
           (if too then just (refused_at DataTooLong nowhere) (first_of s)
-          else if not valid then just (refused_at BadSetup nowhere) (first_of s)
-          else run_table s bytes (blocks_of bytes) room budget (table_in (blocks_of bytes)))
+          else (if not valid then just (refused_at BadSetup nowhere) (first_of s)
+          else run_table s bytes (blocks_of bytes) room budget (table_in (blocks_of bytes))))
       go true valid next = long
       go false false next = bad
       go false true next = next refl

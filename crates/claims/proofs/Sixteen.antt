@@ -1,7 +1,8 @@
 -- Which refusals come at a block, and that 16 never comes: under a valid setup a centre is within 1,100,000,000 of the machine's
 -- zero, and under another no block is reached.
+use Rattle.std.specs.Prelude.{if◌then◌else◌}
 use Rattle.terms.proofs.Common.{ℕ, ◌+◌, ◌≡◌, refl, sym, ◌∙◌, ap, Bool, true, false, false≢true, ◌⊎◌, inl, inr, List, [], arith, eqb, ltb, length, drop}
-use Rattle.terms.specs.Terms.{if◌then◌else◌, any}
+use Rattle.terms.specs.Terms.{any}
 use Rattle.refusals.specs.declared.Refusal.{Refusal, TheVariants.BadSetup, TheVariants.DataTooLong, TheVariants.NoEnd}
 use Rattle.refusals.specs.{declared.Place.Place, Numbers.number_of, Answers.refused_with, Answers.report_of}
 use Rattle.setup.specs.{declared.Bed.Bed, declared.Setup.Setup, Limits.valid_setup, Frame.bed_of, Fair.Fair}

@@ -1,7 +1,8 @@
 -- What a verdict on a block says: what an accepted block has passed and where it leads, which refusals a block can get, and what
 -- another machine, whose two tests "16; 9" differ, says of a block that was accepted.
+use Rattle.std.specs.Prelude.{if◌then◌else◌}
 use Rattle.terms.proofs.Common.{ℕ, ◌+◌, ◌≡◌, refl, sym, ◌∙◌, ap, Bool, true, false, true≢false, not, ◌&&◌, ◌||◌, Option, none, some, List, [], ◌∷◌, ◌++◌, arith, eqb, ltb, drop, nat_abs, not-false}
-use Rattle.terms.{specs.Terms.if◌then◌else◌, specs.Terms.all, specs.Terms.any, specs.Terms.first, specs.Terms.first_of, proofs.Laws.either_left, proofs.Laws.either_right}
+use Rattle.terms.{specs.Terms.all, specs.Terms.any, specs.Terms.first, specs.Terms.first_of, proofs.Laws.either_left, proofs.Laws.either_right}
 use Rattle.refusals.specs.declared.Refusal.{Refusal}
 use Rattle.refusals.specs.declared.Refusal.TheVariants.{BadParameter, AddressUndefined, ParameterUndefined, CannotExecute, NumberNotFound, NestOver, LeavesTravel, NoRoom, Unreadable, CentreTooFar}
 use Rattle.lengths.specs.declared.Point.{Point}
@@ -100,7 +101,7 @@ no_return_words before (w ∷ ws) e = go (may_not_stand true before w) (is_misc 
         let alone = stands_alone (misc_in w) && any is_g before in
         either_right (is_no_m (misc_in w)) (is_m 99 (misc_in w)) (either_left (is_no_m (misc_in w) || is_m 99 (misc_in w)) alone bad)
 
-not_back : (t v : Bool) (n : ℕ) → Back ≡ (if t then Call n else if v then Stop else On) → ⊥
+not_back : (t v : Bool) (n : ℕ) → Back ≡ (if t then Call n else (if v then Stop else On)) → ⊥
 not_back true v n e = let z : ◌≡◌ {A = ℕ} 0 1 = cc in omega arith
 not_back false true n e = let z : ◌≡◌ {A = ℕ} 0 1 = cc in omega arith
 not_back false false n e = let z : ◌≡◌ {A = ℕ} 0 1 = cc in omega arith

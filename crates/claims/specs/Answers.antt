@@ -1,5 +1,6 @@
 -- What a caller gets, in the words of demands 1 and of stepping: the answer, and what one executed block more changes.
-use Rattle.terms.specs.Common.{ℕ, suc, ◌≤◌, ◌≡◌, Bool, true, List, [], ◌∷◌, ◌++◌, eqb, length}
+use Rattle.std.specs.Prelude.{◌≤◌, ◌≡◌, ◌∷◌, ◌++◌}
+use Rattle.terms.specs.Common.{ℕ, suc, Bool, true, List, [], eqb, length}
 use Rattle.terms.specs.Terms.{any}
 use Rattle.lengths.specs.Units.{len}
 use Rattle.refusals.specs.{declared.Refusal.Refusal, declared.Place.Place, Numbers.number_of, declared.Answer.Answer}

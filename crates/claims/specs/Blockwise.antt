@@ -1,8 +1,8 @@
 -- A run seen block by block: where it stands after the first n executed blocks, which blocks those were and what each added.
 -- The rules of the run (specs/Walk.antt of `runs`) go by programs and calls; proofs/Runs.antt shows that both give
 -- the same for every n.
-use Rattle.terms.specs.Common.{ℕ, zero, suc, ◌-◌, Bool, true, false, not, ◌||◌, List, [], ◌∷◌, ◌++◌, ltb, length}
-use Rattle.terms.specs.Terms.{if◌then◌else◌}
+use Rattle.std.specs.Prelude.{◌-◌, ◌||◌, ◌∷◌, ◌++◌, if◌then◌else◌}
+use Rattle.terms.specs.Common.{ℕ, zero, suc, Bool, true, false, not, List, [], ltb, length}
 use Rattle.refusals.specs.declared.{Refusal.Refusal, Refusal.TheVariants.NoEnd, Refusal.TheVariants.FirstBlock, Refusal.TheVariants.BadSetup, Refusal.TheVariants.DataTooLong, Place.Place}
 use Rattle.setup.specs.{declared.Setup.Setup, Limits.valid_setup, Frame.bed_of, Frame.switch_on}
 use Rattle.records.specs.{declared.Record.Record, Layout.room_of}
@@ -185,8 +185,8 @@ begun_by (table main subs) first bs room =
 unfoldable pub begun : Setup → List ℕ → ℕ → Sofar
 begun s bytes room =
     if ltb 65_535 (length bytes) then refused_at_once (first_of s) room DataTooLong nowhere
-    else if not (valid_setup s) then refused_at_once (first_of s) room BadSetup nowhere
-    else begun_by (table_in (blocks_of bytes)) (first_of s) (blocks_of bytes) room
+    else (if not (valid_setup s) then refused_at_once (first_of s) room BadSetup nowhere
+    else begun_by (table_in (blocks_of bytes)) (first_of s) (blocks_of bytes) room)
 
 -- the first n executed blocks of a data set under a setup
 unfoldable pub first_blocks : Setup → List ℕ → ℕ → ℕ → Sofar

@@ -1,6 +1,7 @@
 -- Demand 3, "Moving the work moves the cut and nothing else": the two setups, and what the second one answers where the displaced
 -- path leaves the travel.
-use Rattle.terms.specs.Common.{ℕ, suc, ◌≡◌, Bool, true, false, List, [], ◌∷◌, ◌++◌, map, ◌+ℤ◌, length}
+use Rattle.std.specs.Prelude.{◌≡◌, ◌∷◌, ◌++◌, ◌+ℤ◌}
+use Rattle.terms.specs.Common.{ℕ, suc, Bool, true, false, List, [], map, length}
 use Rattle.refusals.specs.Answers.{refused_with, report_of}
 use Rattle.setup.specs.{declared.Axes.Axes, declared.Setup.Setup, Frame.point_of}
 use Rattle.records.specs.{declared.Record.Record, Path.path_stays_in, Path.record_moved}

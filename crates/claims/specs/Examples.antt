@@ -1,7 +1,8 @@
 -- One worked pair of setups for each half of demand 3. Under setup T a full turn from workpiece X0 Y0 reaches Y 1,500,000 at its
 -- highest. Displaced by 13,500,000 it touches the travel's end, Y 15,000,000. Displaced by one unit more it leaves the travel,
 -- though its start and its end, both at Y 14,500,001, are inside.
-use Rattle.terms.specs.Common.{ℕ, List, [], ◌∷◌, ℤ, pos}
+use Rattle.std.specs.Prelude.{◌∷◌}
+use Rattle.terms.specs.Common.{ℕ, List, [], ℤ, pos}
 use Rattle.terms.specs.Terms.{bytes}
 use Rattle.lengths.specs.{Units.len, declared.Point.Point}
 use Rattle.codes.specs.declared.Plane.TheVariants.{G17}

@@ -1,6 +1,7 @@
 -- Document 02, #102: a plate of holes, written short and in full. Where a word stands in the data counts only for the byte that a
 -- refusal names, and is left out here: every word stands at byte 0.
-use Rattle.terms.specs.Common.{ℕ, ◌-◌, Option, none, some, List, [], ◌∷◌, ◌++◌}
+use Rattle.std.specs.Prelude.{◌-◌, ◌∷◌, ◌++◌}
+use Rattle.terms.specs.Common.{ℕ, Option, none, some, List, []}
 use Rattle.terms.specs.Terms.{byte}
 use Rattle.refusals.specs.declared.Refusal.{Refusal}
 use Rattle.words.specs.{declared.Number.Number, declared.Word.Word, Words.these}

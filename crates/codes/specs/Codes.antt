@@ -1,5 +1,6 @@
 -- Document 01, "Codes": the groups of the G codes, their meaning, and the M codes.
-use Rattle.terms.specs.Common.{ℕ, Bool, ◌&&◌, ◌||◌, List, [], ◌∷◌, eqb}
+use Rattle.std.specs.Prelude.{◌&&◌, ◌||◌, ◌∷◌}
+use Rattle.terms.specs.Common.{ℕ, Bool, List, [], eqb}
 use Rattle.terms.specs.Terms.{lookup}
 use Rattle.codes.specs.declared.{Plane.TheVariants.G17, Plane.TheVariants.G18, Plane.TheVariants.G19, Unit.TheVariants.Inch, Unit.TheVariants.Millimetre}
 use Rattle.codes.specs.declared.{Distance.TheVariants.Absolute, Distance.TheVariants.Incremental, Return.TheVariants.ToInitial, Return.TheVariants.ToR, Code.Code, Misc.Misc}

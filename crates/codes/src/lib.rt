@@ -1,7 +1,7 @@
 // The codes of document 01, "Codes": what a G or an M number means.
 #![tactic(auto)]
 
-ghost use Rattle.terms.specs.Common.{◌≡◌};
+ghost use Rattle.std.specs.Prelude.{◌≡◌};
 ghost use Rattle.codes.specs.Codes.{code_of, misc_of, group_of, misc_number, cycle_number};
 
 #[derive(Clone, Copy)]

@@ -1,6 +1,7 @@
 -- The options by the words of a command. Assumes nothing.
+use Rattle.std.specs.Prelude.{if◌then◌else◌}
 use Rattle.terms.proofs.Common.{ℕ, ◌+◌, ◌≤◌, ◌<◌, ◌≡◌, refl, sym, ap, ◌∙◌, Bool, true, false, not, ◌&&◌, List, arith, leb, ltb, length, take, length-take, slice, take-length, leb-true, le-leb, lt-leb, le-ltb, lt-ltb, not-true, not-false}
-use Rattle.terms.specs.Terms.{if◌then◌else◌, bytes}
+use Rattle.terms.specs.Terms.{bytes}
 use Rattle.texts.specs.{Texts.same_bytes, Figures.digits_in, declared.Digits.Digits, declared.Digits.TheVariants.Are, declared.Digits.TheVariants.Others}
 use Rattle.texts.proofs.Places.{same_lengths}
 use Rattle.commands.specs.{Words.word_of, declared.options.Options.Options}

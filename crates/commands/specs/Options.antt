@@ -1,8 +1,9 @@
 -- The words of a run after `run SETUP DATA`, as the help tells them: "[LIST] [--blocks N] [--room R] [--partial]". "N: only
 -- the first N blocks; R: at most R bytes of records, 1048576 where it is not given". Each option may be given once, in any
 -- order.
-use Rattle.terms.specs.Common.{ℕ, ◌+◌, Bool, true, false, not, ◌&&◌, List, leb, ltb, take}
-use Rattle.terms.specs.Terms.{if◌then◌else◌, bytes}
+use Rattle.std.specs.Prelude.{◌+◌, ◌&&◌, if◌then◌else◌}
+use Rattle.terms.specs.Common.{ℕ, Bool, true, false, not, List, leb, ltb, take}
+use Rattle.terms.specs.Terms.{bytes}
 use Rattle.texts.specs.{Texts.same_bytes, Figures.digits_in, declared.Digits.Digits, declared.Digits.TheVariants.Are, declared.Digits.TheVariants.Others}
 use Rattle.commands.specs.{Words.word_of, declared.options.Options.Options}
 
@@ -41,9 +42,9 @@ with_partial o =
 unfoldable pub with_option : List ℕ → List ℕ → Options → Options
 with_option name number o =
     if same_bytes name (bytes "--blocks") then with_blocks o (digits_in number)
-    else if same_bytes name (bytes "--room") then with_room o (digits_in number)
-    else if same_bytes name (bytes "--partial") then with_partial o
-    else wrong_options
+    else (if same_bytes name (bytes "--room") then with_room o (digits_in number)
+    else (if same_bytes name (bytes "--partial") then with_partial o
+    else wrong_options)
 
 -- the next option, where a word is left and nothing was wrong before
 unfoldable pub with_next : List ℕ → ℕ → Options → Options
@@ -56,7 +57,7 @@ with_no_more count o = if o.fine && ltb o.next count then wrong_options else o
 
 -- LIST is the fourth word, unless an option stands there
 unfoldable pub is_listed : List ℕ → ℕ → Bool
-is_listed line count = ltb 3 count && not (same_bytes (take 2 (word_of 3 line)) (bytes "--"))
+is_listed line count = ltb 3 count && not (same_bytes (take 2 (word_of 3 line)) (bytes ")--"))
 
 unfoldable pub first_options : Bool → Options
 first_options listed = if listed then no_options true 4 else no_options false 3

@@ -1,5 +1,6 @@
 -- The words of a command, each ended by a byte 0, which no word can hold.
-use Rattle.terms.specs.Common.{ℕ, zero, suc, ◌+◌, Bool, not, List, eqb, length, drop}
+use Rattle.std.specs.Prelude.{◌+◌}
+use Rattle.terms.specs.Common.{ℕ, zero, suc, Bool, not, List, eqb, length, drop}
 use Rattle.words.specs.Numbers.{run, count}
 
 abbrev pub is_end : ℕ → Bool

@@ -3,7 +3,8 @@
 
 mod options;
 
-ghost use Rattle.terms.specs.Common.{◌≡◌, ◌+◌, ◌≤◌, length, drop};
+ghost use Rattle.std.specs.Prelude.{◌≡◌, ◌+◌, ◌≤◌};
+ghost use Rattle.terms.specs.Common.{length, drop};
 ghost use Rattle.texts.specs.Texts.{same_bytes};
 ghost use Rattle.commands.specs.Words.{count_in, word_in, after_word, after_words, word_of};
 

@@ -1,5 +1,5 @@
 // The options of a run, and whether it names a list. Where one is wrong, a line says so.
-ghost use Rattle.terms.specs.Common.{◌≡◌, ◌+◌, ◌≤◌, ◌<◌};
+ghost use Rattle.std.specs.Prelude.{◌≡◌, ◌+◌, ◌≤◌, ◌<◌};
 ghost use Rattle.texts.specs.Figures.{digits_in};
 ghost use Rattle.commands.specs.Options.{no_options, wrong_options, with_blocks, with_room, with_partial, with_option, with_next, with_no_more, is_listed, first_options, options_of};
 ghost use Rattle.commands.specs.Words.{word_of};

@@ -1,6 +1,6 @@
 -- Laws of the passes of a cycle: what one pass does, and how the next follows on it. Assumes nothing.
+use Rattle.std.specs.Prelude.{if◌then◌else◌}
 use Rattle.terms.proofs.Common.{ℕ, zero, suc, ◌≡◌, refl, sym, ◌∙◌, ap, ap₂, Bool, true, false, List, [], ◌∷◌, ◌++◌}
-use Rattle.terms.specs.Terms.{if◌then◌else◌}
 use Rattle.lengths.specs.{declared.Len.Len, declared.Point.Point, Points.at_height}
 use Rattle.codes.specs.declared.Cycle.{Cycle, TheVariants.G81, TheVariants.G82, TheVariants.G85, TheVariants.G89}
 use Rattle.codes.specs.declared.{Return.Return, Return.TheVariants.ToInitial, Return.TheVariants.ToR, Distance.Distance}

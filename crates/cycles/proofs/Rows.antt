@@ -1,8 +1,8 @@
 -- The records of a pass by their places. Assumes nothing.
+use Rattle.std.specs.Prelude.{if◌then◌else◌}
 use Rattle.terms.proofs.Common.{ℕ, zero, suc, ◌+◌, ◌-◌, ◌≤◌, ◌<◌, ◌≡◌, refl, sym, ◌∙◌, ap, Bool, true, false, List, [], ◌∷◌, ◌++◌, arith, length, length-append}
 use denote.Enum.Declared.{tag_of}
 use types.Run.{OneOf, miss}
-use Rattle.terms.specs.Terms.{if◌then◌else◌}
 use Rattle.lengths.specs.{declared.Len.Len, declared.Point.Point, Points.at_height}
 use Rattle.codes.specs.declared.Cycle.{Cycle, TheVariants.G81, TheVariants.G82, TheVariants.G85, TheVariants.G89}
 use Rattle.codes.{specs.declared.Return.Return, specs.declared.Return.TheVariants.ToInitial, specs.declared.Return.TheVariants.ToR, specs.contracts.Cycle.the_type as cycle-type}

@@ -1,5 +1,6 @@
 -- The bounds that a run keeps where a cycle is done, and what the functions under them answer.
-use Rattle.terms.specs.Common.{ℕ, ◌+◌, ◌≤◌, ◌≡◌, List, ◌∷◌, length, drop}
+use Rattle.std.specs.Prelude.{◌+◌, ◌≤◌, ◌≡◌, ◌∷◌}
+use Rattle.terms.specs.Common.{ℕ, List, length, drop}
 use Rattle.lengths.specs.{declared.Len.Len, View.Within, declared.Point.Point}
 use Rattle.codes.specs.declared.{Cycle.Cycle, Return.Return}
 use Rattle.words.specs.declared.Given.{Given}

@@ -1,7 +1,8 @@
 // Cycles: the levels of a hole and its passes. All passes of a block are tested before a byte of them is written.
 #![tactic(auto)]
 
-ghost use Rattle.terms.specs.Common.{◌≡◌, ◌<◌, [], ◌∷◌, ◌++◌, length};
+ghost use Rattle.std.specs.Prelude.{◌≡◌, ◌<◌, ◌∷◌, ◌++◌};
+ghost use Rattle.terms.specs.Common.{[], length};
 ghost use Rattle.lengths.specs.View.{Within};
 ghost use Rattle.records.specs.{Path.path_of, Path.path_end, Path.end_of, Layout.kind_of, Layout.kind_length, Writing.moved_bytes, Writing.RoomFor, Serving.Wrote};
 ghost use Rattle.settings.specs.{CycleWords.kept_z, CycleWords.kept_r, Bounds.Sized};

@@ -1,8 +1,8 @@
 -- The answer of a drawing, as the functions reach it. Assumes nothing.
+use Rattle.std.specs.Prelude.{if◌then◌else◌}
 use Rattle.terms.proofs.Common.{ℕ, ◌≤◌, ◌<◌, ◌≡◌, refl, sym, ap, ◌∙◌, Bool, true, false, List, [], ◌∷◌, arith, lt-ltb, le-ltb, ltb-true, ltb, length, sets}
 use denote.Enum.Declared.{tag_of}
 use types.Run.{OneOf, miss}
-use Rattle.terms.specs.Terms.{if◌then◌else◌}
 use Rattle.setup.specs.{declared.Setup.Setup, Limits.valid_setup}
 use Rattle.records.specs.declared.{Fault.Fault, Listed.Listed, Listed.TheVariants.Next, Listed.TheVariants.End, Listed.TheVariants.Faulty as faulty}
 use Rattle.records.specs.contracts.Listed.{the_type}

@@ -1,6 +1,7 @@
 -- The whole picture of a list under a setup, as SVG text, and what the library answers.
-use Rattle.terms.specs.Common.{ℕ, ◌+◌, ◌*◌, ◌/◌, ◌≤◌, ◌≡◌, true, false, List, ltb, pos, neg_ℤ, nat_abs, ◌-ℤ◌, length, sets}
-use Rattle.terms.specs.Terms.{if◌then◌else◌, bytes}
+use Rattle.std.specs.Prelude.{◌+◌, ◌*◌, ◌/◌, ◌≤◌, ◌≡◌, ◌-ℤ◌, if◌then◌else◌}
+use Rattle.terms.specs.Common.{ℕ, true, false, List, ltb, pos, neg_ℤ, nat_abs, length, sets}
+use Rattle.terms.specs.Terms.{bytes}
 use Rattle.lengths.specs.{Units.len, Units.◌⊕◌, Units.◌⊖◌, declared.Point.Point, declared.Flat.Flat, Near.Near}
 use Rattle.setup.specs.{declared.Setup.Setup, Frame.point_of, Limits.valid_setup}
 use Rattle.records.specs.declared.{Record.Record, Listed.Listed, Listed.TheVariants.Next, Listed.TheVariants.End, Listed.TheVariants.Faulty as faulty}

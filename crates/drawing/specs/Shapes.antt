@@ -1,6 +1,7 @@
 -- What a record looks like: rapids, cuts and arcs as SVG text, in units, seen from above or from the side.
-use Rattle.terms.specs.Common.{ℕ, Bool, true, false, ◌&&◌, List, [], ◌∷◌, eqb, nat_abs, ◌-ℤ◌}
-use Rattle.terms.specs.Terms.{if◌then◌else◌, bytes}
+use Rattle.std.specs.Prelude.{◌&&◌, ◌∷◌, ◌-ℤ◌, if◌then◌else◌}
+use Rattle.terms.specs.Common.{ℕ, Bool, true, false, List, [], eqb, nat_abs}
+use Rattle.terms.specs.Terms.{bytes}
 use Rattle.lengths.specs.declared.{Point.Point, Flat.Flat}
 use Rattle.records.specs.{declared.Record.Record, Path.path_of, Path.path_end}
 use Rattle.records.specs.declared.Record.TheVariants.{RP, LN, AR, AL, DW, SP, SO, PA, EN}

@@ -1,5 +1,6 @@
 -- The records of a list.
-use Rattle.terms.specs.Common.{ℕ, ◌-◌, List, length}
+use Rattle.std.specs.Prelude.{◌-◌}
+use Rattle.terms.specs.Common.{ℕ, List, length}
 use Rattle.records.specs.{declared.Record.Record, declared.Listed.Listed, Reading.read_all}
 
 -- the records of a list from a place on, and what the reader says after them: no list has more records than bytes

@@ -1,5 +1,5 @@
 // The path of a record list as SVG text, rapids and cuts in two layers.
-ghost use Rattle.terms.specs.Common.{◌≡◌};
+ghost use Rattle.std.specs.Prelude.{◌≡◌};
 ghost use Rattle.svg.specs.{Text.Fills, Lines.seen_from};
 ghost use Rattle.drawing.specs.{Shapes.same, Shapes.cut, Shapes.as_cut, Shapes.drawn, Shapes.path, Walks.records_from, Walks.end_from};
 

@@ -1,5 +1,6 @@
 // Pictures of a record list, as SVG text: the path seen from above and from the side, in units.
-ghost use Rattle.terms.specs.Common.{◌≤◌, ◌≡◌, true};
+ghost use Rattle.std.specs.Prelude.{◌≤◌, ◌≡◌};
+ghost use Rattle.terms.specs.Common.{true};
 ghost use Rattle.setup.specs.Limits.{valid_setup};
 ghost use Rattle.lengths.specs.Near.{Near};
 ghost use Rattle.svg.specs.Text.{Fills};

@@ -1,5 +1,6 @@
 -- What the code reads of a block's words, by what is left of the order of refusals.
-use Rattle.terms.specs.Common.{ℕ, ◌+◌, ◌≤◌, ◌≡◌, List, length, drop}
+use Rattle.std.specs.Prelude.{◌+◌, ◌≤◌, ◌≡◌}
+use Rattle.terms.specs.Common.{ℕ, List, length, drop}
 use Rattle.lines.specs.Blocks.{text_from, length_from}
 use Rattle.words.specs.declared.Word.{Word}
 use Rattle.setup.specs.{declared.Bed.Bed, Fair.Fair}

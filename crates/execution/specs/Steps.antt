@@ -1,5 +1,6 @@
 -- The steps of the code through the order of refusals, each stated over what is left of one list of them.
-use Rattle.terms.specs.Common.{ℕ, ◌≡◌, Bool, true, false, not, ◌&&◌, List, ◌++◌, drop, take}
+use Rattle.std.specs.Prelude.{◌≡◌, ◌&&◌, ◌++◌}
+use Rattle.terms.specs.Common.{ℕ, Bool, true, false, not, List, drop, take}
 use Rattle.terms.specs.Terms.{first_of}
 use Rattle.refusals.specs.declared.Refusal.TheVariants.{BadParameter, LeavesTravel}
 use Rattle.codes.specs.{declared.Misc.Misc, Codes.is_m}

@@ -1,5 +1,6 @@
 // What the words of a block say: read, and then judged.
-ghost use Rattle.terms.specs.Common.{◌≤◌, length};
+ghost use Rattle.std.specs.Prelude.{◌≤◌};
+ghost use Rattle.terms.specs.Common.{length};
 ghost use Rattle.setup.specs.Fair.{Fair};
 ghost use Rattle.words.specs.Packed.{words_in};
 ghost use Rattle.letters.specs.Judging.{Stored};

@@ -1,5 +1,6 @@
 // A block's motion planned, tested as a whole, and then written with the records before and after it.
-ghost use Rattle.terms.specs.Common.{ℕ, ◌-◌, ◌≤◌, ◌≡◌, List, length};
+ghost use Rattle.std.specs.Prelude.{◌-◌, ◌≤◌, ◌≡◌};
+ghost use Rattle.terms.specs.Common.{ℕ, List, length};
 ghost use Rattle.words.specs.declared.Word.{Word};
 ghost use Rattle.records.specs.{Serving.Wrote, Writing.moved_bytes, Writing.RoomFor};
 ghost use Rattle.work.specs.{Work.way_of, Needs.Writable};

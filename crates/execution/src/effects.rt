@@ -1,5 +1,6 @@
 // What a block does beside its motion, in the order of effects.
-ghost use Rattle.terms.specs.Common.{◌≡◌, nat_abs};
+ghost use Rattle.std.specs.Prelude.{◌≡◌};
+ghost use Rattle.terms.specs.Common.{nat_abs};
 ghost use Rattle.blocks.specs.Exec.{kept_by, working, spindle_records, last_records, control_of};
 ghost use Rattle.work.specs.Work.{brief_records};
 ghost use Rattle.execution.specs.Steps.{settled_at};

@@ -6,7 +6,8 @@ mod checking;
 mod effects;
 mod order;
 
-ghost use Rattle.terms.specs.Common.{ℕ, ◌-◌, ◌≤◌, ◌+◌, List, length, drop};
+ghost use Rattle.std.specs.Prelude.{◌-◌, ◌≤◌, ◌+◌};
+ghost use Rattle.terms.specs.Common.{ℕ, List, length, drop};
 ghost use Rattle.lines.specs.Blocks.{text_from, length_from};
 ghost use Rattle.words.specs.declared.Word.{Word};
 ghost use Rattle.setup.specs.Fair.{Fair};

@@ -1,5 +1,6 @@
 // The tests of a block in the order of refusals, from 3 on to that of a cycle. Those of its call, 5 and 6, come where it is followed.
-ghost use Rattle.terms.specs.Common.{◌≡◌, Bool, ◌&&◌};
+ghost use Rattle.std.specs.Prelude.{◌≡◌, ◌&&◌};
+ghost use Rattle.terms.specs.Common.{Bool};
 ghost use Rattle.letters.specs.declared.BlockCode.TheVariants.{Moving};
 ghost use Rattle.blocks.specs.Exec.{lacks_centre, lacks_parameter, drills, is_g17, cannot_drill, working};
 ghost use Rattle.blocks.specs.Motions.{cycle_done};

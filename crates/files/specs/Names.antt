@@ -1,6 +1,6 @@
 -- Which file a name stands for, and what becomes of it where a command wants to write there.
-use Rattle.terms.specs.Common.{ℕ, ◌/◌, ◌%◌, ◌≤◌, ◌≡◌, Bool, false, not, ℤ, pos, ◌&&◌, ◌||◌, List, eqb}
-use Rattle.terms.specs.Terms.{if◌then◌else◌}
+use Rattle.std.specs.Prelude.{◌/◌, ◌%◌, ◌≤◌, ◌≡◌, ◌&&◌, ◌||◌, if◌then◌else◌}
+use Rattle.terms.specs.Common.{ℕ, Bool, false, not, ℤ, pos, List, eqb}
 use Rattle.files.specs.declared.{Named.Named, Fate.Fate, status.Filed.Filed}
 use Rattle.files.specs.declared.Fate.TheVariants.{New, Old, Read, Link, Folder, Special, Locked, Unknown}
 
@@ -16,16 +16,16 @@ missing_fate missing = if missing then New else Unknown
 unfoldable pub kind_fate : ℕ → Bool → Fate
 kind_fate kind locked =
     if eqb kind 8 then (if locked then Locked else Old)
-    else if eqb kind 4 then Folder
-    else Special
+    else (if eqb kind 4 then Folder
+    else Special)
 
 -- the kind is in the four bits of the mode above the twelve of its rights
 unfoldable pub fate_of : Named → Named → Named → Fate
 fate_of out first second =
     if same_file out first || same_file out second then Read
-    else if out.link then Link
-    else if not out.there then missing_fate out.missing
-    else kind_fate (out.mode / 4096 % 16) out.locked
+    else (if out.link then Link
+    else (if not out.there then missing_fate out.missing
+    else kind_fate (out.mode / 4096 % 16) out.locked))
 
 -- what the system said of a file, told of its name: a file that is there is not missing
 unfoldable pub named_of : Filed → Bool → Bool → ℤ → Bool → Bool → Named

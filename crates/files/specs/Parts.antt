@@ -1,8 +1,9 @@
 -- The file beside a path, which has the bytes until all of them are there. A number's six figures take the place of the X's, so
 -- that no other file has the name.
-use Rattle.terms.specs.Common.{ℕ, ◌+◌, ◌-◌, ◌/◌, ◌%◌, ◌≡◌, ◌≤◌, List, [], ◌∷◌, ◌++◌, ltb, length, take, paste}
+use Rattle.std.specs.Prelude.{◌+◌, ◌-◌, ◌/◌, ◌%◌, ◌≡◌, ◌≤◌, ◌∷◌, ◌++◌, if◌then◌else◌}
+use Rattle.terms.specs.Common.{ℕ, List, [], ltb, length, take, paste}
 use Rattle.io.specs.Counts.{IsPrefixLen}
-use Rattle.terms.specs.Terms.{if◌then◌else◌, bytes}
+use Rattle.terms.specs.Terms.{bytes}
 
 unfoldable pub part_of : List ℕ → List ℕ
 part_of path = path ++ bytes ".part-XXXXXX"

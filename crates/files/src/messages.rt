@@ -1,5 +1,5 @@
 // One line that says what is wrong, with a file or with a word of the command.
-ghost use Rattle.terms.specs.Common.{◌≡◌};
+ghost use Rattle.std.specs.Prelude.{◌≡◌};
 ghost use Rattle.io.specs.Counts.{IsPrefixLen};
 ghost use Rattle.files.specs.Shown.{shown_as};
 

@@ -1,5 +1,5 @@
 // Which file a name stands for, as the system says, and whether a new file may take its place.
-ghost use Rattle.terms.specs.Common.{◌≡◌};
+ghost use Rattle.std.specs.Prelude.{◌≡◌};
 ghost use Rattle.files.specs.Names.{same_file, kind_fate, fate_of};
 
 use crate::system::{FOLDER, REGULAR};

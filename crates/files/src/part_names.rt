@@ -1,5 +1,6 @@
 // The file beside a path, to which bytes go until all of them are there: its name, six characters of which a number takes.
-ghost use Rattle.terms.specs.Common.{◌≡◌, ◌+◌, ◌≤◌, length};
+ghost use Rattle.std.specs.Prelude.{◌≡◌, ◌+◌, ◌≤◌};
+ghost use Rattle.terms.specs.Common.{length};
 ghost use Rattle.files.specs.Parts.{Puts, Names, Numbered, figures, figure};
 
 // The path with `.part-XXXXXX` after it, or no byte where there is no room for that and a 0.

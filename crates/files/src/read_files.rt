@@ -1,7 +1,7 @@
 // A file's bytes. An error is told from the file's end, so that a folder, or a file that breaks off, is not taken for a short
 // file.
-ghost use Rattle.terms.specs.Common.{◌≡◌, ◌+◌, ◌≤◌, length};
-ghost use Rattle.std.specs.Prelude.{IfOk};
+ghost use Rattle.terms.specs.Common.{length};
+ghost use Rattle.std.specs.Prelude.{IfOk, ◌≡◌, ◌+◌, ◌≤◌};
 ghost use Rattle.io.specs.Counts.{IsPrefixLen};
 
 use crate::messages::{begin_line, complain_why};

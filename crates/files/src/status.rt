@@ -1,6 +1,6 @@
 // The system asked about a name.
-ghost use Rattle.terms.specs.Common.{◌≡◌, not, ◌&&◌, length};
-ghost use Rattle.std.specs.Prelude.{IfOk};
+ghost use Rattle.terms.specs.Common.{not, length};
+ghost use Rattle.std.specs.Prelude.{IfOk, ◌≡◌, ◌&&◌};
 ghost use Rattle.files.specs.Names.{named_of, NamedBy, Spelt};
 
 use crate::Named;

@@ -1,6 +1,6 @@
 -- What the code of a block answers, by the verdict of the rules, and what the verdict keeps. Assumes nothing.
+use Rattle.std.specs.Prelude.{if◌then◌else◌}
 use Rattle.terms.proofs.Common.{ℕ, ◌+◌, ◌-◌, ◌≤◌, ◌≡◌, refl, ◌∙◌, ap, Bool, true, false, ◌&&◌, List, [], ◌∷◌, arith, length, drop, drop-drop}
-use Rattle.terms.specs.Terms.{if◌then◌else◌}
 use Rattle.refusals.specs.declared.Refusal.{Refusal}
 use Rattle.lines.proofs.Laws.{text_drop, text_next}
 use Rattle.lines.specs.Blocks.{Block, is_slashed, begins_with, text_from, length_from, block_from}

@@ -1,6 +1,7 @@
 -- The walk at a place of the data: what the block there leads to. Assumes nothing.
+use Rattle.std.specs.Prelude.{if◌then◌else◌}
 use Rattle.terms.proofs.Common.{ℕ, ◌+◌, ◌≤◌, ◌<◌, ◌≡◌, refl, sym, ◌∙◌, ap, Bool, true, false, ◌&&◌, ◌||◌, List, [], arith, dec_lt, length, drop, drop_of_length-le}
-use Rattle.terms.specs.Terms.{if◌then◌else◌, first_of}
+use Rattle.terms.specs.Terms.{first_of}
 use Rattle.refusals.specs.declared.{Refusal.TheVariants.NoEnd, Place.Place}
 use Rattle.lines.{specs.Serving.blocks_from, proofs.Lines.at_place, proofs.Lines.blocks_step, proofs.Lines.blocks_end}
 use Rattle.lines.specs.Blocks.{Block, block_from, length_from, begins_with, is_percent, is_slashed, text_from}

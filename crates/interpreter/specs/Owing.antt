@@ -1,5 +1,6 @@
 -- What the entry points owe, by the rules of the run.
-use Rattle.terms.specs.Common.{ℕ, ◌+◌, ◌≡◌, List, ◌++◌, length, take, drop}
+use Rattle.std.specs.Prelude.{◌+◌, ◌≡◌, ◌++◌}
+use Rattle.terms.specs.Common.{ℕ, List, length, take, drop}
 use Rattle.setup.specs.declared.Setup.{Setup}
 use Rattle.records.specs.{declared.Record.Record, declared.Listed.TheVariants.End, Layout.list_bytes, Reading.trail, Reading.after, Reading.read_all}
 use Rattle.runs.specs.{Run.answer_of, Run.standing_of, Run.records_of, declared.Budget.Budget, declared.Report.Report}

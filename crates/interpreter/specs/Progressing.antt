@@ -1,6 +1,7 @@
 -- What the code of the run answers and leaves in the list, by the rules of the walk.
-use Rattle.terms.specs.Common.{ℕ, ◌+◌, ◌-◌, ◌≤◌, ◌<◌, ◌≡◌, Bool, true, ◌&&◌, ◌||◌, some, List, [], ◌∷◌, length, drop, sets}
-use Rattle.terms.specs.Terms.{if◌then◌else◌, byte}
+use Rattle.std.specs.Prelude.{◌+◌, ◌-◌, ◌≤◌, ◌<◌, ◌≡◌, ◌&&◌, ◌||◌, ◌∷◌, if◌then◌else◌}
+use Rattle.terms.specs.Common.{ℕ, Bool, true, some, List, [], length, drop, sets}
+use Rattle.terms.specs.Terms.{byte}
 use Rattle.refusals.specs.declared.Place.{Place}
 use Rattle.lines.specs.{Blocks.Block, Blocks.block_from, Blocks.blocks_of, Blocks.begins_with, Blocks.is_percent, Blocks.is_slashed, Blocks.text_from, Serving.blocks_from}
 use Rattle.setup.specs.{declared.Bed.Bed, Fair.Fair}

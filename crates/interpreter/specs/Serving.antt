@@ -1,5 +1,6 @@
 -- What only serves the proofs of the entry points: what their inner functions are handed and answer.
-use Rattle.terms.specs.Common.{ℕ, ◌+◌, ◌≤◌, ◌<◌, ◌≡◌, List, length, sets}
+use Rattle.std.specs.Prelude.{◌+◌, ◌≤◌, ◌<◌, ◌≡◌}
+use Rattle.terms.specs.Common.{ℕ, List, length, sets}
 use Rattle.lines.specs.{Blocks.block_from, Blocks.length_from, Serving.blocks_from}
 use Rattle.lengths.specs.declared.Point.{Point}
 use Rattle.records.specs.{Layout.room_of, Writing.moved_bytes}

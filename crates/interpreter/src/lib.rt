@@ -4,7 +4,8 @@
 mod reporting;
 mod walk;
 
-ghost use Rattle.terms.specs.Common.{◌≡◌, true, length};
+ghost use Rattle.std.specs.Prelude.{◌≡◌};
+ghost use Rattle.terms.specs.Common.{true, length};
 ghost use Rattle.lines.specs.Blocks.{blocks_of};
 ghost use Rattle.setup.specs.{Limits.valid_setup, Frame.offset};
 ghost use Rattle.records.specs.Reading.{read_at};

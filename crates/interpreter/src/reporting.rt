@@ -1,5 +1,5 @@
 // What the main program's ending tells: the answer, and the place of the next block.
-ghost use Rattle.terms.specs.Common.{◌≡◌};
+ghost use Rattle.std.specs.Prelude.{◌≡◌};
 ghost use Rattle.runs.specs.{Walk.Going, Run.answer_by};
 ghost use Rattle.interpreter.specs.Progressing.{how_by, next_by};
 

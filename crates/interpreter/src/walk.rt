@@ -1,5 +1,6 @@
 // The walk through the blocks of a program. A call walks the subprogram by the same function, with one level less.
-ghost use Rattle.terms.specs.Common.{◌≡◌, ℕ, ◌+◌, ◌-◌, ◌≤◌, ◌<◌, length, drop};
+ghost use Rattle.std.specs.Prelude.{◌≡◌, ◌+◌, ◌-◌, ◌≤◌, ◌<◌};
+ghost use Rattle.terms.specs.Common.{ℕ, length, drop};
 ghost use Rattle.lines.specs.Blocks.{length_from, block_from};
 ghost use Rattle.setup.specs.Fair.{Fair};
 ghost use Rattle.programs.specs.{declared.Programs.Programs, Places.Begins, Places.Placed};

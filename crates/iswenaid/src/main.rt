@@ -1,8 +1,8 @@
 // The program for the shops: its arguments are a command.
 #![tactic(auto)]
 
-ghost use Rattle.terms.specs.Common.{◌≡◌, ◌≤◌, length};
-ghost use Rattle.std.specs.Prelude.{IfSome};
+ghost use Rattle.terms.specs.Common.{length};
+ghost use Rattle.std.specs.Prelude.{IfSome, ◌≡◌, ◌≤◌};
 ghost use Rattle.io.specs.Counts.{IsPrefixLen};
 
 use files::STDERR_FILENO;

@@ -1,6 +1,7 @@
 -- Bounds of points, and what the functions that move a point answer: the value as a definition, and the balance of each axis
 -- (specs/View.antt), from which a caller's bounds follow by linear arithmetic.
-use Rattle.terms.specs.Common.{ℕ, ◌≡◌}
+use Rattle.std.specs.Prelude.{◌≡◌}
+use Rattle.terms.specs.Common.{ℕ}
 use Rattle.lengths.specs.{View.Within, Serving.Sum, Serving.Difference, declared.Point.Point, declared.Flat.Flat, Points.moved, Points.moved_back}
 
 -- each coordinate is at most n away from 0

@@ -1,5 +1,6 @@
 -- Points, the axes of a plane, and the travel.
-use Rattle.terms.specs.Common.{Bool, ◌&&◌}
+use Rattle.std.specs.Prelude.{◌&&◌}
+use Rattle.terms.specs.Common.{Bool}
 use Rattle.terms.specs.Terms.{between}
 use Rattle.codes.specs.declared.Plane.{Plane, TheVariants.G17, TheVariants.G18, TheVariants.G19}
 use Rattle.lengths.specs.{declared.Len.Len, Units.◌⊕◌, Units.◌⊖◌, declared.Point.Point, declared.Flat.Flat, declared.Travel.Travel}

@@ -1,6 +1,7 @@
 -- What only serves proofs: what each method on lengths asks and answers, the value as a definition and the same as linear facts
 -- of naturals (specs/View.antt).
-use Rattle.terms.specs.Common.{ℕ, ◌+◌, ◌-◌, ◌*◌, ◌^◌, ◌≤◌, ◌<◌, ◌≡◌, true, ℤ, pos, neg_ℤ, ◌-ℤ◌, ◌*ℤ◌, nat_abs}
+use Rattle.std.specs.Prelude.{◌+◌, ◌-◌, ◌*◌, ◌^◌, ◌≤◌, ◌<◌, ◌≡◌, ◌-ℤ◌, ◌*ℤ◌}
+use Rattle.terms.specs.Common.{ℕ, true, ℤ, pos, neg_ℤ, nat_abs}
 use Rattle.lengths.specs.{declared.Len.Len, Units.len, Units.◌⊕◌, Units.◌⊖◌, Units.fits_four, Units.of_four, View.Short, View.Within, View.over, View.under}
 
 -- x − y is a number of 64 bits with a sign

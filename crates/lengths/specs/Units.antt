@@ -1,6 +1,7 @@
 -- Lengths: signed whole numbers in units of 0.00001 mm. What a reader needs of them: sums and differences, the
 -- square, and the four bytes of a number in the list.
-use Rattle.terms.specs.Common.{ℕ, suc, ◌+◌, ◌-◌, ◌*◌, ◌/◌, ◌%◌, ◌^◌, Bool, true, false, List, [], ◌∷◌, ltb, ℤ, pos, negsuc, ◌+ℤ◌, ◌-ℤ◌, nat_abs}
+use Rattle.std.specs.Prelude.{◌+◌, ◌-◌, ◌*◌, ◌/◌, ◌%◌, ◌^◌, ◌∷◌, ◌+ℤ◌, ◌-ℤ◌}
+use Rattle.terms.specs.Common.{ℕ, suc, Bool, true, false, List, [], ltb, ℤ, pos, negsuc, nat_abs}
 use Rattle.lengths.specs.declared.Len.{Len}
 
 abbrev pub len : ℤ → Len

@@ -1,6 +1,7 @@
 -- A signed number seen as the difference of two naturals, over − under. In this view a sum, a difference and an order of signed
 -- numbers are linear facts of naturals, which antt's arithmetic decides. The contracts of the methods are records of such facts.
-use Rattle.terms.specs.Common.{ℕ, zero, suc, ◌+◌, ◌^◌, ◌≤◌, ◌<◌, ℤ, pos, negsuc}
+use Rattle.std.specs.Prelude.{◌+◌, ◌^◌, ◌≤◌, ◌<◌}
+use Rattle.terms.specs.Common.{ℕ, zero, suc, ℤ, pos, negsuc}
 
 -- both are marked `abbrev`, so that at a literal they are numbers: `over (negsuc 4)` is 0
 abbrev pub over : ℤ → ℕ

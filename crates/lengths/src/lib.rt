@@ -4,7 +4,8 @@
 
 mod points;
 
-ghost use Rattle.terms.specs.Common.{◌≡◌, ◌+◌, ◌<◌, ◌^◌, le_z, lt_z};
+ghost use Rattle.std.specs.Prelude.{◌≡◌, ◌+◌, ◌<◌, ◌^◌};
+ghost use Rattle.terms.specs.Common.{le_z, lt_z};
 ghost use Rattle.lengths.specs.Serving.{Room, Is, Counted, Sum, Difference, Negation, Apart, Product, Read};
 ghost use Rattle.lengths.specs.{Units.len, Units.sq, Units.halved, Units.fits_four, Units.four_bytes, View.over, View.under, View.Within, View.Short};
 

@@ -1,5 +1,5 @@
 // Points of the machine: at another height, in a plane, in the travel, displaced and back.
-ghost use Rattle.terms.specs.Common.{◌≡◌, ◌^◌};
+ghost use Rattle.std.specs.Prelude.{◌≡◌, ◌^◌};
 ghost use Rattle.lengths.specs.{Points.at_height, Points.flat, Points.inside, Near.Near, Near.Moved, Near.MovedBack};
 
 use crate::{Flat, Len, Point, Travel};

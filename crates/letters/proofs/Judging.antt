@@ -1,7 +1,8 @@
 -- The judgement of a block's words, word by word: what the words that are left make of it is the same at every word. Assumes
 -- nothing.
+use Rattle.std.specs.Prelude.{if◌then◌else◌}
 use Rattle.terms.proofs.Common.{ℕ, ◌+◌, ◌≤◌, ◌<◌, ◌≡◌, refl, sym, ◌∙◌, Bool, true, false, ◌&&◌, ◌||◌, some, List, [], ◌∷◌, arith, add-one, eqb, length, take, drop, get_or, drop_of_length-le, length-take-le, drop-cons, get_or-take, ne_eqb}
-use Rattle.terms.specs.Terms.{if◌then◌else◌, byte, bytes, first}
+use Rattle.terms.specs.Terms.{byte, bytes, first}
 use Rattle.codes.proofs.Tables.{Others}
 use Rattle.words.specs.{declared.Word.Word, declared.Given.Given, declared.Use.Use, declared.Value.Value, declared.Values.Values, Values.no_values}
 use Rattle.settings.specs.declared.Modes.{Modes}

@@ -1,6 +1,7 @@
 -- A word's value put at its letter's place, and the judgement of the words so far. Assumes nothing.
+use Rattle.std.specs.Prelude.{if◌then◌else◌}
 use Rattle.terms.proofs.Common.{ℕ, ◌+◌, ◌≤◌, ◌<◌, ◌≡◌, refl, ap, ◌∙◌, fun_ext, Bool, true, false, ◌&&◌, ◌||◌, List, arith, eqb, pos, length, take, get_or, set, replicate, length-set, get_or-set_same, get_or-set_other, eqb-true, eqb-false}
-use Rattle.terms.specs.Terms.{if◌then◌else◌, byte, bytes}
+use Rattle.terms.specs.Terms.{byte, bytes}
 use Rattle.codes.proofs.Tables.{Others}
 use Rattle.lengths.specs.{declared.Len.Len, Units.len}
 use Rattle.words.specs.{declared.Word.Word, declared.Given.Given, declared.Use.Use, declared.Value.Value, declared.Values.Values, Values.value_of}

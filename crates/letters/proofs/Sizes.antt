@@ -1,7 +1,8 @@
 -- How large the values of a block's words are, none of them being refused: each is within the limit of its letter's use. Assumes
 -- nothing.
+use Rattle.std.specs.Prelude.{if◌then◌else◌}
 use Rattle.terms.proofs.Common.{ℕ, ◌≤◌, min, ◌≡◌, refl, ◌∙◌, ap, Bool, true, false, not, ◌&&◌, none, some, List, [], ◌∷◌, arith, leb, eqb, ℤ, pos, lt_z, leb-true, eqb-true}
-use Rattle.terms.specs.Terms.{if◌then◌else◌, byte, bytes, first, lookup, between}
+use Rattle.terms.specs.Terms.{byte, bytes, first, lookup, between}
 use Rattle.terms.proofs.Laws.{both_left, both_right, every_place, every_place_lem}
 use Rattle.lengths.{specs.declared.Len.Len, specs.Units.len, specs.View.Within, proofs.Tests.between_near}
 use Rattle.codes.specs.declared.Cycle.{Cycle, TheVariants.G81, TheVariants.G82, TheVariants.G85, TheVariants.G89}
@@ -121,7 +122,7 @@ module _ (speeds : Speeds) (m : Modes) (code : BlockCode) (low : Within 99_999 s
 
 -- how far from 0 the value of a letter can be: P as a dwell, and any other but S as a length
 abbrev limit_for : ℕ → ℕ
-limit_for letter = if eqb letter (byte "S") then 99_999 else if eqb letter (byte "P") then 3_600_000 else 1_000_000_000
+limit_for letter = if eqb letter (byte "S") then 99_999 else (if eqb letter (byte "P") then 3_600_000 else 1_000_000_000)
 
 module _ (code : BlockCode) (plane : Plane) where
   abbrev keeps : ℕ → ℕ → Bool

@@ -1,7 +1,8 @@
 -- A block's G and M words change nothing in the judgement of its words: their use is to be codes, which is never refused here
 -- and is no value. Assumes nothing.
+use Rattle.std.specs.Prelude.{if◌then◌else◌}
 use Rattle.terms.proofs.Common.{ℕ, ◌≡◌, refl, Bool, true, false, ◌||◌, and-false, some, List, [], ◌∷◌, eqb, eqb-true}
-use Rattle.terms.specs.Terms.{if◌then◌else◌, byte, first, lookup}
+use Rattle.terms.specs.Terms.{byte, first, lookup}
 use Rattle.codes.specs.declared.Plane.{Plane}
 use Rattle.words.specs.{declared.Word.Word, declared.Given.Given, declared.Use.TheVariants.Codes, declared.Values.Values, Values.value_of, Values.no_values}
 use Rattle.settings.specs.declared.Modes.{Modes}

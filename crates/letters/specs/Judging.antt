@@ -1,6 +1,7 @@
 -- The judgement of a block's words by the refusals 2 and then 1, and how it is made word by word.
-use Rattle.terms.specs.Common.{ℕ, ◌≤◌, ◌<◌, ◌≡◌, Bool, ◌||◌, Option, none, some, List, [], ◌∷◌, eqb, length, get_or}
-use Rattle.terms.specs.Terms.{if◌then◌else◌, byte, any}
+use Rattle.std.specs.Prelude.{◌≤◌, ◌<◌, ◌≡◌, ◌||◌, ◌∷◌, if◌then◌else◌}
+use Rattle.terms.specs.Common.{ℕ, Bool, Option, none, some, List, [], eqb, length, get_or}
+use Rattle.terms.specs.Terms.{byte, any}
 use Rattle.words.specs.{declared.Word.Word, declared.Value.Value, declared.Values.Values, Serving.Written}
 use Rattle.settings.specs.declared.Modes.{Modes}
 use Rattle.letters.specs.declared.{Speeds.Speeds, BlockCode.BlockCode, Judged.Judged, Judged.TheVariants.Fine, Judged.TheVariants.Unused, Judged.TheVariants.Bad}

@@ -1,7 +1,8 @@
 -- Document 01, "Codes" and "The sixteen refusals": which words may stand in a block, what they mean there, and the
 -- refusals 4, 2 and 1 that name a word.
-use Rattle.terms.specs.Common.{ℕ, Bool, true, false, not, ◌&&◌, ◌||◌, Option, none, some, List, [], ◌∷◌, ◌++◌, map, eqb}
-use Rattle.terms.specs.Terms.{if◌then◌else◌, byte, bytes, any, first, lookup}
+use Rattle.std.specs.Prelude.{◌&&◌, ◌||◌, ◌∷◌, ◌++◌, if◌then◌else◌}
+use Rattle.terms.specs.Common.{ℕ, Bool, true, false, not, Option, none, some, List, [], map, eqb}
+use Rattle.terms.specs.Terms.{byte, bytes, any, first, lookup}
 use Rattle.codes.specs.declared.{Cycle.Cycle, Cycle.TheVariants.G81, Cycle.TheVariants.G82, Cycle.TheVariants.G85, Cycle.TheVariants.G89, Motion.Motion}
 use Rattle.codes.specs.declared.{Plane.Plane, Plane.TheVariants.G17, Plane.TheVariants.G18, Plane.TheVariants.G19, Code.Code, Code.TheVariants.Unknown, Misc.Misc, Misc.TheVariants.Other}
 use Rattle.codes.specs.declared.Motion.TheVariants.{Off, G00, G01, G02, G03, Drilling}
@@ -87,7 +88,7 @@ names_g04 ws = any (λ w. is_g w && is_g04 (code_in w)) ws
 -- "A block's code, which decides its letters, is M98, M99 or G04, else the group A code named or on"
 unfoldable pub code_under : Misc → Bool → Motion → BlockCode
 code_under misc dwells motion =
-    if is_m 98 misc then Calling else if is_m 99 misc then Returning else if dwells then Dwelling else Moving motion
+    if is_m 98 misc then Calling else (if is_m 99 misc then Returning else (if dwells then Dwelling else Moving motion))
 
 unfoldable pub block_code : Modes → List Word → BlockCode
 block_code m ws = code_under (misc_of_block ws) (names_g04 ws) m.motion

@@ -1,5 +1,6 @@
 -- The values of a block's words by places: whether a word stands, and its value, each in a list of eleven.
-use Rattle.terms.specs.Common.{ℕ, ◌<◌, ◌≡◌, Bool, true, false, List, pos, length, get_or, set}
+use Rattle.std.specs.Prelude.{◌<◌, ◌≡◌}
+use Rattle.terms.specs.Common.{ℕ, Bool, true, false, List, pos, length, get_or, set}
 use Rattle.lengths.specs.{declared.Len.Len, Units.len}
 use Rattle.words.specs.declared.{Given.Given, Value.TheVariants.Fit, Values.Values}
 use Rattle.letters.specs.Letters.{given_by, with_value}

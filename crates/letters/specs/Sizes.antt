@@ -1,5 +1,5 @@
 -- How large the values of a block's words can be, none of them being refused.
-use Rattle.terms.specs.Common.{◌≡◌}
+use Rattle.std.specs.Prelude.{◌≡◌}
 use Rattle.lengths.specs.View.{Within}
 use Rattle.codes.specs.declared.{Cycle.Cycle, Motion.Motion, Motion.TheVariants.Drilling}
 use Rattle.words.specs.declared.Values.{Values}

@@ -1,5 +1,6 @@
 // The values of a block's words, or the first word that may not stand or has a bad value.
-ghost use Rattle.terms.specs.Common.{◌<◌, ◌≡◌, ◌&&◌, ◌||◌, eqb, take};
+ghost use Rattle.std.specs.Prelude.{◌<◌, ◌≡◌, ◌&&◌, ◌||◌};
+ghost use Rattle.terms.specs.Common.{eqb, take};
 ghost use Rattle.terms.specs.Terms.{byte};
 ghost use Rattle.words.specs.Packed.{words_in};
 ghost use Rattle.letters.specs.{Letters.is_nothing, Judging.judged_by, Judging.Stored, Places.given_at, Places.values_in, Places.IsPlace};

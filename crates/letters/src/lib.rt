@@ -3,8 +3,9 @@
 
 mod judgement;
 
+ghost use Rattle.std.specs.Prelude.{◌≡◌, ◌∷◌, ◌++◌};
 ghost use Rattle.words.specs.declared.Use.TheVariants as Use;
-ghost use Rattle.terms.specs.Common.{◌≡◌, List, [], ◌∷◌, ◌++◌};
+ghost use Rattle.terms.specs.Common.{List, []};
 ghost use Rattle.words.specs.declared.Word.{Word};
 ghost use Rattle.letters.specs.Letters.{used_in, each, straight_letters, end_letters, centre_letters, turns, is_arc, names_centre, has_centre, arc_letters, cycle_letters, dwelling_cycle_letters, drilling_letters, motion_letters, dwell_letters, call_letters, feed_and_speed, use_of, code_under};
 ghost use Rattle.letters.specs.Judging.{CentreSeen};

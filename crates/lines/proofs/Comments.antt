@@ -1,6 +1,7 @@
 -- What stands inside comments changes neither the words of a text nor the blocks of the data.
+use Rattle.std.specs.Prelude.{if◌then◌else◌}
 use Rattle.terms.proofs.Common.{ℕ, zero, suc, ◌+◌, ◌-◌, ◌≡◌, refl, sym, ◌∙◌, ap, Bool, true, false, false≢true, not, ◌&&◌, ◌||◌, and-false, Option, none, some, List, [], ◌∷◌, arith, ℕ_discrete, eqb-true, eqb-false, not-true, ne_eqb, eqb, length, drop, set, drop-drop}
-use Rattle.terms.{specs.Terms.if◌then◌else◌, specs.Terms.byte, proofs.Laws.either_left, proofs.Laws.either_right}
+use Rattle.terms.{specs.Terms.byte, proofs.Laws.either_left, proofs.Laws.either_right}
 use Rattle.words.specs.declared.{Sign.Sign, Sign.TheVariants.Plain, Sign.TheVariants.Plus, Sign.TheVariants.Minus, Number.Number, Numbered.Numbered}
 use Rattle.words.specs.declared.Numbered.TheVariants.{Is, Unreadable}
 use Rattle.words.specs.Numbers.{is_figure, sign_of, sign_length, run, is_numeral, number_by, number_in}
@@ -86,7 +87,7 @@ unfolding sign_of sign_length
 past_sign nothing = nothing
 past_sign (outside {b} {s} {t} e r) = go (eqb b 43) (eqb b 45)
   where
-    go : (plus minus : Bool) → Alike false (drop (sign_length (if plus then Plus else if minus then Minus else Plain)) (b ∷ s)) (drop (sign_length (if plus then Plus else if minus then Minus else Plain)) (b ∷ t))
+    go : (plus minus : Bool) → Alike false (drop (sign_length (if plus then Plus else (if minus then Minus else Plain))) (b ∷ s)) (drop (sign_length (if plus then Plus else (if minus then Minus else Plain))) (b ∷ t))
     go true minus = r
     go false true = r
     go false false = outside e r
@@ -138,8 +139,8 @@ item_alike (outside {b} {s} {t} e r) f g on at = rw (ne_eqb b 40 e, ← number_a
   where
     go :
         (blank capital : Bool)
-        → item_then at (if blank then gap 0 else if capital then word_item at b (number_in s) else unreadable) f
-        ≡ item_then at (if blank then gap 0 else if capital then word_item at b (number_in s) else unreadable) g
+        → item_then at (if blank then gap 0 else (if capital then word_item at b (number_in s) else unreadable)) f
+        ≡ item_then at (if blank then gap 0 else (if capital then word_item at b (number_in s) else unreadable)) g
     go true capital = on 0 r
     go false true = word_then f g on at b (number_in s) (past_number r)
     go false false = refl

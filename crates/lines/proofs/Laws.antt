@@ -1,6 +1,7 @@
 -- How blanks and comments are passed, byte by byte.
+use Rattle.std.specs.Prelude.{if◌then◌else◌}
 use Rattle.terms.proofs.Common.{ℕ, zero, suc, ◌+◌, ◌≤◌, ◌<◌, ◌≡◌, refl, sym, ◌∙◌, ap, Bool, true, false, false≢true, true≢false, ◌&&◌, ◌||◌, Option, none, some, List, [], ◌∷◌, arith, dec_lt, eq-eqb, ne_eqb, eqb, length, drop, get_or, drop_of_length-le, length-drop, drop-drop}
-use Rattle.terms.{specs.Terms.if◌then◌else◌, proofs.Laws.both_right}
+use Rattle.terms.{proofs.Laws.both_right}
 use Rattle.words.specs.{Numbers.number_in, declared.Numbered.Numbered, declared.Numbered.TheVariants.Is, declared.Numbered.TheVariants.Unreadable, declared.Word.Word}
 use Rattle.words.specs.Words.{is_blank, is_capital, one_more, closing, gap, unreadable, comment_item, word_item, item_at, Words, these, bad_at, with_word, item_then, words_after}
 use Rattle.lines.specs.{Blocks.begins_with, Blocks.text_from, Blocks.no_text, Blocks.length_from, Gaps.no_words, Gaps.only_gaps, Closing.comment_by, Closing.comment_at}
@@ -133,8 +134,8 @@ module _ (b : ℕ) (bs : List ℕ) (p q : ℕ) (f g : ℕ → Words) (same : (k 
 
   by_item :
       (blank paren capital : Bool)
-      → no_words (item_then p (if blank then gap 0 else if paren then comment_item (closing bs) else if capital then word_item p b (number_in bs) else unreadable) f)
-      ≡ no_words (item_then q (if blank then gap 0 else if paren then comment_item (closing bs) else if capital then word_item q b (number_in bs) else unreadable) g)
+      → no_words (item_then p (if blank then gap 0 else (if paren then comment_item (closing bs) else (if capital then word_item p b (number_in bs) else unreadable))) f)
+      ≡ no_words (item_then q (if blank then gap 0 else (if paren then comment_item (closing bs) else (if capital then word_item q b (number_in bs) else unreadable))) g)
   unfolding item_then no_words
   by_item true paren capital = same 0
   by_item false true capital = by_comment (closing bs)

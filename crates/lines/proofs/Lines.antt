@@ -1,6 +1,7 @@
 -- How blocks follow each other, byte by byte: what a walk over places needs.
+use Rattle.std.specs.Prelude.{if◌then◌else◌}
 use Rattle.terms.proofs.Common.{ℕ, zero, suc, ◌+◌, ◌-◌, ◌≤◌, ◌<◌, ◌≡◌, refl, sym, ◌∙◌, ap, Bool, true, false, ◌&&◌, ◌||◌, List, [], ◌∷◌, arith, add-one, ℕ_discrete, eq-eqb, ne_eqb, eqb-false, eqb, length, drop, get_or, drop_of_length-le, drop-cons, drop-drop}
-use Rattle.terms.{specs.Terms.if◌then◌else◌, proofs.Laws.either_left, proofs.Laws.either_right}
+use Rattle.terms.{proofs.Laws.either_left, proofs.Laws.either_right}
 use Rattle.lines.specs.{Blocks.begins_with, Blocks.text_from, Blocks.no_text, Blocks.length_from, Blocks.block_from, Blocks.blocks_after, Blocks.is_percent, Serving.blocks_from}
 
 -- ---- the bytes from a place on

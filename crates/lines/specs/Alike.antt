@@ -1,5 +1,6 @@
 -- Blocks that differ only in the bytes of comments: for the proof that these change nothing.
-use Rattle.terms.specs.Common.{ℕ, ◌≡◌, Bool, true, false, List, [], ◌∷◌}
+use Rattle.std.specs.Prelude.{◌≡◌, ◌∷◌}
+use Rattle.terms.specs.Common.{ℕ, Bool, true, false, List, []}
 use Rattle.terms.specs.Terms.{byte}
 use Rattle.lines.specs.Blocks.{no_text, Block}
 

@@ -1,6 +1,7 @@
 -- Document 01, "Data set and blocks": the blocks of the data.
-use Rattle.terms.specs.Common.{ℕ, zero, suc, ◌+◌, ◌-◌, Bool, true, false, ◌&&◌, ◌||◌, List, [], ◌∷◌, eqb}
-use Rattle.terms.specs.Terms.{if◌then◌else◌, byte}
+use Rattle.std.specs.Prelude.{◌+◌, ◌-◌, ◌&&◌, ◌||◌, ◌∷◌, if◌then◌else◌}
+use Rattle.terms.specs.Common.{ℕ, zero, suc, Bool, true, false, List, [], eqb}
+use Rattle.terms.specs.Terms.{byte}
 
 unfoldable pub begins_with : ℕ → List ℕ → Bool
 begins_with first [] = false

@@ -1,5 +1,6 @@
 -- What only serves the proofs of this crate: where a comment ends, as the code answers it.
-use Rattle.terms.specs.Common.{ℕ, ◌+◌, Option, none, some, List}
+use Rattle.std.specs.Prelude.{◌+◌}
+use Rattle.terms.specs.Common.{ℕ, Option, none, some, List}
 use Rattle.words.specs.Words.{closing}
 use Rattle.lines.specs.declared.Comment.{Comment, TheVariants.Closed, TheVariants.Open}
 

@@ -1,6 +1,7 @@
 -- Document 01, "Data set and blocks": "Bytes inside a comment, replaced by others that are neither `)`, LF nor CR, change no
 -- record and no answer."
-use Rattle.terms.specs.Common.{ℕ, zero, suc, Bool, true, false, not, ◌&&◌, ◌||◌, List, [], ◌∷◌, eqb}
+use Rattle.std.specs.Prelude.{◌&&◌, ◌||◌, ◌∷◌}
+use Rattle.terms.specs.Common.{ℕ, zero, suc, Bool, true, false, not, List, [], eqb}
 use Rattle.terms.specs.Terms.{byte}
 use Rattle.lines.specs.Blocks.{no_text}
 

@@ -1,5 +1,6 @@
 -- Blanks and comments, found by their places.
-use Rattle.terms.specs.Common.{ℕ, Bool, true, false, List, [], ◌∷◌}
+use Rattle.std.specs.Prelude.{◌∷◌}
+use Rattle.terms.specs.Common.{ℕ, Bool, true, false, List, []}
 use Rattle.words.specs.Words.{Words, these, bad_at, words_of}
 
 -- the text reads as no word at all

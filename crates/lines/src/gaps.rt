@@ -1,5 +1,6 @@
 // Blanks and comments, which may stand between words and after an opening's number.
-ghost use Rattle.terms.specs.Common.{◌≡◌, ◌+◌, ◌≤◌, ◌<◌, length, drop};
+ghost use Rattle.std.specs.Prelude.{◌≡◌, ◌+◌, ◌≤◌, ◌<◌};
+ghost use Rattle.terms.specs.Common.{length, drop};
 ghost use Rattle.lines.specs.{Blocks.text_from, Gaps.only_gaps, Closing.comment_at};
 
 use crate::Comment;

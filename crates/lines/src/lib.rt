@@ -3,7 +3,8 @@
 
 mod gaps;
 
-ghost use Rattle.terms.specs.Common.{◌≡◌, false, ◌+◌, ◌≤◌, ◌<◌, length, drop};
+ghost use Rattle.std.specs.Prelude.{◌≡◌, ◌+◌, ◌≤◌, ◌<◌};
+ghost use Rattle.terms.specs.Common.{false, length, drop};
 ghost use Rattle.lines.specs.Blocks.{no_text, text_from, length_from, begins_with, is_percent};
 
 pub use gaps::{comment_end, only_gaps};

@@ -1,6 +1,6 @@
 -- The list that a run leaves for a file, by the rules of the run.
-use Rattle.terms.specs.Common.{ℕ, ◌≤◌, ◌≡◌, Bool, ◌&&◌, List, ◌++◌, length, take, drop}
-use Rattle.terms.specs.Terms.{if◌then◌else◌}
+use Rattle.std.specs.Prelude.{◌≤◌, ◌≡◌, ◌&&◌, ◌++◌, if◌then◌else◌}
+use Rattle.terms.specs.Common.{ℕ, Bool, List, length, take, drop}
 use Rattle.refusals.specs.declared.Answer.{Answer, TheVariants.Done, TheVariants.Unfinished, TheVariants.Refused}
 use Rattle.setup.specs.declared.Setup.{Setup}
 use Rattle.records.specs.{declared.Record.Record, Layout.list_bytes}

@@ -1,7 +1,8 @@
 // The list that a run leaves for a file: the run with a part of a buffer as its room, and where its records end there.
 #![tactic(auto)]
 
-ghost use Rattle.terms.specs.Common.{◌≡◌, ◌≤◌, length};
+ghost use Rattle.std.specs.Prelude.{◌≡◌, ◌≤◌};
+ghost use Rattle.terms.specs.Common.{length};
 ghost use Rattle.interpreter.specs.Owing.{Owes};
 ghost use Rattle.list_files.specs.Lists.{budget_of, Makes, is_written};
 

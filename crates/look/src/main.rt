@@ -4,7 +4,8 @@
 // so that a block's codes hold for the next; none is executed. The skip switch is off, and the speeds are 3000 to 8000.
 #![tactic(auto)]
 
-ghost use Rattle.terms.specs.Common.{◌≡◌, ◌≤◌, ◌<◌, false, pos, List, length, get_or, take};
+ghost use Rattle.std.specs.Prelude.{◌≡◌, ◌≤◌, ◌<◌};
+ghost use Rattle.terms.specs.Common.{false, pos, List, length, get_or, take};
 ghost use Rattle.words.specs.{declared.Word.Word, Packed.words_in};
 ghost use Rattle.lengths.specs.Units.{len};
 ghost use Rattle.settings.specs.Settings.{first_modes};

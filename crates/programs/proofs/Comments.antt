@@ -1,6 +1,6 @@
 -- Data that differs only inside comments has the same programs.
+use Rattle.std.specs.Prelude.{if◌then◌else◌}
 use Rattle.terms.proofs.Common.{ℕ, ◌≡◌, refl, Bool, true, false, false≢true, List, [], ◌∷◌, ◌++◌, drop}
-use Rattle.terms.specs.Terms.{if◌then◌else◌}
 use Rattle.refusals.specs.declared.Refusal.{Refusal, TheVariants.BadParameter}
 use Rattle.lines.specs.Blocks.{begins_with, Block, closes, opens}
 use Rattle.lines.proofs.Comments.{run_alike, past_run, gaps_alike, begins_alike, percent_alike}

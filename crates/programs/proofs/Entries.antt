@@ -1,6 +1,7 @@
 -- The table of subprograms: searched by number, and with one more.
+use Rattle.std.specs.Prelude.{if◌then◌else◌}
 use Rattle.terms.proofs.Common.{ℕ, ◌+◌, ◌≤◌, ◌<◌, ◌≡◌, refl, ◌∙◌, ap, Bool, true, false, List, [], ◌∷◌, arith, add-one, eq-eqb, ne_eqb, le-leb, lt-leb, leb-false, eqb, leb, length, take, drop, get_or, set, length-set, length-take-le, get_or-take, take-suc-set}
-use Rattle.terms.{specs.Terms.if◌then◌else◌, specs.Terms.any, proofs.Laws.any_end, proofs.Laws.any_here, proofs.Laws.any_past}
+use Rattle.terms.{specs.Terms.any, proofs.Laws.any_end, proofs.Laws.any_here, proofs.Laws.any_past}
 use Rattle.refusals.specs.declared.Refusal.{Refusal, TheVariants.BadParameter, TheVariants.DuplicateNumber, TheVariants.TableOver}
 use Rattle.refusals.specs.Numbers.{number_of}
 use Rattle.programs.specs.{Openings.is_taken, Openings.entry_of, Found.WellFound, Found.Entered, Found.subs_of, declared.Program.Program}
@@ -81,7 +82,7 @@ entry_room t ready (Number m) n e = go (is_taken t.main (subs_of t) m) (leb 10 (
   where
     go :
         (taken full : Bool) → leb 10 (length (subs_of t)) ≡ full
-        → (if taken then Refuses DuplicateNumber else if full then Refuses TableOver else Enters m) ≡ Enters n → t.count < 10
+        → (if taken then Refuses DuplicateNumber else (if full then Refuses TableOver else Enters m)) ≡ Enters n → t.count < 10
     go true full f g = let never : ◌≡◌ {A = ℕ} 0 1 = cc in absurd (omega arith)
     go false true f g = let never : ◌≡◌ {A = ℕ} 0 1 = cc in absurd (omega arith)
     go false false f g = omega (arith, leb-false, f, in_use t ready m)
@@ -95,7 +96,7 @@ entry_refusal main subs Bad refusal e = let is : refusal ≡ BadParameter = cc i
 entry_refusal main subs (Number n) refusal e = go (is_taken main subs n) (leb 10 (length subs)) e
   where
     go :
-        (taken full : Bool) → (if taken then Refuses DuplicateNumber else if full then Refuses TableOver else Enters n) ≡ Refuses refusal
+        (taken full : Bool) → (if taken then Refuses DuplicateNumber else (if full then Refuses TableOver else Enters n)) ≡ Refuses refusal
         → any (eqb (number_of refusal)) (1 ∷ 8 ∷ 7 ∷ []) ≡ true
     go true full f = let is : refusal ≡ DuplicateNumber = cc in rw is
     go false true f = let is : refusal ≡ TableOver = cc in rw is

@@ -1,6 +1,6 @@
 -- The digits of an opening, byte by byte.
+use Rattle.std.specs.Prelude.{if◌then◌else◌}
 use Rattle.terms.proofs.Common.{ℕ, suc, ◌+◌, ◌-◌, ◌*◌, ◌^◌, ◌≤◌, ◌<◌, ◌≡◌, refl, ◌∙◌, ap, true, false, ◌&&◌, ◌||◌, List, [], ◌∷◌, arith, pow-le-pow_right, ne_eqb, le-leb, lt-leb, eqb, lit≤, lit<, length, drop, get_or, drop_of_length-le}
-use Rattle.terms.specs.Terms.{if◌then◌else◌}
 use Rattle.lines.{specs.Blocks.begins_with, specs.Blocks.text_from, proofs.Lines.at_place}
 use Rattle.words.{specs.Numbers.is_digit, specs.Numbers.run, specs.Numbers.digits_after, proofs.Numbers.ten_more}
 use Rattle.programs.specs.{Found.IsDigits, Openings.figures_of}

@@ -1,6 +1,7 @@
 -- Every program of the table begins at a place of the data, and its blocks are those from that place on. Assumes nothing.
+use Rattle.std.specs.Prelude.{if◌then◌else◌}
 use Rattle.terms.proofs.Common.{ℕ, ◌+◌, ◌-◌, ◌≤◌, ◌<◌, ◌≡◌, refl, sym, ◌∙◌, ap, Bool, true, false, some, List, [], ◌∷◌, ◌++◌, arith, dec_lt, eqb, length, drop, length-drop, drop-drop}
-use Rattle.terms.specs.Terms.{if◌then◌else◌, first}
+use Rattle.terms.specs.Terms.{first}
 use Rattle.lines.specs.Blocks.{length_from, Block, block_from, blocks_of, closes, opens}
 use Rattle.lines.{specs.Serving.blocks_from, proofs.Lines.blocks_step, proofs.Lines.blocks_end, proofs.Lines.length_some}
 use Rattle.programs.specs.declared.{Program.Program, Opening.Opening, Opening.TheVariants.Number, Opening.TheVariants.Bad, Entry.Entry, Entry.TheVariants.Refuses, Entry.TheVariants.Enters}

@@ -1,6 +1,7 @@
 -- "Numbers compare by value: `O1` and `O0001` are the same."
+use Rattle.std.specs.Prelude.{if◌then◌else◌}
 use Rattle.terms.proofs.Common.{ℕ, zero, suc, ◌≤◌, ◌<◌, ◌≡◌, refl, sym, ◌∙◌, ap, Bool, true, false, ◌&&◌, List, ◌∷◌, ◌++◌, arith, le-leb, length, drop, replicate}
-use Rattle.terms.specs.Terms.{if◌then◌else◌, byte, from_to}
+use Rattle.terms.specs.Terms.{byte, from_to}
 use Rattle.words.{specs.Numbers.run, specs.Numbers.digits_after, proofs.Numbers.leading_zero}
 use Rattle.lines.specs.Gaps.{only_gaps}
 use Rattle.programs.specs.{Openings.number_after_o, Openings.figures_of, declared.Opening.TheVariants.Number, declared.Opening.TheVariants.Bad}

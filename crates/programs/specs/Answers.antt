@@ -1,6 +1,6 @@
 -- What the functions of this layer answer, in the types of the code.
-use Rattle.terms.specs.Common.{ℕ, ◌≡◌, Option, none, some, eqb}
-use Rattle.terms.specs.Terms.{if◌then◌else◌}
+use Rattle.std.specs.Prelude.{◌≡◌, if◌then◌else◌}
+use Rattle.terms.specs.Common.{ℕ, Option, none, some, eqb}
 use Rattle.refusals.specs.declared.Refusal.TheVariants.{NumberNotFound, NestOver}
 use Rattle.programs.specs.{Openings.Table, Found.table_of, Found.WellFound}
 use Rattle.programs.specs.declared.{Program.Program, Scanned.Scanned, Found.Found, Found.TheVariants.At, Found.TheVariants.Missing, Callee.Callee}

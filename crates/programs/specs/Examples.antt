@@ -1,6 +1,7 @@
 -- Data sets with their openings, and what the rules make of them. The worst fault of the old box is among them: two
 -- subprograms that are one number.
-use Rattle.terms.specs.Common.{ℕ, String, List, [], ◌∷◌}
+use Rattle.std.specs.Prelude.{◌∷◌}
+use Rattle.terms.specs.Common.{ℕ, String, List, []}
 use Rattle.terms.specs.Terms.{bytes}
 use Rattle.refusals.specs.declared.Refusal.{Refusal, TheVariants.BadParameter, TheVariants.DuplicateNumber, TheVariants.FirstBlock}
 use Rattle.lines.specs.Blocks.{Block, blocks_of}

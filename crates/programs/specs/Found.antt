@@ -1,5 +1,6 @@
 -- What the scan of the openings answers, in the types of the code.
-use Rattle.terms.specs.Common.{ℕ, ◌≤◌, ◌<◌, ◌≡◌, List, [], ◌∷◌, ◌++◌, length, take}
+use Rattle.std.specs.Prelude.{◌≤◌, ◌<◌, ◌≡◌, ◌∷◌, ◌++◌}
+use Rattle.terms.specs.Common.{ℕ, List, [], length, take}
 use Rattle.words.specs.Numbers.{digits_after}
 use Rattle.programs.specs.declared.{Program.Program, Digits.Digits, Verdict.Verdict, Verdict.TheVariants.Fine, Verdict.TheVariants.Refused, Programs.Programs, Scanned.Scanned}
 use Rattle.programs.specs.Openings.{figures_of, Table, table, refused_at, most}

@@ -1,6 +1,7 @@
 -- Document 01, "Data set and blocks": the openings, the main program and the subprograms.
-use Rattle.terms.specs.Common.{ℕ, ◌+◌, ◌-◌, Bool, true, false, ◌&&◌, ◌||◌, Option, List, [], ◌∷◌, ◌++◌, eqb, leb, length, drop}
-use Rattle.terms.specs.Terms.{if◌then◌else◌, any, first, from_to}
+use Rattle.std.specs.Prelude.{◌+◌, ◌-◌, ◌&&◌, ◌||◌, ◌∷◌, ◌++◌, if◌then◌else◌}
+use Rattle.terms.specs.Common.{ℕ, Bool, true, false, Option, List, [], eqb, leb, length, drop}
+use Rattle.terms.specs.Terms.{any, first, from_to}
 use Rattle.refusals.specs.declared.{Refusal.Refusal, Refusal.TheVariants.BadParameter, Refusal.TheVariants.DuplicateNumber, Refusal.TheVariants.TableOver, Place.Place}
 use Rattle.words.specs.Numbers.{is_digit, run, digits_after}
 use Rattle.lines.specs.{Gaps.only_gaps, Blocks.Block, Blocks.closes, Blocks.opens}
@@ -46,8 +47,8 @@ unfoldable pub entry_of : Program → List Program → Opening → Entry
 entry_of main subs Bad = Refuses BadParameter
 entry_of main subs (Number n) =
     if is_taken main subs n then Refuses DuplicateNumber
-    else if leb most (length subs) then Refuses TableOver
-    else Enters n
+    else (if leb most (length subs) then Refuses TableOver
+    else Enters n)
 
 unfoldable pub entered : Entry → List Program → Block → (List Program → Table) → Table
 entered (Refuses refusal) subs b rest = refused_at refusal (place_of b)

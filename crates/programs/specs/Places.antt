@@ -1,5 +1,6 @@
 -- A program of the table begins where the data's own count of blocks and bytes says.
-use Rattle.terms.specs.Common.{ℕ, ◌+◌, ◌-◌, ◌≤◌, ◌≡◌, List, [], ◌∷◌, length, drop}
+use Rattle.std.specs.Prelude.{◌+◌, ◌-◌, ◌≤◌, ◌≡◌, ◌∷◌}
+use Rattle.terms.specs.Common.{ℕ, List, [], length, drop}
 use Rattle.refusals.specs.declared.{Refusal.Refusal, Place.Place}
 use Rattle.lines.specs.{Blocks.blocks_of, Serving.blocks_from}
 use Rattle.programs.specs.{Openings.Table, Openings.table, Openings.refused_at, declared.Program.Program}

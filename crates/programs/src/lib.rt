@@ -3,7 +3,8 @@
 
 mod openings;
 
-ghost use Rattle.terms.specs.Common.{◌≡◌, true, ◌+◌, ◌≤◌, ◌<◌, length, drop};
+ghost use Rattle.std.specs.Prelude.{◌≡◌, ◌+◌, ◌≤◌, ◌<◌};
+ghost use Rattle.terms.specs.Common.{true, length, drop};
 ghost use Rattle.lines.specs.Blocks.{text_from};
 ghost use Rattle.programs.specs.{Openings.number_after_o, Openings.is_taken, Openings.entry_of, Found.IsDigits, Found.subs_of, Found.WellFound, Found.Empty};
 

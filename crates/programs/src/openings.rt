@@ -1,5 +1,6 @@
 // The programs of a data set, found by one scan over its blocks, and a program by its number.
-ghost use Rattle.terms.specs.Common.{◌≡◌, ◌+◌, ◌≤◌, ◌<◌, length};
+ghost use Rattle.std.specs.Prelude.{◌≡◌, ◌+◌, ◌≤◌, ◌<◌};
+ghost use Rattle.terms.specs.Common.{length};
 ghost use Rattle.lines.specs.{Blocks.length_from, Blocks.block_from, Serving.blocks_from};
 ghost use Rattle.programs.specs.{Openings.scan, Openings.programs_from, Openings.known, Found.subs_of, Found.WellFound, Found.Entered, Answers.Gives, Answers.found_as, Answers.callee_by};
 

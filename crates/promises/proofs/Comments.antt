@@ -1,6 +1,7 @@
 -- "Bytes inside a comment, replaced by others that are neither `)`, LF nor CR, change no record and no answer."
+use Rattle.std.specs.Prelude.{if◌then◌else◌}
 use Rattle.terms.proofs.Common.{ℕ, zero, suc, ◌+◌, ◌-◌, ◌≡◌, refl, ap, Bool, true, false, false≢true, ◌||◌, inl, inr, ⊎_elim, Option, none, some, List, [], ◌∷◌, arith, eqb-false, ne_eqb, not-true, eqb, length, drop}
-use Rattle.terms.{specs.Terms.if◌then◌else◌, specs.Terms.byte, proofs.Laws.either_left, proofs.Laws.either_right}
+use Rattle.terms.{specs.Terms.byte, proofs.Laws.either_left, proofs.Laws.either_right}
 use Rattle.refusals.specs.declared.Refusal.TheVariants.{FirstBlock}
 use Rattle.lines.specs.{Blocks.Block, Blocks.begins_with, Blocks.no_text, Blocks.closes, Blocks.opens, Blocks.is_slashed, Comments.open_after, Comments.inside_at}
 use Rattle.lines.specs.Alike.{Alike, nothing, outside, begins, inside, AlikeBlock, AlikeBlocks}

@@ -1,8 +1,9 @@
 -- The worst fault: "8: Duplicate Sub-Program Number". Data with two openings of one number, however they are written, is
 -- refused, and gives no record, under every setup, room and budget.
 -- The table of programs goes by the openings alone: the blocks between them do not count.
+use Rattle.std.specs.Prelude.{if◌then◌else◌}
 use Rattle.terms.proofs.Common.{ℕ, ◌<◌, ◌+◌, ◌≤◌, ◌≡◌, refl, sym, ◌∙◌, ap, Bool, true, false, ◌&&◌, ◌||◌, or-true, or_assoc, false≢true, not, or-false, List, [], ◌∷◌, ◌++◌, map, append_assoc, arith, eqb-true, eq-eqb, ne_eqb, leb-true, lt-leb, le-ltb, not-true, eqb, leb, length, drop, length-append}
-use Rattle.terms.specs.Terms.{if◌then◌else◌, any, from_to}
+use Rattle.terms.specs.Terms.{any, from_to}
 use Rattle.terms.proofs.Laws.{any_snoc, both_left, both_right, either_left, either_right, any-neither}
 use Rattle.refusals.specs.{declared.Refusal.Refusal, declared.Place.Place, Numbers.number_of}
 use Rattle.refusals.specs.declared.Refusal.TheVariants.{BadParameter, DuplicateNumber, TableOver, FirstBlock, BadSetup, DataTooLong}
@@ -110,7 +111,7 @@ module _ (main : Program) (subs : List Program) where
   unfolding entry_of
   entry_own o n m e f = go (is_taken main subs n) (leb 10 (length subs)) (rw e at f)
     where
-      go : (taken full : Bool) → (if taken then Refuses DuplicateNumber else if full then Refuses TableOver else Enters n) ≡ Enters m → n ≡ m
+      go : (taken full : Bool) → (if taken then Refuses DuplicateNumber else (if full then Refuses TableOver else Enters n)) ≡ Enters m → n ≡ m
       go true full g = let never : ◌≡◌ {A = ℕ} 0 1 = cc in absurd (omega arith)
       go false true g = let never : ◌≡◌ {A = ℕ} 0 1 = cc in absurd (omega arith)
       go false false g = cc

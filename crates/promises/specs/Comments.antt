@@ -1,6 +1,7 @@
 -- Document 01, "Data set and blocks": "Bytes inside a comment, replaced by others that are neither `)`, LF nor CR, change no
 -- record and no answer."
-use Rattle.terms.specs.Common.{ℕ, ◌<◌, ◌≡◌, Bool, true, ◌⊎◌, List, length, get_or}
+use Rattle.std.specs.Prelude.{◌<◌, ◌≡◌, ◌⊎◌}
+use Rattle.terms.specs.Common.{ℕ, Bool, true, List, length, get_or}
 use Rattle.terms.specs.Terms.{byte}
 use Rattle.lines.specs.Comments.{inside_at}
 use Rattle.setup.specs.declared.Setup.{Setup}

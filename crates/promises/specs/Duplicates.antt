@@ -1,7 +1,8 @@
 -- The openings of the data, and two of them with one number: the worst fault of the old box, that it ran one of two
 -- subprograms of one number.
-use Rattle.terms.specs.Common.{ℕ, ◌+◌, ◌≤◌, ◌≡◌, Bool, true, false, not, ◌&&◌, List, [], ◌∷◌, ◌++◌, map, eqb, length, drop}
-use Rattle.terms.specs.Terms.{if◌then◌else◌, any}
+use Rattle.std.specs.Prelude.{◌+◌, ◌≤◌, ◌≡◌, ◌&&◌, ◌∷◌, ◌++◌, if◌then◌else◌}
+use Rattle.terms.specs.Common.{ℕ, Bool, true, false, not, List, [], map, eqb, length, drop}
+use Rattle.terms.specs.Terms.{any}
 use Rattle.refusals.specs.{declared.Place.Place, Answers.refused_with, Answers.report_of}
 use Rattle.lines.specs.Blocks.{Block, blocks_of, closes, opens}
 use Rattle.programs.specs.{Openings.opening_of, Openings.place_of, Openings.most, declared.Opening.TheVariants.Number}

@@ -1,6 +1,7 @@
 -- Demand 2: "The list read back, record by record from its first byte, gives the run's events and then the end of what was
 -- written."
-use Rattle.terms.specs.Common.{ℕ, ◌+◌, ◌≤◌, ◌≡◌, List, ◌++◌, length, drop}
+use Rattle.std.specs.Prelude.{◌+◌, ◌≤◌, ◌≡◌, ◌++◌}
+use Rattle.terms.specs.Common.{ℕ, List, length, drop}
 use Rattle.records.specs.{declared.Record.Record, declared.Listed.TheVariants.End, Layout.list_bytes, Reading.trail, Reading.after, Reading.read_all}
 use Rattle.refusals.specs.{declared.Answer.Answer, Answers.count_of}
 

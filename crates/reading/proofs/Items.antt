@@ -1,6 +1,6 @@
 -- Items and words by their places.
+use Rattle.std.specs.Prelude.{if◌then◌else◌}
 use Rattle.terms.proofs.Common.{ℕ, suc, ◌+◌, ◌≤◌, ◌<◌, ◌≡◌, refl, sym, ◌∙◌, ap, Bool, true, false, ◌||◌, Option, none, some, List, [], ◌∷◌, arith, ℕ_discrete, ne_eqb, le-leb, lt-leb, eqb, length, drop, get_or, length-drop, drop-drop, take-length, slice}
-use Rattle.terms.specs.Terms.{if◌then◌else◌}
 use Rattle.lines.specs.{Blocks.begins_with, Blocks.text_from, Blocks.no_text, Blocks.length_from, Blocks.ends_at, Closing.comment_at}
 use Rattle.lines.specs.declared.Comment.TheVariants.{Closed, Open}
 use Rattle.lines.proofs.Laws.{text_drop, text_none, text_inside, text_at, text_length, text_next, words_pass, open_by, comment_way, closing_within}
@@ -85,7 +85,7 @@ item_fits i b rest = by (is_blank b) (eqb b 40) (is_capital b) refl
     by_number e (Is m k) h = let f = h m k refl in (f.0, f.1, e)
     by_number e Unreadable h = tt
 
-    by : (blank paren capital : Bool) → is_capital b ≡ capital → Fits (if blank then gap 0 else if paren then comment_item (closing rest) else if capital then word_item i b (number_in rest) else unreadable) rest
+    by : (blank paren capital : Bool) → is_capital b ≡ capital → Fits (if blank then gap 0 else (if paren then comment_item (closing rest) else (if capital then word_item i b (number_in rest) else unreadable))) rest
     by true paren capital e = omega arith
     by false true capital e = by_comment (closing rest) (closing_within rest)
     by false false true e = by_number e (number_in rest) (λ m k f. (number_short rest m k f, number_in_written rest m k f))

@@ -1,6 +1,7 @@
 -- What is kept of the words tells whether the next one may stand, and is kept with it.
+use Rattle.std.specs.Prelude.{if◌then◌else◌}
 use Rattle.terms.proofs.Common.{ℕ, ◌+◌, ◌<◌, ◌≡◌, refl, sym, ◌∙◌, ap, Bool, true, false, false≢true, not, ◌&&◌, ◌||◌, or-false, or-true, none, some, List, [], ◌∷◌, ◌++◌, arith, ℕ_discrete, eq-eqb, ne_eqb, eqb-true, eqb, lit<, length, get_or, set, replicate, length-set, length-replicate, get_or-replicate, get_or-set_same, get_or-set_other}
-use Rattle.terms.specs.Terms.{if◌then◌else◌, any, first}
+use Rattle.terms.specs.Terms.{any, first}
 use Rattle.terms.proofs.Laws.{either_left, either_right, any_snoc, any-more, any-neither, any_false}
 use Rattle.codes.specs.{declared.Code.Code, declared.Misc.Misc, declared.Misc.TheVariants.Other, Codes.group_of, Codes.is_group_a, Codes.is_g04, Codes.clash, Codes.is_m, Codes.misc_number}
 use Rattle.codes.specs.declared.Code.TheVariants.{GroupA, GroupB, GroupC, GroupD, GroupE, GroupF, G04, Unknown}

@@ -1,6 +1,7 @@
 -- Reading a block word by word: what has been read, and what is left, give the whole.
+use Rattle.std.specs.Prelude.{if◌then◌else◌}
 use Rattle.terms.proofs.Common.{ℕ, ◌+◌, ◌≤◌, ◌<◌, ◌≡◌, refl, sym, ◌∙◌, ap, Bool, true, false, false≢true, not, ◌&&◌, ◌||◌, List, [], ◌∷◌, ◌++◌, append_assoc, append-nil, arith, add-one, ℕ_discrete, eqb-true, ne_eqb, not-false, eqb, length, take, drop, get_or, set, length-set, take-suc-set, get_or-set_same, get_or-set_other}
-use Rattle.terms.{specs.Terms.if◌then◌else◌, specs.Terms.any, proofs.Laws.either_left, proofs.Laws.either_right}
+use Rattle.terms.{specs.Terms.any, proofs.Laws.either_left, proofs.Laws.either_right}
 use Rattle.lines.{specs.Blocks.no_text, specs.Blocks.length_from, proofs.Laws.text_none}
 use Rattle.refusals.specs.declared.Refusal.{Refusal, TheVariants.CannotExecute, TheVariants.Unreadable}
 use Rattle.words.specs.{Serving.Written, Words.is_capital, Words.these, Words.bad_at, Words.with_word, Words.words_after, declared.Word.Word}

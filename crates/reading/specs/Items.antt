@@ -1,5 +1,6 @@
 -- What begins at a place of the data, and the words from there to the end of its block.
-use Rattle.terms.specs.Common.{ℕ, ◌+◌, List, drop}
+use Rattle.std.specs.Prelude.{◌+◌}
+use Rattle.terms.specs.Common.{ℕ, List, drop}
 use Rattle.lines.specs.Blocks.{text_from}
 use Rattle.refusals.specs.declared.Refusal.TheVariants.{CannotExecute, Unreadable}
 use Rattle.words.specs.Words.{gap, word, unreadable, these, bad_at, words_of}

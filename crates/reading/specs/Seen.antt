@@ -1,5 +1,6 @@
 -- What the reader keeps of the words before a word, and that it is enough to tell whether the word may stand.
-use Rattle.terms.specs.Common.{ℕ, ◌+◌, ◌-◌, ◌<◌, ◌≡◌, Bool, true, false, ◌&&◌, ◌||◌, List, eqb, length, get_or}
+use Rattle.std.specs.Prelude.{◌+◌, ◌-◌, ◌<◌, ◌≡◌, ◌&&◌, ◌||◌}
+use Rattle.terms.specs.Common.{ℕ, Bool, true, false, List, eqb, length, get_or}
 use Rattle.terms.specs.Terms.{byte, any}
 use Rattle.codes.specs.{declared.Misc.Misc, declared.Code.Code, Codes.group_of, Codes.clash, Codes.is_no_m}
 use Rattle.words.specs.declared.Word.{Word}

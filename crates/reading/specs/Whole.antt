@@ -1,5 +1,6 @@
 -- A block that was read as a whole.
-use Rattle.terms.specs.Common.{ℕ, ◌+◌, ◌≤◌, ◌≡◌, Bool, Option, none, some, List, [], length, take, drop}
+use Rattle.std.specs.Prelude.{◌+◌, ◌≤◌, ◌≡◌}
+use Rattle.terms.specs.Common.{ℕ, Bool, Option, none, some, List, [], length, take, drop}
 use Rattle.lines.specs.Blocks.{length_from}
 use Rattle.refusals.specs.declared.Refusal.TheVariants.{CannotExecute, Unreadable}
 use Rattle.words.specs.{Words.these, Words.bad_at, declared.Word.Word}

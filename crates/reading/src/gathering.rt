@@ -1,5 +1,6 @@
 // Reading the words of a block, each byte once.
-ghost use Rattle.terms.specs.Common.{◌≡◌, ◌≤◌, length};
+ghost use Rattle.std.specs.Prelude.{◌≡◌, ◌≤◌};
+ghost use Rattle.terms.specs.Common.{length};
 ghost use Rattle.words.specs.Packed.{words_in};
 ghost use Rattle.reading.specs.Whole.{IsRead};
 

@@ -3,7 +3,8 @@
 
 mod gathering;
 
-ghost use Rattle.terms.specs.Common.{◌≡◌, Bool, true, false, List, ◌+◌, ◌≤◌, ◌<◌, length, drop, get_or};
+ghost use Rattle.std.specs.Prelude.{◌≡◌, ◌+◌, ◌≤◌, ◌<◌};
+ghost use Rattle.terms.specs.Common.{Bool, true, false, List, length, drop, get_or};
 ghost use Rattle.lines.specs.Blocks.{text_from};
 ghost use Rattle.words.specs.Words.{is_capital, item_at};
 ghost use Rattle.letters.specs.Letters.{is_known, is_g, is_misc, code_in, misc_in, stands_alone, wrong_program};

@@ -1,6 +1,7 @@
 -- What is read, written again, gives the same bytes. Assumes nothing.
+use Rattle.std.specs.Prelude.{if◌then◌else◌}
 use Rattle.terms.proofs.Common.{ℕ, zero, suc, ◌+◌, ◌-◌, ◌*◌, ◌≤◌, ◌<◌, ◌≡◌, refl, sym, ◌∙◌, Bool, true, false, ◌&&◌, Option, none, some, List, [], ◌∷◌, ◌++◌, append_assoc, arith, eqb-true, ltb-false, eqb, ltb, length, get_or, take, drop, drop-cons, drop-drop, take-add}
-use Rattle.terms.specs.Terms.{if◌then◌else◌, first}
+use Rattle.terms.specs.Terms.{first}
 use Rattle.lengths.{specs.Units.four_bytes, specs.View.Short, proofs.Four.four_read, proofs.Four.bytes_of_four}
 use Rattle.codes.specs.declared.Plane.{Plane}
 use Rattle.records.specs.{declared.Kind.Kind, declared.Record.Record, declared.Listed.Listed, declared.Listed.TheVariants.Next, Writing.AllShort}

@@ -1,5 +1,5 @@
 -- What displacing a record asks: each of its places leaves room for a sum in 64 bits.
-use Rattle.terms.specs.Common.{◌^◌}
+use Rattle.std.specs.Prelude.{◌^◌}
 use Rattle.lengths.specs.{View.Within, Near.Near}
 use Rattle.records.specs.{declared.Arc.Arc, Path.Path, Path.straight, Path.clockwise, Path.counter, Path.still}
 

@@ -1,8 +1,9 @@
 -- Document 01, "The record list": how a record lies in the list. Writing and reading both go by this one layout.
 -- "A two-byte mark before each record; numbers are four bytes, little end first, signed; points and centres are machine
 -- units."
-use Rattle.terms.specs.Common.{ℕ, ◌+◌, ◌*◌, Bool, true, false, List, [], ◌∷◌, ◌++◌, pos, get_or}
-use Rattle.terms.specs.Terms.{if◌then◌else◌, bytes}
+use Rattle.std.specs.Prelude.{◌+◌, ◌*◌, ◌∷◌, ◌++◌, if◌then◌else◌}
+use Rattle.terms.specs.Common.{ℕ, Bool, true, false, List, [], pos, get_or}
+use Rattle.terms.specs.Terms.{bytes}
 use Rattle.lengths.specs.{Units.len, Units.four_bytes, declared.Len.Len, declared.Point.Point}
 use Rattle.codes.specs.declared.Plane.{Plane, TheVariants.G17, TheVariants.G18, TheVariants.G19}
 use Rattle.records.specs.declared.{Arc.Arc, Kind.Kind, Record.Record}

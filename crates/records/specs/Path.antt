@@ -1,5 +1,6 @@
 -- The path of records, and records displaced.
-use Rattle.terms.specs.Common.{Bool, true, ◌&&◌, List, [], ◌∷◌}
+use Rattle.std.specs.Prelude.{◌&&◌, ◌∷◌}
+use Rattle.terms.specs.Common.{Bool, true, List, []}
 use Rattle.lengths.specs.{Units.◌⊕◌, declared.Point.Point, Points.moved, Points.flat}
 use Rattle.records.specs.declared.{Arc.Arc, Record.Record}
 use Rattle.records.specs.declared.Record.TheVariants.{RP, LN, AR, AL, DW, SP, SO, PA, EN}

@@ -1,8 +1,9 @@
 -- Document 01, "The record list": its reader. "A reader refuses, in this order, an unknown mark, a record cut short or
 -- another plane byte, with the byte place of its mark. At the list's end it says so; one last byte, or a place past the
 -- end, is cut short."
-use Rattle.terms.specs.Common.{ℕ, zero, suc, ◌+◌, Bool, true, false, ◌&&◌, Option, none, some, List, [], ◌∷◌, ◌++◌, ltb, eqb, length, get_or}
-use Rattle.terms.specs.Terms.{if◌then◌else◌, first}
+use Rattle.std.specs.Prelude.{◌+◌, ◌&&◌, ◌∷◌, ◌++◌, if◌then◌else◌}
+use Rattle.terms.specs.Common.{ℕ, zero, suc, Bool, true, false, Option, none, some, List, [], ltb, eqb, length, get_or}
+use Rattle.terms.specs.Terms.{first}
 use Rattle.lengths.specs.{Units.len, Units.of_four, declared.Len.Len}
 use Rattle.codes.specs.declared.Plane.{Plane, TheVariants.G17, TheVariants.G18, TheVariants.G19}
 use Rattle.records.specs.declared.{Kind.Kind, Record.Record, Fault.TheVariants.UnknownMark, Fault.TheVariants.CutShort, Fault.TheVariants.OtherPlane, Listed.Listed}
@@ -55,8 +56,8 @@ kind_read l at (some kind) =
 unfoldable pub read_at : List ℕ → ℕ → Listed
 read_at l at =
     if eqb at (length l) then End
-    else if ltb (length l) (at + 2) then Faulty CutShort at
-    else kind_read l at (kind_at l at)
+    else (if ltb (length l) (at + 2) then Faulty CutShort at
+    else kind_read l at (kind_at l at))
 
 -- reading record by record from a place, so many at most: the records, and what the reader says after them
 pub record Trail : Type 0 where

@@ -1,5 +1,6 @@
 -- What only serves proofs: what the reader finds, as the code answers it, and what a writer leaves in a list.
-use Rattle.terms.specs.Common.{Option, none, some, ℕ, ◌+◌, ◌≡◌, List, length, sets}
+use Rattle.std.specs.Prelude.{◌+◌, ◌≡◌}
+use Rattle.terms.specs.Common.{Option, none, some, ℕ, List, length, sets}
 use Rattle.codes.specs.declared.Plane.{Plane}
 use Rattle.records.specs.declared.{Kind.Kind, KindFound.KindFound, KindFound.TheVariants.Mark, KindFound.TheVariants.NoMark, PlaneFound.PlaneFound}
 use Rattle.records.specs.declared.PlaneFound.TheVariants.{Byte, NoByte}

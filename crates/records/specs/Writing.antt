@@ -1,5 +1,6 @@
 -- What writing asks and leaves.
-use Rattle.terms.specs.Common.{ℕ, ◌+◌, ◌≤◌, List, [], ◌∷◌, map, length}
+use Rattle.std.specs.Prelude.{◌+◌, ◌≤◌, ◌∷◌}
+use Rattle.terms.specs.Common.{ℕ, List, [], map, length}
 use Rattle.lengths.specs.{View.Short, declared.Len.Len, declared.Point.Point, Near.Near}
 use Rattle.records.specs.{declared.Record.Record, Layout.numbers_of, Layout.list_bytes, Layout.room_of, Path.record_moved}
 

@@ -1,5 +1,5 @@
 // An arc displaced: its end and its centre by the numbers of a point, every other number as it is.
-ghost use Rattle.terms.specs.Common.{◌^◌, ◌≡◌};
+ghost use Rattle.std.specs.Prelude.{◌^◌, ◌≡◌};
 ghost use Rattle.lengths.specs.Near.{Near};
 ghost use Rattle.records.specs.{Displacing.LooseArc, Path.arc_moved};
 

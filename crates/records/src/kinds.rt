@@ -1,5 +1,5 @@
 // What all records of a kind share: the mark, and how many bytes they take.
-ghost use Rattle.terms.specs.Common.{◌≤◌, ◌≡◌};
+ghost use Rattle.std.specs.Prelude.{◌≤◌, ◌≡◌};
 ghost use Rattle.records.specs.Layout.{kind_of, mark_of, has_plane, numbers_in, head_length, kind_length};
 
 use crate::{Kind, Record};

@@ -1,5 +1,5 @@
 // Where records lead.
-ghost use Rattle.terms.specs.Common.{◌≡◌};
+ghost use Rattle.std.specs.Prelude.{◌≡◌};
 ghost use Rattle.records.specs.Path.{path_of, path_end};
 
 use crate::Record;

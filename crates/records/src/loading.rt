@@ -1,5 +1,6 @@
 // Reading the record at a place of a list. Any bytes and any place are answered.
-ghost use Rattle.terms.specs.Common.{◌+◌, ◌*◌, ◌≤◌, ◌<◌, ◌≡◌, length};
+ghost use Rattle.std.specs.Prelude.{◌+◌, ◌*◌, ◌≤◌, ◌<◌, ◌≡◌};
+ghost use Rattle.terms.specs.Common.{length};
 ghost use Rattle.records.specs.Layout.{point_of, arc_of, record_of, numbers_in, has_plane, head_length};
 ghost use Rattle.records.specs.Reading.{kind_at, plane_at, plane_for, len_at, numbers_at, read_at};
 ghost use Rattle.records.specs.Serving.{found_kind, found_plane};

@@ -1,5 +1,6 @@
 // Writing one record at a place of a list. Each function answers the place after what it wrote.
-ghost use Rattle.terms.specs.Common.{◌+◌, ◌≤◌, ◌≡◌, [], ◌∷◌, ◌++◌, length};
+ghost use Rattle.std.specs.Prelude.{◌+◌, ◌≤◌, ◌≡◌, ◌∷◌, ◌++◌};
+ghost use Rattle.terms.specs.Common.{[], length};
 ghost use Rattle.lengths.specs.View.{Short};
 ghost use Rattle.records.specs.{declared.Record.TheVariants.RP, declared.Record.TheVariants.LN, declared.Record.TheVariants.AR, Path.arc_moved, Writing.AllShort, Writing.moved_bytes, Writing.RoomFor, Serving.Wrote};
 ghost use Rattle.records.specs.Layout.{mark_of, plane_byte, point_numbers, arc_numbers, number_bytes};

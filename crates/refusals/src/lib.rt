@@ -1,7 +1,7 @@
 // The sixteen refusals of document 01's table, in its order, the place that a refusal names, and what a run answers.
 #![tactic(auto)]
 
-ghost use Rattle.terms.specs.Common.{◌≡◌};
+ghost use Rattle.std.specs.Prelude.{◌≡◌};
 ghost use Rattle.refusals.specs.{Numbers.number_of, Answers.count_of};
 
 #[derive(Clone, Copy)]

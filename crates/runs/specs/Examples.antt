@@ -1,6 +1,7 @@
 -- Document 01, "Numbers to try": the sample of seven blocks with its list, and small runs of which the answer is known,
 -- under setup T. Document 02, #101: arcs by their radius, with their lists; #102: holes after the first.
-use Rattle.terms.specs.Common.{ℕ, String, true, false, List, [], ◌∷◌, ◌++◌, ℤ, pos, negsuc}
+use Rattle.std.specs.Prelude.{◌∷◌, ◌++◌}
+use Rattle.terms.specs.Common.{ℕ, String, true, false, List, [], ℤ, pos, negsuc}
 use Rattle.terms.specs.Terms.{bytes}
 use Rattle.lengths.specs.{Units.len, declared.Point.Point}
 use Rattle.refusals.specs.Answers.{NumberedAnswer, done, not_finished, refused_with, report_of}

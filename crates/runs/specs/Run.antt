@@ -1,6 +1,6 @@
 -- The run of a data set under a setup: "Order: 13, 12, 11; then per opening 1, 8, 7. Then, block by block".
-use Rattle.terms.specs.Common.{ℕ, ◌+◌, not, List, [], ◌∷◌, map, ltb, length}
-use Rattle.terms.specs.Terms.{if◌then◌else◌}
+use Rattle.std.specs.Prelude.{◌+◌, ◌∷◌, if◌then◌else◌}
+use Rattle.terms.specs.Common.{ℕ, not, List, [], map, ltb, length}
 use Rattle.lengths.specs.Units.{len}
 use Rattle.refusals.specs.declared.Refusal.TheVariants.{FirstBlock, BadSetup, DataTooLong}
 use Rattle.refusals.specs.declared.{Place.Place, Answer.Answer, Answer.TheVariants.Done, Answer.TheVariants.Unfinished, Answer.TheVariants.Refused}
@@ -46,8 +46,8 @@ run_blocks s bytes room budget (b ∷ bs) =
 unfoldable pub outcome : Setup → List ℕ → ℕ → Budget → Outcome
 outcome s bytes room budget =
     if ltb 65_535 (length bytes) then just (Walk.refused_at DataTooLong nowhere) (first_of s)
-    else if not (valid_setup s) then just (Walk.refused_at BadSetup nowhere) (first_of s)
-    else run_blocks s bytes room budget (blocks_of bytes)
+    else (if not (valid_setup s) then just (Walk.refused_at BadSetup nowhere) (first_of s)
+    else run_blocks s bytes room budget (blocks_of bytes))
 
 -- The records in machine units, and the answer with their count.
 unfoldable pub records_of : Setup → List ℕ → ℕ → Budget → List Record

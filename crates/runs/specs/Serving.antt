@@ -1,5 +1,6 @@
 -- What only serves the code of the run: its progress and what it tells, by the words of the rules.
-use Rattle.terms.specs.Common.{◌+◌, length}
+use Rattle.std.specs.Prelude.{◌+◌}
+use Rattle.terms.specs.Common.{length}
 use Rattle.lengths.specs.declared.Point.{Point}
 use Rattle.records.specs.Layout.{room_of}
 use Rattle.settings.specs.Settings.{state_moved}

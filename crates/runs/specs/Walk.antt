@@ -1,6 +1,6 @@
 -- The walk through the blocks of a program: executed blocks, calls, budget and room.
-use Rattle.terms.specs.Common.{ℕ, zero, suc, ◌+◌, ◌-◌, Bool, true, false, ◌&&◌, ◌||◌, Option, none, some, List, [], ◌∷◌, ◌++◌, eqb, drop}
-use Rattle.terms.specs.Terms.{if◌then◌else◌}
+use Rattle.std.specs.Prelude.{◌+◌, ◌-◌, ◌&&◌, ◌||◌, ◌∷◌, ◌++◌, if◌then◌else◌}
+use Rattle.terms.specs.Common.{ℕ, zero, suc, Bool, true, false, Option, none, some, List, [], eqb, drop}
 use Rattle.refusals.specs.declared.{Refusal.Refusal, Refusal.TheVariants.NoEnd, Place.Place}
 use Rattle.records.specs.{declared.Record.Record, Layout.room_of}
 use Rattle.settings.specs.declared.State.{State}

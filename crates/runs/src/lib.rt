@@ -1,7 +1,8 @@
 // The run of a data set, as rules; its budget, its progress from block to block, and what it tells before any block.
 #![tactic(auto)]
 
-ghost use Rattle.terms.specs.Common.{◌≡◌, true, false, ◌+◌, ◌<◌, ◌^◌};
+ghost use Rattle.std.specs.Prelude.{◌≡◌, ◌+◌, ◌<◌, ◌^◌};
+ghost use Rattle.terms.specs.Common.{true, false};
 ghost use Rattle.setup.specs.{Limits.valid_setup, Frame.offset};
 ghost use Rattle.runs.specs.{Walk.is_spent, Walk.one_less, Walk.just, Walk.refused_at, Run.first_of, Serving.progress_by, Serving.report_by};
 

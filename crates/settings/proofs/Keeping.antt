@@ -1,8 +1,8 @@
 -- What is kept where no cycle is on, and how large what a cycle keeps is. Assumes nothing.
+use Rattle.std.specs.Prelude.{if◌then◌else◌}
 use Rattle.terms.proofs.Common.{◌≡◌, refl, true, false, [], ◌∷◌, arith}
 use denote.Enum.Declared.{tag_of}
 use types.Run.{OneOf, miss}
-use Rattle.terms.specs.Terms.{if◌then◌else◌}
 use Rattle.lengths.specs.{declared.Len.Len, View.Within}
 use Rattle.codes.{specs.declared.Cycle.Cycle, specs.declared.Motion.Motion, specs.declared.Distance.Distance, specs.contracts.Motion.the_type as motion-type}
 use Rattle.codes.specs.declared.Motion.TheVariants.{Off, G00, G01, G02, G03, Drilling}

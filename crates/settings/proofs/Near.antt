@@ -1,6 +1,6 @@
 -- How near the place is that a word leads to. Assumes nothing.
+use Rattle.std.specs.Prelude.{if◌then◌else◌}
 use Rattle.terms.proofs.Common.{ℕ, ◌+◌, true, false, arith}
-use Rattle.terms.specs.Terms.{if◌then◌else◌}
 use Rattle.lengths.{specs.declared.Len.Len, specs.Units.◌⊕◌, specs.View.Within, specs.declared.Point.Point, specs.Near.Near, proofs.Laws.sum_bal}
 use Rattle.codes.specs.declared.Distance.{Distance, TheVariants.Absolute, TheVariants.Incremental}
 use Rattle.words.specs.declared.{Given.Given, Values.Values}

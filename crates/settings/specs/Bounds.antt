@@ -1,6 +1,6 @@
 -- The bounds that a run keeps in the frame of the common offset, under which every sum of this layer fits 64 bits, and what the
 -- functions on them answer.
-use Rattle.terms.specs.Common.{◌≡◌}
+use Rattle.std.specs.Prelude.{◌≡◌}
 use Rattle.lengths.specs.{declared.Len.Len, View.Within, declared.Point.Point, Near.Near}
 use Rattle.codes.specs.declared.Distance.{Distance}
 use Rattle.words.specs.declared.{Given.Given, Values.Values}

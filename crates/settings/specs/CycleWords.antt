@@ -1,6 +1,6 @@
 -- Document 02, #102, "Holes after the first": what a cycle keeps for the blocks after it.
-use Rattle.terms.specs.Common.{Bool, ◌||◌, eqb}
-use Rattle.terms.specs.Terms.{if◌then◌else◌}
+use Rattle.std.specs.Prelude.{◌||◌, if◌then◌else◌}
+use Rattle.terms.specs.Common.{Bool, eqb}
 use Rattle.lengths.specs.declared.Len.{Len}
 use Rattle.codes.specs.{declared.Cycle.Cycle, declared.Motion.Motion, declared.Distance.Distance, Codes.cycle_number}
 use Rattle.codes.specs.declared.Motion.TheVariants.{Off, G00, G01, G02, G03, Drilling}

@@ -1,6 +1,6 @@
 -- The settings of a run, and how codes and words change them.
+use Rattle.std.specs.Prelude.{if◌then◌else◌}
 use Rattle.terms.specs.Common.{false, pos}
-use Rattle.terms.specs.Terms.{if◌then◌else◌}
 use Rattle.lengths.specs.{declared.Len.Len, Units.len, Units.◌⊕◌, declared.Point.Point, Points.moved}
 use Rattle.codes.specs.declared.{Motion.TheVariants.Off, Plane.TheVariants.G17, Unit.TheVariants.Millimetre, Distance.TheVariants.Absolute, Return.TheVariants.ToInitial, Code.Code}
 use Rattle.codes.specs.declared.Code.TheVariants.{GroupA, GroupB, GroupC, GroupD, GroupE, GroupF, G04, Unknown}

@@ -1,6 +1,6 @@
 -- Document 01, "G00, G01": where a word leads. "a missing axis stays. G91 adds to the current point." In the frame of the
 -- common offset a point is the selected origin plus the workpiece coordinate.
-use Rattle.terms.specs.Terms.{if◌then◌else◌}
+use Rattle.std.specs.Prelude.{if◌then◌else◌}
 use Rattle.lengths.specs.{declared.Len.Len, Units.◌⊕◌, declared.Point.Point}
 use Rattle.codes.specs.declared.Distance.{Distance, TheVariants.Absolute, TheVariants.Incremental}
 use Rattle.words.specs.declared.{Given.Given, Values.Values}

@@ -1,5 +1,5 @@
 // What a cycle keeps for the blocks after it: the words of Z, R and P, and the initial level.
-ghost use Rattle.terms.specs.Common.{◌≡◌};
+ghost use Rattle.std.specs.Prelude.{◌≡◌};
 ghost use Rattle.settings.specs.{Settings.none_kept, CycleWords.same_cycle, CycleWords.kept_before, CycleWords.under_by, CycleWords.stands_with, CycleWords.under_with, CycleWords.kept_with, CycleWords.kept_under};
 
 use crate::{Kept, Stands, State, Under};

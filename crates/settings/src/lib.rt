@@ -3,7 +3,7 @@
 
 mod cycle_words;
 
-ghost use Rattle.terms.specs.Common.{◌≡◌, ◌^◌};
+ghost use Rattle.std.specs.Prelude.{◌≡◌, ◌^◌};
 ghost use Rattle.lengths.specs.{View.Within, Near.Near};
 ghost use Rattle.codes.specs.declared.Code.TheVariants.{GroupA, GroupB, GroupC, GroupD, GroupE, GroupF};
 ghost use Rattle.settings.specs.{Settings.first_modes, Settings.first_state, Settings.kept_moved, Settings.state_moved, Settings.switched, Settings.or_else, Target.base, Target.aimed};

@@ -1,8 +1,9 @@
 -- The first broken limit of lists one after the other, and of a setup that keeps them all. Assumes nothing.
+use Rattle.std.specs.Prelude.{if◌then◌else◌}
 use Rattle.terms.proofs.Common.{ℕ, suc, ◌+◌, ◌≤◌, ◌<◌, ◌≡◌, refl, sym, ap, ap₂, ◌∙◌, Bool, true, false, false≢true, ◌&&◌, List, [], ◌∷◌, ◌++◌, add-one, length, drop, get_or, drop_of_length-le, drop-cons, ℤ, le_z}
 use denote.Enum.Declared.{tag_of}
 use types.Run.{OneOf, miss}
-use Rattle.terms.{specs.Terms.if◌then◌else◌, specs.Terms.all, specs.Terms.between, specs.Terms.within, proofs.Laws.both_left, proofs.Laws.both_right}
+use Rattle.terms.{specs.Terms.all, specs.Terms.between, specs.Terms.within, proofs.Laws.both_left, proofs.Laws.both_right}
 use Rattle.lengths.specs.declared.Point.{Point}
 use Rattle.setup.specs.{declared.Axes.Axes, declared.Setup.Setup, Frame.point_of}
 use Rattle.setup.specs.declared.{Axis.Axis, Axis.TheVariants.X, Axis.TheVariants.Y, Axis.TheVariants.Z, Offset.Offset, Offset.TheVariants.Common, Offset.TheVariants.Origin, Fault.Fault}

@@ -1,6 +1,7 @@
 -- Document 01, "Numbers to try": setup T. And setups at each limit of "Lengths and the setup" and one past it, each made
 -- from setup T by one change.
-use Rattle.terms.specs.Common.{ℕ, Bool, true, false, List, [], ◌∷◌, ◌++◌, ℤ, pos, negsuc, neg_ℤ, get_or, set}
+use Rattle.std.specs.Prelude.{◌∷◌, ◌++◌}
+use Rattle.terms.specs.Common.{ℕ, Bool, true, false, List, [], ℤ, pos, negsuc, neg_ℤ, get_or, set}
 use Rattle.setup.specs.declared.{Axes.Axes, Setup.Setup}
 
 abbrev axes : ℤ → ℤ → ℤ → Axes

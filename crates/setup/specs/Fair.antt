@@ -1,5 +1,6 @@
 -- The bounds that every valid setup keeps, as linear facts, in the frame of the common offset.
-use Rattle.terms.specs.Common.{ℕ, ◌≡◌, length}
+use Rattle.std.specs.Prelude.{◌≡◌}
+use Rattle.terms.specs.Common.{ℕ, length}
 use Rattle.lengths.specs.{View.Within, Points.moved, Near.Near}
 use Rattle.setup.specs.{declared.Bed.Bed, Frame.origin_at}
 

@@ -1,6 +1,7 @@
 -- Which limit of document 01, "Lengths and the setup", a setup breaks first.
-use Rattle.terms.specs.Common.{ℕ, suc, Bool, List, [], ◌∷◌, ◌++◌, ℤ, le_z}
-use Rattle.terms.specs.Terms.{if◌then◌else◌, between, within}
+use Rattle.std.specs.Prelude.{◌∷◌, ◌++◌, if◌then◌else◌}
+use Rattle.terms.specs.Common.{ℕ, suc, Bool, List, [], ℤ, le_z}
+use Rattle.terms.specs.Terms.{between, within}
 use Rattle.lengths.specs.declared.Point.{Point}
 use Rattle.setup.specs.{declared.Axes.Axes, declared.Setup.Setup, Frame.point_of}
 use Rattle.setup.specs.declared.{Axis.Axis, Axis.TheVariants.X, Axis.TheVariants.Y, Axis.TheVariants.Z, Offset.Offset, Offset.TheVariants.Common, Offset.TheVariants.Origin, Fault.Fault}

@@ -1,5 +1,6 @@
 -- Document 01, "Lengths and the setup": the limits that a setup keeps, or is refused with 12.
-use Rattle.terms.specs.Common.{ℕ, Bool, ◌&&◌, ℤ, pos, le_z}
+use Rattle.std.specs.Prelude.{◌&&◌}
+use Rattle.terms.specs.Common.{ℕ, Bool, ℤ, pos, le_z}
 use Rattle.terms.specs.Terms.{all, between, within}
 use Rattle.setup.specs.declared.{Axes.Axes, Setup.Setup}
 

@@ -1,5 +1,5 @@
 // Which limit of document 01 a setup breaks first, so that a shop's message can name it.
-ghost use Rattle.terms.specs.Common.{◌≡◌};
+ghost use Rattle.std.specs.Prelude.{◌≡◌};
 ghost use Rattle.setup.specs.Faults.{first_broken, axis_limits, travel_limits, place_limits, origin_limits, number_limits, fault_of};
 
 use crate::{

@@ -4,7 +4,8 @@
 mod faults;
 mod numbers_to_try;
 
-ghost use Rattle.terms.specs.{Common.◌≡◌, Common.true, Common.map, Terms.between, Terms.within};
+ghost use Rattle.std.specs.Prelude.{◌≡◌};
+ghost use Rattle.terms.specs.{Common.true, Common.map, Terms.between, Terms.within};
 ghost use Rattle.lengths.specs.Units.{len};
 ghost use Rattle.setup.specs.Limits.{feed_fits, range_fits, speed_fits, switch_fits, valid_setup};
 ghost use Rattle.setup.specs.Frame.{point_of, start_of, travel_of, bed_of, switch_on};

@@ -1,5 +1,5 @@
 // Document 01's setup T, for the programs that run under it.
-ghost use Rattle.terms.specs.Common.{◌≡◌};
+ghost use Rattle.std.specs.Prelude.{◌≡◌};
 ghost use Rattle.setup.specs.Examples.{setup_t};
 
 use crate::{Axes, Setup};

@@ -1,6 +1,7 @@
 -- How a setup file is read, number by number. Assumes nothing.
+use Rattle.std.specs.Prelude.{if◌then◌else◌}
 use Rattle.terms.proofs.Common.{ℕ, zero, suc, ◌+◌, ◌-◌, ◌≤◌, ◌<◌, ◌≡◌, refl, sym, ap, ◌∙◌, Bool, true, false, ◌||◌, List, [], ◌∷◌, ◌++◌, append_assoc, append-nil, arith, add-one, leb, ltb, length, take, drop, get_or, set, length-set, drop_of_length-le, List·getD-map, slice, drop-cons, take_all, take-suc-set, le-leb, lt-leb, leb-true, ltb-true, ne_eqb}
-use Rattle.terms.{specs.Terms.if◌then◌else◌, specs.Terms.bytes, specs.Terms.from_to, proofs.Laws.both_left, proofs.Laws.every_place_lem}
+use Rattle.terms.{specs.Terms.bytes, specs.Terms.from_to, proofs.Laws.both_left, proofs.Laws.every_place_lem}
 use Rattle.lengths.specs.declared.Len.{Len}
 use Rattle.lines.proofs.Lines.{at_place}
 use Rattle.setup.specs.declared.Setup.{Setup}

@@ -1,7 +1,8 @@
 -- A setup file. Its words are 35 numbers in the order of the setup, and nothing else; or the same with a name before the
 -- first number of each group. A file is named where its first word begins with a small letter, and then every name stands.
-use Rattle.terms.specs.Common.{ℕ, ◌+◌, ◌-◌, ◌/◌, ◌%◌, String, Bool, true, false, List, [], ◌∷◌, ◌++◌, map, leb, eqb, ℤ, pos, length, get_or}
-use Rattle.terms.specs.Terms.{if◌then◌else◌, bytes}
+use Rattle.std.specs.Prelude.{◌+◌, ◌-◌, ◌/◌, ◌%◌, ◌∷◌, ◌++◌, if◌then◌else◌}
+use Rattle.terms.specs.Common.{ℕ, String, Bool, true, false, List, [], map, leb, eqb, ℤ, pos, length, get_or}
+use Rattle.terms.specs.Terms.{bytes}
 use Rattle.lengths.specs.{declared.Len.Len, Units.len}
 use Rattle.setup.specs.declared.{Axes.Axes, Setup.Setup}
 use Rattle.texts.specs.{Texts.next, Texts.word_at, Texts.same_bytes, Texts.is_lettered, Figures.worth_of, declared.Wrong.Wrong}
@@ -24,7 +25,7 @@ names =
 
 -- which of the fifteen names stands before a number, or 15 where none does
 unfoldable pub name_of : ℕ → ℕ
-name_of k = if leb 30 k then k - 20 else if eqb (k % 3) 0 then k / 3 else 15
+name_of k = if leb 30 k then k - 20 else (if eqb (k % 3) 0 then k / 3 else 15)
 
 abbrev pub plan : Bool → List (List ℕ)
 plan true = names

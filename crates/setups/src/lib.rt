@@ -1,7 +1,8 @@
 // Setup files: a text of 35 numbers, with names before them or without, read as a setup.
 #![tactic(auto)]
 
-ghost use Rattle.terms.specs.Common.{◌≡◌, ◌+◌, ◌≤◌, ◌<◌, [], length, get_or};
+ghost use Rattle.std.specs.Prelude.{◌≡◌, ◌+◌, ◌≤◌, ◌<◌};
+ghost use Rattle.terms.specs.Common.{[], length, get_or};
 ghost use Rattle.texts.specs.Texts.{next};
 ghost use Rattle.setups.specs.Setups.{names, name_of, plan, is_named, name_at, number_at, entry_at, ended, axes_of, setup_of, refused, answered, setup_in};
 

@@ -1,5 +1,6 @@
 -- What a setup file's text is worth to a command, and the line of a place in it.
-use Rattle.terms.specs.Common.{ℕ, ◌+◌, Bool, ◌&&◌, List, take}
+use Rattle.std.specs.Prelude.{◌+◌, ◌&&◌}
+use Rattle.terms.specs.Common.{ℕ, Bool, List, take}
 use Rattle.lines.specs.Blocks.{is_lf}
 use Rattle.words.specs.Numbers.{count}
 use Rattle.texts.specs.Texts.{none_wrong}

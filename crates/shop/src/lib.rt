@@ -6,7 +6,7 @@ mod plotting;
 mod running;
 mod setup_files;
 
-ghost use Rattle.terms.specs.Common.{◌≡◌};
+ghost use Rattle.std.specs.Prelude.{◌≡◌};
 ghost use Rattle.shop.specs.Asking.{asked_by};
 
 use answers::{Shown, show_list};

@@ -1,5 +1,6 @@
 // The run of a data set under a setup, from files to a file.
-ghost use Rattle.terms.specs.Common.{◌≤◌};
+
+ghost use Rattle.std.specs.Prelude.{◌≤◌};
 
 use crate::setup_files::setup_in;
 use answers::{show_answer, show_standing};

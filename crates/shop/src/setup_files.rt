@@ -1,5 +1,5 @@
 // Setups in files: one is read, or a line says what is wrong with it.
-ghost use Rattle.terms.specs.Common.{◌≡◌};
+ghost use Rattle.std.specs.Prelude.{◌≡◌};
 ghost use Rattle.texts.specs.Texts.{none_wrong};
 ghost use Rattle.setups.specs.Setups.{setup_in};
 ghost use Rattle.shop.specs.Knowing.{known_by, line_of};

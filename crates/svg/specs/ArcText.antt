@@ -1,6 +1,7 @@
 -- "Arcs as arcs": an arc as SVG text, in units, seen from above or from the side.
+use Rattle.std.specs.Prelude.{if◌then◌else◌}
 use Rattle.terms.specs.Common.{ℕ, zero, suc, Bool, true, false, not, List, [], pos}
-use Rattle.terms.specs.Terms.{if◌then◌else◌, bytes}
+use Rattle.terms.specs.Terms.{bytes}
 use Rattle.lengths.specs.{Units.len, View.Within, declared.Point.Point, declared.Flat.Flat, Points.flat}
 use Rattle.codes.specs.declared.Plane.{Plane, TheVariants.G17, TheVariants.G18, TheVariants.G19}
 use Rattle.records.specs.declared.Arc.{Arc}

@@ -1,6 +1,7 @@
 -- Text written into a buffer that may be too short for it, and numbers as text.
-use Rattle.terms.specs.Common.{ℕ, zero, suc, ◌+◌, ◌-◌, ◌/◌, ◌%◌, ◌≡◌, List, [], ◌∷◌, ◌++◌, ltb, eqb, ℤ, pos, negsuc, length, sets}
-use Rattle.terms.specs.Terms.{if◌then◌else◌, bytes}
+use Rattle.std.specs.Prelude.{◌+◌, ◌-◌, ◌/◌, ◌%◌, ◌≡◌, ◌∷◌, ◌++◌, if◌then◌else◌}
+use Rattle.terms.specs.Common.{ℕ, zero, suc, List, [], ltb, eqb, ℤ, pos, negsuc, length, sets}
+use Rattle.terms.specs.Terms.{bytes}
 use Rattle.lengths.specs.declared.Flat.{Flat}
 
 -- Bytes written over a buffer from a place on, as far as the buffer goes, every other byte as it was; and the place after

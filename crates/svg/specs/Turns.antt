@@ -1,6 +1,6 @@
 -- The turn of an arc: quarters of it, the points where they lead, and which arcs have numbers that leave room for that.
-use Rattle.terms.specs.Common.{ℕ, Bool, true, false, not, ◌&&◌, leb, neg_ℤ, nat_abs, ◌-ℤ◌}
-use Rattle.terms.specs.Terms.{if◌then◌else◌}
+use Rattle.std.specs.Prelude.{◌&&◌, ◌-ℤ◌, if◌then◌else◌}
+use Rattle.terms.specs.Common.{ℕ, Bool, true, false, not, leb, neg_ℤ, nat_abs}
 use Rattle.lengths.specs.{declared.Len.Len, Units.len, Units.◌⊕◌, Units.fits_four, View.Short, declared.Point.Point, declared.Flat.Flat, Points.flat}
 use Rattle.codes.specs.declared.Plane.{Plane, TheVariants.G17, TheVariants.G18, TheVariants.G19}
 use Rattle.records.specs.declared.Arc.{Arc}

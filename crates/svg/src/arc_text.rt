@@ -1,5 +1,6 @@
 // An arc as SVG text: round where its plane is seen from the front, and from its edge as the straight line that it is from there.
-ghost use Rattle.terms.specs.Common.{◌≡◌, pos};
+ghost use Rattle.std.specs.Prelude.{◌≡◌};
+ghost use Rattle.terms.specs.Common.{pos};
 ghost use Rattle.arcs.specs.{Arcs.towards, Bounds.Small};
 ghost use Rattle.svg.specs.ArcText.{Ready, is_round, turn_seen, piece, seen_arc, seen_on, quarters, passes, extremes, bend, arc};
 ghost use Rattle.svg.specs.{Text.Fills, Turns.Drawable};

@@ -1,6 +1,7 @@
 // Writing text at a place of a buffer that may be too short for it. Each function writes what there is room for and answers
 // the place after it, so that a writer of many parts tests the room once, at the end.
-ghost use Rattle.terms.specs.Common.{◌≡◌, [], ◌∷◌};
+ghost use Rattle.std.specs.Prelude.{◌≡◌, ◌∷◌};
+ghost use Rattle.terms.specs.Common.{[]};
 ghost use Rattle.svg.specs.Text.{Fills, digits, number, across, filled};
 
 use lengths::{Flat, Len};

@@ -1,5 +1,5 @@
 // Directions from the centre of an arc, a quarter of a turn after the other, and the points where they lead.
-ghost use Rattle.terms.specs.Common.{◌≤◌, ◌≡◌};
+ghost use Rattle.std.specs.Prelude.{◌≤◌, ◌≡◌};
 ghost use Rattle.arcs.specs.Bounds.{Small};
 ghost use Rattle.svg.specs.Turns.{quarter_on, onward, soon, point_on, radius_of, near, drawable, Drawable};
 

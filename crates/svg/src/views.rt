@@ -1,5 +1,5 @@
 // Points as they are seen, and lines as SVG text, in units.
-ghost use Rattle.terms.specs.Common.{◌≡◌};
+ghost use Rattle.std.specs.Prelude.{◌≡◌};
 ghost use Rattle.svg.specs.{Text.Fills, Lines.seen_from, Lines.line};
 
 use crate::View;

@@ -1,12 +1,7 @@
 -- The words that the definitions of every layer are written in.
-use Rattle.terms.specs.Common.{ℕ, Char, code, String, Bool, true, false, ◌&&◌, ◌||◌, Option, none, some, List, [], ◌∷◌, leb, eqb, ℤ, nat_abs, le_z}
+use Rattle.std.specs.Prelude.{if◌then◌else◌, cond, ◌&&◌, ◌||◌, ◌∷◌}
+use Rattle.terms.specs.Common.{ℕ, Char, code, String, Bool, true, false, Option, none, some, List, [], leb, eqb, ℤ, nat_abs, le_z}
 use Prim.Native.String as Text
-
--- A choice by a test. Only the branch that is taken is looked into.
-infixr 1 if◌then◌else◌
-abbrev pub if◌then◌else◌ {ℓ} : {A : Type ℓ} → Bool → A → A → A
-if true then a else b = a
-if false then a else b = b
 
 -- the bytes of a text that is written in ASCII
 abbrev pub bytes : String → List ℕ
@@ -32,7 +27,7 @@ module _ {ℓ} {A : Type ℓ} where
   -- the first of a list that passes a test
   unfoldable pub first : (A → Bool) → List A → Option A
   first test [] = none
-  first test (a ∷ as') = if test a then some a else first test as'
+  first test (a ∷ as') = cond (test a) (some a) (first test as')
 
   -- whether one of a list, or each of it, passes a test
   unfoldable pub any : (A → Bool) → List A → Bool

@@ -1,6 +1,6 @@
 -- The gaps and the words of a setup file by their places. Assumes nothing.
+use Rattle.std.specs.Prelude.{if◌then◌else◌}
 use Rattle.terms.proofs.Common.{ℕ, suc, ◌+◌, ◌-◌, ◌≤◌, ◌<◌, ◌≡◌, refl, sym, ap, ◌∙◌, Bool, true, false, ◌&&◌, List, [], ◌∷◌, arith, add-one, dec_lt, eqb, length, take, drop, get_or, drop_of_length-le, length-drop, slice, slice-cons, slice_empty, length-slice, length-take-le, drop-cons, drop_at, take-add, eq-eqb, ne_eqb}
-use Rattle.terms.specs.Terms.{if◌then◌else◌}
 use Rattle.lines.proofs.Lines.{at_place}
 use Rattle.words.{specs.Numbers.run, proofs.Numbers.run_short}
 use Rattle.texts.specs.{Texts.space_of, Texts.gap_by, Texts.gap, Texts.in_word, Texts.word_at, Texts.same_bytes, declared.Space.TheVariants.Gap, declared.Space.TheVariants.Word}

@@ -1,6 +1,7 @@
 -- What a word is worth as a number, digit by digit. Assumes nothing.
+use Rattle.std.specs.Prelude.{if◌then◌else◌}
 use Rattle.terms.proofs.Common.{ℕ, suc, ◌+◌, ◌-◌, ◌*◌, ◌^◌, ◌≤◌, ◌<◌, ◌≡◌, sym, ap, ◌∙◌, Bool, true, false, and-false, List, [], ◌∷◌, arith, pow-le-pow_right, add-one, leb, length, take, get_or, slice, slice-cons, slice_empty, length-slice, drop-drop, le-leb, lt-leb}
-use Rattle.terms.specs.Terms.{if◌then◌else◌, all}
+use Rattle.terms.specs.Terms.{all}
 use Rattle.words.specs.{Numbers.is_digit, Numbers.sign_of, Numbers.sign_length, Numbers.digits_after, Values.signed, declared.Sign.Sign}
 use Rattle.words.{specs.declared.Sign.TheVariants.Plain, specs.declared.Sign.TheVariants.Plus, specs.declared.Sign.TheVariants.Minus, proofs.Numbers.sign_first, proofs.Numbers.ten_more}
 use Rattle.texts.specs.Figures.{digits_in, largest, fitted, worth_by, worth_of}

@@ -1,6 +1,7 @@
 -- A number of a setup file: a sign or none and one to nineteen digits, of a value that fits 64 bits with a sign.
-use Rattle.terms.specs.Common.{ℕ, ◌-◌, ◌^◌, ◌&&◌, List, leb, length, drop}
-use Rattle.terms.specs.Terms.{if◌then◌else◌, all, from_to}
+use Rattle.std.specs.Prelude.{◌-◌, ◌^◌, ◌&&◌, if◌then◌else◌}
+use Rattle.terms.specs.Common.{ℕ, List, leb, length, drop}
+use Rattle.terms.specs.Terms.{all, from_to}
 use Rattle.lengths.specs.Units.{len}
 use Rattle.words.specs.{Numbers.is_digit, Numbers.sign_of, Numbers.sign_length, Numbers.digits_after, Values.signed, declared.Sign.Sign}
 use Rattle.words.specs.declared.Sign.TheVariants.{Plain, Plus, Minus}

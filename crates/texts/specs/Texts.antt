@@ -1,6 +1,7 @@
 -- The text of a setup file: its words, and what stands between them.
-use Rattle.terms.specs.Common.{ℕ, suc, ◌+◌, Bool, true, false, not, ◌&&◌, ◌||◌, List, [], ◌∷◌, eqb, drop}
-use Rattle.terms.specs.Terms.{if◌then◌else◌, byte, from_to}
+use Rattle.std.specs.Prelude.{◌+◌, ◌&&◌, ◌||◌, ◌∷◌, if◌then◌else◌}
+use Rattle.terms.specs.Common.{ℕ, suc, Bool, true, false, not, List, [], eqb, drop}
+use Rattle.terms.specs.Terms.{byte, from_to}
 use Rattle.words.specs.Numbers.{run}
 use Rattle.texts.specs.declared.{Wrong.Wrong, Space.Space, Space.TheVariants.Gap, Space.TheVariants.Word}
 use Rattle.texts.specs.declared.Wrong.TheVariants.{Nothing, NoNumber, TooLarge, OtherName, TooFew, TooMuch}
@@ -25,7 +26,7 @@ is_hash b = eqb b (byte "#")
 -- after it or not, or the first byte of a word.
 unfoldable pub space_of : Bool → ℕ → Space
 space_of true b = Gap (not (eqb b (byte "\n")))
-space_of false b = if is_hash b then Gap true else if is_blank b then Gap false else Word
+space_of false b = if is_hash b then Gap true else (if is_blank b then Gap false else Word)
 
 unfoldable pub gap_by : Space → (Bool → ℕ) → ℕ
 gap_by (Gap inside) rest = suc (rest inside)

@@ -1,8 +1,9 @@
 // The words of a text, apart by blanks and comments, and what one is worth as a number.
 #![tactic(auto)]
 
+ghost use Rattle.std.specs.Prelude.{◌≡◌, ◌+◌, ◌^◌, ◌≤◌, ◌<◌};
 ghost use Rattle.std.proofs.Math.Seq.{slice};
-ghost use Rattle.terms.specs.Common.{◌≡◌, ◌+◌, ◌^◌, ◌≤◌, ◌<◌, length};
+ghost use Rattle.terms.specs.Common.{length};
 ghost use Rattle.words.specs.declared.Sign.TheVariants.{Plain, Minus};
 ghost use Rattle.texts.specs.Texts.{none_wrong, is_blank, space_of, next, in_word, word_at, same_bytes};
 ghost use Rattle.texts.specs.Figures.{digits_in, fitted, worth_of};

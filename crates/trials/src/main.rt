@@ -2,7 +2,8 @@
 // after `$ ` and done, wrong uses being told on standard output; `print FILE` prints a file's bytes.
 #![tactic(auto)]
 
-ghost use Rattle.terms.specs.Common.{◌≤◌, ◌<◌, length};
+ghost use Rattle.std.specs.Prelude.{◌≤◌, ◌<◌};
+ghost use Rattle.terms.specs.Common.{length};
 ghost use Rattle.io.specs.Counts.{IsPrefixLen};
 
 use files::{STDIN_FILENO, STDOUT_FILENO};

@@ -1,5 +1,6 @@
 -- What a number of two words is worth, and what dividing it answers.
-use Rattle.terms.specs.Common.{ℕ, ◌+◌, ◌*◌, ◌/◌, ◌%◌, ◌^◌, ◌≡◌}
+use Rattle.std.specs.Prelude.{◌+◌, ◌*◌, ◌/◌, ◌%◌, ◌^◌, ◌≡◌}
+use Rattle.terms.specs.Common.{ℕ}
 use Rattle.wide.specs.declared.{Wide.Wide, Division.Division}
 
 abbrev pub worth : Wide → ℕ

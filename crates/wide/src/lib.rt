@@ -1,7 +1,7 @@
 // Numbers past 64 bits, as two words: a product of two numbers of 64 bits, and its division by a third.
 #![tactic(auto)]
 
-ghost use Rattle.terms.specs.Common.{◌≡◌, ◌*◌, ◌^◌, ◌≤◌, ◌<◌};
+ghost use Rattle.std.specs.Prelude.{◌≡◌, ◌*◌, ◌^◌, ◌≤◌, ◌<◌};
 ghost use Rattle.wide.specs.Wide.{worth, Divides};
 
 #[derive(Clone, Copy)]

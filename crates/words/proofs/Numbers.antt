@@ -1,7 +1,8 @@
 -- Laws of the rule of a number: what is known of every number that is read, and what its figures have to do with the text.
 -- Assumes nothing.
+use Rattle.std.specs.Prelude.{if◌then◌else◌}
 use Rattle.terms.proofs.Common.{ℕ, ◌+◌, ◌-◌, ◌*◌, ◌^◌, ◌≤◌, ◌<◌, ◌≡◌, refl, sym, ◌∙◌, Bool, true, false, ◌&&◌, and-false, List, [], ◌∷◌, ◌++◌, add-zero, pow-suc, pow-le-pow_right, add-one, arith, leb, eqb, length, drop, get_or, length-drop, slice, slice-cons, lt-leb, leb-true, eqb-false}
-use Rattle.terms.{specs.Terms.if◌then◌else◌, specs.Terms.byte, specs.Terms.from_to, proofs.Laws.both_left, proofs.Laws.both_right}
+use Rattle.terms.{specs.Terms.byte, specs.Terms.from_to, proofs.Laws.both_left, proofs.Laws.both_right}
 use Rattle.words.specs.{Serving.Written, declared.Sign.Sign, declared.Sign.TheVariants.Plain, declared.Sign.TheVariants.Plus, declared.Sign.TheVariants.Minus, declared.Number.Number}
 use Rattle.words.specs.declared.Numbered.{Numbered, TheVariants.Is, TheVariants.Unreadable}
 use Rattle.words.specs.Numbers.{is_digit, is_point, is_figure, sign_of, sign_length, run, count, digits_after, decimals_of, is_numeral, number_by, number_in}

@@ -1,6 +1,6 @@
 -- Laws of what a written number is worth: the value that the code computes is the rule's. Assumes nothing.
+use Rattle.std.specs.Prelude.{if◌then◌else◌}
 use Rattle.terms.proofs.Common.{ℕ, zero, suc, ◌-◌, ◌*◌, ◌^◌, ◌≤◌, ◌<◌, min, ◌≡◌, refl, sym, ◌∙◌, Bool, true, false, ◌&&◌, mul-le-mul, pow-le-pow_right, arith, leb, ℤ, pos, nat_abs, le_z, lt_z, le-leb, lt-leb}
-use Rattle.terms.specs.Terms.{if◌then◌else◌}
 use Rattle.lengths.specs.{Units.len, declared.Len.Len}
 use Rattle.codes.specs.declared.Unit.{Unit, TheVariants.Inch, TheVariants.Millimetre}
 use Rattle.words.specs.Serving.{Written, Steps}

@@ -1,7 +1,8 @@
 -- Document 01, "Data set and blocks": a number as it is written.
 -- "a number: a sign or none, digits with at most one point, one to nine digits in all."
-use Rattle.terms.specs.Common.{ℕ, ◌+◌, ◌-◌, ◌*◌, Bool, ◌&&◌, ◌||◌, List, [], ◌∷◌, leb, eqb, length, drop}
-use Rattle.terms.specs.Terms.{if◌then◌else◌, byte, from_to}
+use Rattle.std.specs.Prelude.{◌+◌, ◌-◌, ◌*◌, ◌&&◌, ◌||◌, ◌∷◌, if◌then◌else◌}
+use Rattle.terms.specs.Common.{ℕ, Bool, List, [], leb, eqb, length, drop}
+use Rattle.terms.specs.Terms.{byte, from_to}
 use Rattle.words.specs.declared.Sign.{Sign, TheVariants.Plain, TheVariants.Plus, TheVariants.Minus}
 use Rattle.words.specs.declared.Numbered.{Numbered, TheVariants.Is, TheVariants.Unreadable}
 
@@ -17,7 +18,7 @@ is_figure b = is_digit b || is_point b
 -- the sign that the bytes begin with, and how many bytes it takes
 unfoldable pub sign_of : List ℕ → Sign
 sign_of [] = Plain
-sign_of (b ∷ bs) = if eqb b (byte "+") then Plus else if eqb b (byte "-") then Minus else Plain
+sign_of (b ∷ bs) = if eqb b (byte "+") then Plus else (if eqb b (byte "-") then Minus else Plain)
 
 unfoldable pub sign_length : Sign → ℕ
 sign_length Plain = 0

@@ -1,7 +1,7 @@
 -- What only serves the code: a word in one number, its place apart, and the words of two lists that hold them so.
-use Rattle.terms.specs.Common.{ℕ, ◌+◌, ◌*◌, ◌/◌, ◌%◌, List, [], ◌∷◌, eqb}
+use Rattle.std.specs.Prelude.{◌+◌, ◌*◌, ◌/◌, ◌%◌, ◌∷◌, if◌then◌else◌}
+use Rattle.terms.specs.Common.{ℕ, List, [], eqb}
 use mir.Val.{bool_byte}
-use Rattle.terms.specs.Terms.{if◌then◌else◌}
 use Rattle.words.specs.declared.{Sign.Sign, Sign.TheVariants.Plain, Sign.TheVariants.Plus, Sign.TheVariants.Minus, Word.Word}
 
 unfoldable pub sign_number : Sign → ℕ
@@ -10,7 +10,7 @@ sign_number Plus = 1
 sign_number Minus = 2
 
 unfoldable pub sign_at : ℕ → Sign
-sign_at n = if eqb n 0 then Plain else if eqb n 1 then Plus else Minus
+sign_at n = if eqb n 0 then Plain else (if eqb n 1 then Plus else Minus)
 
 unfoldable pub packed : Word → ℕ
 packed w =

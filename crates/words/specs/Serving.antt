@@ -1,5 +1,6 @@
 -- What only serves proofs: what holds of every number that is read, and the steps in which a value is reckoned.
-use Rattle.terms.specs.Common.{◌≤◌, ◌<◌, ℕ, ◌≡◌, false}
+use Rattle.std.specs.Prelude.{◌≤◌, ◌<◌, ◌≡◌}
+use Rattle.terms.specs.Common.{ℕ, false}
 use Rattle.words.specs.{declared.Number.Number, Values.steps_of}
 
 -- what holds of every number that is read (number_in_written, in proofs/)

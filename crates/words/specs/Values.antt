@@ -1,6 +1,7 @@
 -- Document 01: what a written number is worth, by what its letter means in the block.
-use Rattle.terms.specs.Common.{ℕ, ◌-◌, ◌*◌, ◌^◌, min, Bool, true, false, not, ◌&&◌, leb, ℤ, pos, neg_ℤ, lt_z}
-use Rattle.terms.specs.Terms.{if◌then◌else◌, between, within}
+use Rattle.std.specs.Prelude.{◌-◌, ◌*◌, ◌^◌, ◌&&◌, if◌then◌else◌}
+use Rattle.terms.specs.Common.{ℕ, min, Bool, true, false, not, leb, ℤ, pos, neg_ℤ, lt_z}
+use Rattle.terms.specs.Terms.{between, within}
 use Rattle.lengths.specs.Units.{len}
 use Rattle.codes.specs.declared.Unit.{Unit, TheVariants.Inch, TheVariants.Millimetre}
 use Rattle.words.specs.declared.{Sign.Sign, Sign.TheVariants.Plain, Sign.TheVariants.Plus, Sign.TheVariants.Minus, Number.Number, Use.Use, Given.Given, Values.Values, Value.Value}

@@ -1,6 +1,7 @@
 -- Document 01, "Data set and blocks": the words of a block's text, with blanks and comments between them.
-use Rattle.terms.specs.Common.{ℕ, zero, suc, ◌+◌, Bool, ◌||◌, Option, none, some, List, [], ◌∷◌, eqb}
-use Rattle.terms.specs.Terms.{if◌then◌else◌, byte, from_to}
+use Rattle.std.specs.Prelude.{◌+◌, ◌||◌, ◌∷◌, if◌then◌else◌}
+use Rattle.terms.specs.Common.{ℕ, zero, suc, Bool, Option, none, some, List, [], eqb}
+use Rattle.terms.specs.Terms.{byte, from_to}
 use Rattle.words.specs.{Numbers.number_in, declared.Numbered.Numbered, declared.Numbered.TheVariants.Is, declared.Numbered.TheVariants.Unreadable, declared.Word.Word}
 
 -- "Blanks (space, tab)"
@@ -39,9 +40,9 @@ word_item at letter Unreadable = unreadable
 unfoldable pub item_at : ℕ → ℕ → List ℕ → Item
 item_at at b bs =
     if is_blank b then gap 0
-    else if eqb b (byte "(") then comment_item (closing bs)
-    else if is_capital b then word_item at b (number_in bs)
-    else unreadable
+    else (if eqb b (byte "(") then comment_item (closing bs)
+    else (if is_capital b then word_item at b (number_in bs)
+    else unreadable))
 
 -- The words of a text, or the place of its leftmost unreadable byte or number.
 pub data Words : Type 0 where

@@ -3,7 +3,8 @@
 
 mod numerals;
 
-ghost use Rattle.terms.specs.Common.{◌≡◌, ◌^◌, ◌≤◌, ◌<◌, not, ◌&&◌, pos, length, lt_z};
+ghost use Rattle.std.specs.Prelude.{◌≡◌, ◌^◌, ◌≤◌, ◌<◌, ◌&&◌};
+ghost use Rattle.terms.specs.Common.{not, pos, length, lt_z};
 ghost use Rattle.terms.specs.Terms.{byte, between};
 ghost use Rattle.lengths.specs.Units.{len};
 ghost use Rattle.words.specs.Values.{is_plain, signed, places_of, units_of, length_of, is_length, dwell_of, is_dwell, count_of, checked, value_of};

@@ -1,6 +1,7 @@
 // Reading a number as it is written, each byte once.
+ghost use Rattle.std.specs.Prelude.{◌≡◌, ◌+◌, ◌≤◌, ◌∷◌};
 ghost use Rattle.std.proofs.Math.Seq.{slice};
-ghost use Rattle.terms.specs.Common.{◌≡◌, ◌+◌, ◌≤◌, [], ◌∷◌, length, drop};
+ghost use Rattle.terms.specs.Common.{[], length, drop};
 ghost use Rattle.words.specs.Numbers.{is_figure, sign_of, sign_length, run, number_by, number_in};
 
 use crate::{Number, Numbered, Sign};

@@ -1,11 +1,11 @@
 -- What the code plans stands for the motion that the rules give. Assumes nothing.
+use Rattle.std.specs.Prelude.{if◌then◌else◌}
 use Rattle.terms.proofs.Common.{ℕ, zero, suc, ◌≡◌, refl, sym, ◌∙◌, ap, ap₂, Bool, true, false, false≢true, not, ◌||◌, [], ◌∷◌, ◌++◌, arith, not-true, not-false}
 use denote.Enum.Declared.{tag_of}
 use types.Run.{OneOf, miss}
 use Rattle.codes.{specs.declared.Motion.Motion, specs.declared.Cycle.Cycle, specs.declared.Distance.Distance, specs.contracts.Motion.the_type as motion-type}
 use Rattle.codes.specs.declared.Motion.TheVariants.{Off, G00, G01, G02, G03, Drilling}
 use Rattle.letters.specs.Letters.{turns}
-use Rattle.terms.specs.Terms.{if◌then◌else◌}
 use Rattle.lengths.specs.{declared.Len.Len, declared.Point.Point, Points.at_height}
 use Rattle.words.specs.declared.Values.{Values}
 use Rattle.records.specs.{declared.Arc.Arc, declared.Record.Record, Path.end_of}

@@ -1,5 +1,6 @@
 -- What the functions on a block's work count on.
-use Rattle.terms.specs.Common.{ℕ, ◌≤◌, ◌≡◌, Bool, true}
+use Rattle.std.specs.Prelude.{◌≤◌, ◌≡◌}
+use Rattle.terms.specs.Common.{ℕ, Bool, true}
 use Rattle.lengths.specs.{View.Within, declared.Point.Point, declared.Travel.Travel, Points.inside, Near.Near}
 use Rattle.codes.specs.declared.{Cycle.Cycle, Motion.TheVariants.Drilling}
 use Rattle.words.specs.declared.Values.{Values}

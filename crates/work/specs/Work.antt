@@ -1,6 +1,6 @@
 -- How the code holds what a block makes: so many passes of the same few records, and what they come to.
-use Rattle.terms.specs.Common.{ℕ, zero, suc, ◌+◌, Bool, true, false, not, List, [], ◌∷◌, ◌++◌, length}
-use Rattle.terms.specs.Terms.{if◌then◌else◌}
+use Rattle.std.specs.Prelude.{◌+◌, ◌∷◌, ◌++◌, if◌then◌else◌}
+use Rattle.terms.specs.Common.{ℕ, zero, suc, Bool, true, false, not, List, [], length}
 use Rattle.lengths.specs.declared.{Len.Len, Point.Point, Travel.Travel}
 use Rattle.words.specs.declared.Values.{Values}
 use Rattle.records.specs.{declared.Arc.Arc, declared.Record.Record, Layout.room_of, Path.path_of, Path.end_of, Path.record_moved}

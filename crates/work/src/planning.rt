@@ -1,5 +1,5 @@
 // The motion of a block as a plan.
-ghost use Rattle.terms.specs.{Common.◌≡◌, Terms.if◌then◌else◌};
+ghost use Rattle.std.specs.Prelude.{◌≡◌, if◌then◌else◌};
 ghost use Rattle.settings.specs.{Target.target, Bounds.Aims};
 ghost use Rattle.codes.specs.declared.Motion.TheVariants.{Drilling};
 ghost use Rattle.letters.specs.declared.BlockCode.TheVariants.{Moving};

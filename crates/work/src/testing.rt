@@ -1,5 +1,6 @@
 // What is asked of a block's work before it is written: its centres, its path, and what its records come to.
-ghost use Rattle.terms.specs.Common.{◌+◌, ◌^◌, ◌≤◌, ◌≡◌, true, [], ◌∷◌};
+ghost use Rattle.std.specs.Prelude.{◌+◌, ◌^◌, ◌≤◌, ◌≡◌, ◌∷◌};
+ghost use Rattle.terms.specs.Common.{true, []};
 ghost use Rattle.lengths.specs.{Near.Near, Points.inside};
 ghost use Rattle.records.specs.{Path.path_of, Path.record_moved, Displacing.Loose};
 ghost use Rattle.arcs.specs.{Arcs.centre_fits, Arcs.path_stays, Bounds.PathBounds};

@@ -1,5 +1,6 @@
 // Writing a block's records in machine units, one after the other. Each function answers the place after them.
-ghost use Rattle.terms.specs.Common.{◌+◌, ◌≤◌, length};
+ghost use Rattle.std.specs.Prelude.{◌+◌, ◌≤◌};
+ghost use Rattle.terms.specs.Common.{length};
 ghost use Rattle.records.specs.{Serving.Wrote, Layout.list_bytes, Layout.room_of, Writing.ListShort, Writing.moved_bytes, Writing.RoomFor};
 ghost use Rattle.cycles.specs.Cycles.{pass_to};
 ghost use Rattle.work.specs.{Work.work_records, Work.drilled, Work.brief_records, Needs.Writable};

@@ -8,8 +8,8 @@ pub loop-i-preserved : goal.loop-i-preserved
 loop-i-preserved c =
     let l = c.args.line.now in
     elim c.if-line-i-eq0.branch [
-      then-line-i-eq0 w ↦ omega (arith, count_one l c.loop-i.i (omega arith) w.if-line-i-eq0.true)
-    | else-line-i-eq0 w ↦ omega (arith, count_none l c.loop-i.i (omega arith) w.if-line-i-eq0.false)
+      | then-line-i-eq0 w ↦ omega (arith, count_one l c.loop-i.i (omega arith) w.if-line-i-eq0.true)
+      | else-line-i-eq0 w ↦ omega (arith, count_none l c.loop-i.i (omega arith) w.if-line-i-eq0.false)
     ]
 
 pub returns : goal.returns

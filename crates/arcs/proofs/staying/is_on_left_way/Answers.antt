@@ -1,6 +1,6 @@
 -- `arcs::staying::is_on_left_way` meets its contract, by the definition's three cases.
+use Rattle.std.specs.Prelude.{if◌then◌else◌}
 use Rattle.terms.proofs.Common.{◌≡◌, refl, sym, ◌∙◌, Bool, true, false, not, ◌||◌}
-use Rattle.terms.specs.Terms.{if◌then◌else◌}
 use Rattle.arcs.specs.Turning.{on_left_way}
 use Rattle.arcs.proofs.staying.is_on_left_way.Goals as goal
 

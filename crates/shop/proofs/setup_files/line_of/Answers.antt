@@ -16,8 +16,8 @@ pub loop-i-preserved : goal.loop-i-preserved
 loop-i-preserved c =
     let a = c.args in
     elim c.if-text-i-eq10.branch [
-      then-text-i-eq10 w ↦ omega (arith, one_ends a.text.now a.at c.loop-i.i (omega arith) (omega arith) w.if-text-i-eq10.true)
-    | else-text-i-eq10 w ↦ omega (arith, goes_on a.text.now a.at c.loop-i.i (omega arith) (omega arith) w.if-text-i-eq10.false)
+      | then-text-i-eq10 w ↦ omega (arith, one_ends a.text.now a.at c.loop-i.i (omega arith) (omega arith) w.if-text-i-eq10.true)
+      | else-text-i-eq10 w ↦ omega (arith, goes_on a.text.now a.at c.loop-i.i (omega arith) (omega arith) w.if-text-i-eq10.false)
     ]
 
 pub returns : goal.returns
