@@ -94,22 +94,22 @@ pub fn exec(
     s: &[u8],
     list: &mut [u8],
     at: usize,
-    ground: Ground,
+    footing: Ground,
     spot: Spot,
     state: State,
 ) -> Executed
     requires from_in_bounds { spot.from ≤ length s.now }
     requires at_in_bounds { at ≤ length list.old }
-    requires fair { Fair ground.bed }
-    requires reachable { Reachable ground.bed state }
-    ensures { Does ground.bed.offset (exec (machine_of ground.bed) (freely ground.left) (length list.old - at) state spot.start spot.from (text_from (drop spot.from s.now))) list.old at (spot.from + length_from (drop spot.from s.now)) list.new result }
+    requires fair { Fair footing.bed }
+    requires reachable { Reachable footing.bed state }
+    ensures { Does footing.bed.offset (exec (machine_of footing.bed) (freely footing.left) (length list.old - at) state spot.start spot.from (text_from (drop spot.from s.now))) list.old at (spot.from + length_from (drop spot.from s.now)) list.new result }
 {
-    let found = block_reading::read_block(s, spot.from, ground.left, ground.bed, state);
+    let found = block_reading::read_block(s, spot.from, footing.left, footing.bed, state);
     match found {
         BlockRead::Refused(refusal, byte) => Executed::Refused(refusal, byte),
         BlockRead::Says(said, end) => {
             let after = lines::next_block(s, end);
-            check_block(list, at, ground.bed, spot.start, after, state, said)
+            check_block(list, at, footing.bed, spot.start, after, state, said)
         }
     }
 }

@@ -44,38 +44,38 @@ module _ (at after : ℕ) where
 
 -- ---- what an accepted block keeps, skipped or executed: settings that a run can reach, and its records in the room
 
-module _ (ground : Ground) (skips : Bool) (b : Block) (room : ℕ) (s : State) where
+module _ (footing : Ground) (skips : Bool) (b : Block) (room : ℕ) (s : State) where
   -- the verdict by whether the block is skipped
   abbrev verdict_by : Bool → Verdict
   verdict_by skipped =
       if skipped then accepted s On []
       else
-      exec (machine_of ground.bed) (freely ground.left) room s b.start (b.start + slash_length b)
+      exec (machine_of footing.bed) (freely footing.left) room s b.start (b.start + slash_length b)
       (drop (slash_length b) b.text)
 
   pub verdict_kept :
-      {after : State} {control : Control} {made : List Record} → Fair ground.bed → Reachable ground.bed s → verdict_at ground skips b room s ≡ accepted after control made
-      → (Reachable ground.bed after) × (room_of made ≤ room)
+      {after : State} {control : Control} {made : List Record} → Fair footing.bed → Reachable footing.bed s → verdict_at footing skips b room s ≡ accepted after control made
+      → (Reachable footing.bed after) × (room_of made ≤ room)
   unfolding verdict_at room_of
   verdict_kept {after} {control} {made} fair state e = go (is_slashed b && skips) e
     where
-      go : (skipped : Bool) → verdict_by skipped ≡ accepted after control made → (Reachable ground.bed after) × (room_of made ≤ room)
+      go : (skipped : Bool) → verdict_by skipped ≡ accepted after control made → (Reachable footing.bed after) × (room_of made ≤ room)
       go true e =
           let f : s ≡ after = cc in
           let g : [] ≡ made = cc in
           rw (← f, ← g) (state, omega arith)
       go false e =
-          let k = accepted_kept ground.bed (freely ground.left) room s b.start fair state (b.start + slash_length b) (drop (slash_length b) b.text) after control made e in
+          let k = accepted_kept footing.bed (freely footing.left) room s b.start fair state (b.start + slash_length b) (drop (slash_length b) b.text) after control made e in
           (k.state, k.fits)
 
   -- and a block that calls makes no record
-  pub verdict_quiet : {n : ℕ} {after : State} {made : List Record} → verdict_at ground skips b room s ≡ accepted after (Call n) made → made ≡ []
+  pub verdict_quiet : {n : ℕ} {after : State} {made : List Record} → verdict_at footing skips b room s ≡ accepted after (Call n) made → made ≡ []
   unfolding verdict_at
   verdict_quiet {n} {after} {made} e = go (is_slashed b && skips) e
     where
       go : (skipped : Bool) → verdict_by skipped ≡ accepted after (Call n) made → made ≡ []
       go true e = cc
-      go false e = exec_makes_none (machine_of ground.bed) (freely ground.left) room s b.start (b.start + slash_length b) (drop (slash_length b) b.text) n after made e
+      go false e = exec_makes_none (machine_of footing.bed) (freely footing.left) room s b.start (b.start + slash_length b) (drop (slash_length b) b.text) n after made e
 
 -- ---- the verdict on a block without a slash, with one that is ignored, and on one that is skipped
 
@@ -84,18 +84,18 @@ unfolding begins_with
 text_some [] e = let z : ◌≡◌ {A = ℕ} 0 1 = cc in absurd (omega arith)
 text_some (b ∷ bs) e = omega arith
 
-module _ (l : List ℕ) (ground : Ground) (skips : Bool) (n at next : ℕ) (state : State) (was : List ℕ) where
+module _ (l : List ℕ) (footing : Ground) (skips : Bool) (n at next : ℕ) (state : State) (was : List ℕ) where
   abbrev after_it : ℕ
   after_it = at + length_from (drop at l)
 
   abbrev Did : List ℕ → Executed → Type 0
-  Did is r = Does ground.bed.offset (verdict_at ground skips (block_from n at (drop at l)) (length was - next) state) was next after_it is r
+  Did is r = Does footing.bed.offset (verdict_at footing skips (block_from n at (drop at l)) (length was - next) state) was next after_it is r
 
   -- what the words from a byte on give
   abbrev DidFrom : ℕ → List ℕ → Executed → Type 0
   DidFrom from is r =
-      Does ground.bed.offset
-      (exec (machine_of ground.bed) (freely ground.left) (length was - next) state at from (text_from (drop from l))) was next
+      Does footing.bed.offset
+      (exec (machine_of footing.bed) (freely footing.left) (length was - next) state at from (text_from (drop from l))) was next
       (from + length_from (drop from l)) is r
 
   pub does_plain : {is : List ℕ} {r : Executed} → begins_with 47 (text_from (drop at l)) ≡ false → DidFrom at is r → Did is r

@@ -37,9 +37,9 @@ unfoldable pub walk_from : List ℕ → ℕ → Task → ℕ → ℕ → ℕ →
 walk_from l room task left n at p =
     walk (job_of l task) left (callees (job_of l task) left) (blocks_from l n at) (going_of room p)
 
--- the task of a walk on a ground
+-- the task of a walk on a footing
 abbrev pub task_on : Ground → Bool → Programs → Task
-task_on ground skips programs = record { bed = ground.bed; programs = programs; skips = skips }
+task_on footing skips programs = record { bed = footing.bed; programs = programs; skips = skips }
 
 -- the walk from a leg's last block on, which is accepted but for its call of the number and makes no record
 unfoldable pub call_from : List ℕ → ℕ → Task → ℕ → ℕ → Leg → Outcome
@@ -55,10 +55,10 @@ program_ends (b ∷ bs) = begins_with (byte "O") (text_from (b ∷ bs)) || is_pe
 
 -- the verdict on a block but for its call; a skipped block is accepted with nothing done
 unfoldable pub verdict_at : Ground → Bool → Block → ℕ → State → Verdict
-verdict_at ground skips b room s =
+verdict_at footing skips b room s =
     if is_slashed b && skips then accepted s On []
     else
-    exec (machine_of ground.bed) (freely ground.left) room s b.start (b.start + slash_length b)
+    exec (machine_of footing.bed) (freely footing.left) room s b.start (b.start + slash_length b)
     (drop (slash_length b) b.text)
 
 -- how a walk ends, in the words of the rules: a return with what goes on, and a refusal with its place

@@ -34,7 +34,7 @@ fn program_ends(s: &[u8], at: usize) -> bool
 fn do_block(
     s: &[u8],
     list: &mut [u8],
-    ground: Ground,
+    footing: Ground,
     skips: bool,
     at: usize,
     next: usize,
@@ -42,10 +42,10 @@ fn do_block(
 ) -> Executed
     requires at_in_bounds { at < length s.now }
     requires next_in_bounds { next ≤ length list.old }
-    requires fair { Fair ground.bed }
-    requires reachable { Reachable ground.bed state }
-    ensures { (n : ℕ) → Does ground.bed.offset
-        (verdict_at ground skips (block_from n at (drop at s.now)) (length list.old - next) state)
+    requires fair { Fair footing.bed }
+    requires reachable { Reachable footing.bed state }
+    ensures { (n : ℕ) → Does footing.bed.offset
+        (verdict_at footing skips (block_from n at (drop at s.now)) (length list.old - next) state)
         list.old next (at + length_from (drop at s.now)) list.new result }
 {
     let slashed = lines::begins_with(s, at, b'/');
@@ -59,7 +59,7 @@ fn do_block(
         });
     }
     let from = if slashed { at + 1 } else { at };
-    execution::exec(s, list, next, ground, Spot { start: at, from }, state)
+    execution::exec(s, list, next, footing, Spot { start: at, from }, state)
 }
 
 // The walk is over at a place, with no more done.
@@ -80,15 +80,15 @@ fn over(how: How, place: Place, byte: usize, p: Progress) -> Leg
 fn run_leg(
     s: &[u8],
     list: &mut [u8],
-    ground: Ground,
+    footing: Ground,
     skips: bool,
     start: Place,
     mut p: Progress,
 ) -> Leg
-    requires fair { Fair ground.bed }
+    requires fair { Fair footing.bed }
     requires begins { Begins s.now start.block start.byte }
-    requires fits { Fits ground.bed (length list.old) p }
-    ensures { (programs : Programs) → Goes result.turn s.now (task_on ground skips programs) ground.left start.block start.byte
+    requires fits { Fits footing.bed (length list.old) p }
+    ensures { (programs : Programs) → Goes result.turn s.now (task_on footing skips programs) footing.left start.block start.byte
         p list.old list.new result }
 {
     let mut block = start.block;
@@ -102,7 +102,7 @@ fn run_leg(
         if program_ends(s, at) {
             return over(How::Refused(Refusal::NoEnd), place, at, p);
         }
-        match do_block(s, list, ground, skips, at, p.next, p.state) {
+        match do_block(s, list, footing, skips, at, p.next, p.state) {
             Executed::Refused(refusal, byte) => return over(How::Refused(refusal), place, byte, p),
             Executed::Accepted(done) => {
                 let control = done.control;
@@ -148,11 +148,11 @@ pub fn run_program(
         p list.old list.new result }
 {
     let bed = task.bed;
-    let ground = Ground { bed, left };
+    let footing = Ground { bed, left };
     let mut block = program.block;
     let mut at = program.byte;
     loop {
-        let leg = run_leg(s, list, ground, task.skips, Place { block, byte: at }, p);
+        let leg = run_leg(s, list, footing, task.skips, Place { block, byte: at }, p);
         let turn = leg.turn;
         let number = match turn {
             Turn::Over(how) => {

@@ -6,12 +6,12 @@ use Rattle.execution.proofs.exec.Goals as goal
 
 pub next_block-after-requires : goal.next_block-after-requires
 next_block-after-requires c =
-    let says : let a = c.args in BlockSays a.ground.bed a.ground.left a.state a.s.now a.spot.from c.in-Says.said c.in-Says.end = rw c.in-Says.is at c.read_block-found.ensures in
+    let says : let a = c.args in BlockSays a.footing.bed a.footing.left a.state a.s.now a.spot.from c.in-Says.said c.in-Says.end = rw c.in-Says.is at c.read_block-found.ensures in
     says.inside
 
 pub check_block-requires : goal.check_block-requires
 check_block-requires c =
-    let says : let a = c.args in BlockSays a.ground.bed a.ground.left a.state a.s.now a.spot.from c.in-Says.said c.in-Says.end = rw c.in-Says.is at c.read_block-found.ensures in
+    let says : let a = c.args in BlockSays a.footing.bed a.footing.left a.state a.s.now a.spot.from c.in-Says.said c.in-Says.end = rw c.in-Says.is at c.read_block-found.ensures in
     record { at_in_bounds = c.requires.at_in_bounds; steady = says.steady }
 
 pub returns-in-Refused : goal.returns-in-Refused
@@ -21,7 +21,7 @@ returns-in-Refused c =
 
 pub returns-in-Says : goal.returns-in-Says
 returns-in-Says c =
-    let says : let a = c.args in BlockSays a.ground.bed a.ground.left a.state a.s.now a.spot.from c.in-Says.said c.in-Says.end = rw c.in-Says.is at c.read_block-found.ensures in
+    let says : let a = c.args in BlockSays a.footing.bed a.footing.left a.state a.s.now a.spot.from c.in-Says.said c.in-Says.end = rw c.in-Says.is at c.read_block-found.ensures in
     let a = c.args in
     let h = says in
-    does_as (h.goes _ a.spot.start) (rw (c.next_block-after.ensures ∙ h.block) at (c.check_block.ensures a.ground.left h.ws))
+    does_as (h.goes _ a.spot.start) (rw (c.next_block-after.ensures ∙ h.block) at (c.check_block.ensures a.footing.left h.ws))

@@ -10,7 +10,7 @@ returns-then-slashed-skips c n =
     let a = c.args in
     let both = c.if-slashed-skips.true in
     let slash = c.begins_with-slashed.result in
-    does_skipped a.s.now a.ground a.skips n a.at a.next a.state a.list.now
+    does_skipped a.s.now a.footing a.skips n a.at a.next a.state a.list.now
     (sym c.begins_with-slashed.ensures ∙ both_left slash a.skips both) (both_right slash a.skips both) c.next_block.ensures
 
 pub exec-requires : goal.exec-requires
@@ -28,8 +28,8 @@ returns c n =
     let slash = sym c.begins_with-slashed.ensures in
     elim c.if-slashed.branch [
       | then-slashed w ↦
-          does_slashed a.s.now a.ground a.skips n a.at a.next a.state a.list.now (slash ∙ w.if-slashed.true)
+          does_slashed a.s.now a.footing a.skips n a.at a.next a.state a.list.now (slash ∙ w.if-slashed.true)
           (rw w.if-slashed.true at c.if-slashed-skips.false) (rw w.from-is at c.exec.ensures)
       | else-slashed w ↦
-          does_plain a.s.now a.ground a.skips n a.at a.next a.state a.list.now (slash ∙ w.if-slashed.false) (rw w.from-is at c.exec.ensures)
+          does_plain a.s.now a.footing a.skips n a.at a.next a.state a.list.now (slash ∙ w.if-slashed.false) (rw w.from-is at c.exec.ensures)
     ]
