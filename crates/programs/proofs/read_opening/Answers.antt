@@ -31,8 +31,8 @@ returns-then-only_gaps c =
 pub returns-else-only_gaps : goal.returns-else-only_gaps
 returns-else-only_gaps c =
     let is = c.read_digits-d.ensures in
-    let few = c.if-d-gt8.false in
+    let eight = c.if-d-gt8.false in
     sym
-    (opening_more is c.if-d-eq0.false few c.if-d-eq0-2.false c.if-d-gt9999.false
-    (ap only_gaps (after_digits c.args.s.now c.args.at c.read_digits-d.result (omega arith) is few)
+    (opening_more is c.if-d-eq0.false eight c.if-d-eq0-2.false c.if-d-gt9999.false
+    (ap only_gaps (after_digits c.args.s.now c.args.at c.read_digits-d.result (omega arith) is eight)
     ∙ sym c.only_gaps.ensures ∙ c.if-only_gaps.false))
