@@ -7,6 +7,6 @@ use Rattle.look.proofs.show_block.Goals as goal
 pub judged-requires : goal.judged-requires
 judged-requires c =
     let a = c.args in
-    let l = c.read_words-read.new.1.1.1.1 in
-    read_stored true a.modes a.s.now c.after_slash-from.result (words_in l.0 l.1.0) c.read_words-read.result c.read_words-read.ensures
+    let l = c.read_words-read.new in
+    read_stored true a.modes a.s.now c.after_slash-from.result (words_in l.words l.places) c.read_words-read.result c.read_words-read.ensures
     c.in-Fine.is
