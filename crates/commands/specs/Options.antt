@@ -44,7 +44,7 @@ with_option name number o =
     if same_bytes name (bytes "--blocks") then with_blocks o (digits_in number)
     else (if same_bytes name (bytes "--room") then with_room o (digits_in number)
     else (if same_bytes name (bytes "--partial") then with_partial o
-    else wrong_options)
+    else wrong_options))
 
 -- the next option, where a word is left and nothing was wrong before
 unfoldable pub with_next : List ℕ → ℕ → Options → Options
@@ -57,7 +57,7 @@ with_no_more count o = if o.fine && ltb o.next count then wrong_options else o
 
 -- LIST is the fourth word, unless an option stands there
 unfoldable pub is_listed : List ℕ → ℕ → Bool
-is_listed line count = ltb 3 count && not (same_bytes (take 2 (word_of 3 line)) (bytes ")--"))
+is_listed line count = ltb 3 count && not (same_bytes (take 2 (word_of 3 line)) (bytes "--"))
 
 unfoldable pub first_options : Bool → Options
 first_options listed = if listed then no_options true 4 else no_options false 3
