@@ -1,5 +1,5 @@
 -- `list_files::make_list` meets its contract: a part of the buffer is the run's room.
-use Rattle.terms.proofs.Common.{◌≡◌, sym, ◌∙◌, length, length-map, length-take-le}
+use Rattle.terms.proofs.Common.{◌≡◌, sym, length, length-take-le}
 use Rattle.list_files.proofs.{Listing.made}
 use Rattle.list_files.proofs.make_list.Goals as goal
 
@@ -10,6 +10,5 @@ slice_bounds-report_in-end-2 c =
 pub returns : goal.returns
 returns c =
     let a = c.args in
-    let known = c.well_formed.0.1.1.1.1.1.1.0.1.0.1 in
-    let six : length a.setup.origins ≡ 6 = sym (length-map a.setup.origins _) ∙ known in
+    let six : length a.setup.origins ≡ 6 = c.well_formed.0.1.1.1.1.1.1.0.1.0.1 in
     made a.setup six a.bytes.now a.options c.requires c.report_in-report.ensures
