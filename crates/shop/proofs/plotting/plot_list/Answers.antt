@@ -9,4 +9,4 @@ slice_bounds-picture-end g c =
 
 pub slice_bounds-write_whole-end : goal.slice_bounds-write_whole-end
 slice_bounds-write_whole-end g c =
-    sym (length-take-le c.in-Is.n c.draw-drawn.new.1.1.0 (omega (arith, c.draw-drawn.auto.1.1.0, draws_inside c.draw-drawn.ensures c.in-Is.is)))
+    sym (length-take-le c.in-Is.n c.draw-drawn.new.out (omega (arith, c.draw-drawn.auto.out, draws_inside c.draw-drawn.ensures c.in-Is.is)))

@@ -5,4 +5,4 @@ use Rattle.shop.proofs.running.run_data.Goals as goal
 pub slice_bounds-write_whole-end : goal.slice_bounds-write_whole-end
 slice_bounds-write_whole-end g c =
     let m = c.make_list-made in
-    sym (length-take-le m.result.end m.new.1.1.0 (search rules))
+    sym (length-take-le m.result.end m.new.list (search rules))
