@@ -21,4 +21,4 @@ end_after-end-requires c =
 pub returns : goal.returns
 returns c =
     let a = c.args in
-    case_is a.input.now a.at c.next_block-line.ensures c.next_block-from.ensures a.most c.read_setup-read.ensures c.count_at-first.ensures c.count_at-second.ensures c.count_at-third.ensures c.type_size.ensures c.size_of.ensures c.end_after-end.ensures c.none_wrong.ensures c.is_line_end.ensures
+    case_is a.input.now a.at c.next_block-line.ensures c.next_block-from.ensures a.most c.read_setup-read.ensures c.count_at-first.ensures c.count_at-second.ensures c.count_at-third.ensures c.size_of-room.ensures c.size_of.ensures c.end_after-end.ensures c.none_wrong.ensures c.is_line_end.ensures
