@@ -76,7 +76,7 @@ fn reason_of(error: i32) -> u64 {
     if error == EISDIR {
         return 3;
     }
-    if is_refused(error) {
+    if (error == EACCES) | (error == EPERM) | (error == EROFS) {
         return 4;
     }
     if error == ENOSPC {
@@ -95,11 +95,6 @@ fn reason_of(error: i32) -> u64 {
         return 9;
     }
     0
-}
-
-// Whether the system does not let this user do what was asked.
-pub fn is_refused(error: i32) -> bool {
-    (error == EACCES) | (error == EPERM) | (error == EROFS)
 }
 
 // A line of a text by its number, the first being 1; whether all of it was written.

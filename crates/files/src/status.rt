@@ -4,7 +4,6 @@ ghost use Rattle.std.specs.Prelude.{IfOk, ◌≡◌, ◌&&◌};
 ghost use Rattle.files.specs.Names.{named_of, NamedBy, Spelt};
 
 use crate::Named;
-use crate::messages::is_refused;
 use crate::system::{EILSEQ, ENAMETOOLONG, ENOENT, PATH_MAX, REGULAR, number_by};
 use std::fs::{Metadata, OpenOptions};
 use std::io::{Error, Result};
@@ -113,7 +112,7 @@ fn is_locked(rt: &impl Files, path: &str, mode: u32) -> bool {
     }
     match OpenOptions::new().write(true).open(rt, path) {
         Ok(_) => false,
-        Err(why) => is_refused(number_by(why)),
+        Err(_) => true,
     }
 }
 

@@ -60,7 +60,7 @@ module _ (s : SeenArc) where
   unfoldable pub quarters : ℕ → Flat → List ℕ
   quarters zero d = []
   quarters (suc n) d =
-      if soon s.turn d s.end then [] else piece (seen_on (quarter_on s.turn d)) ⧺ quarters n (quarter_on s.turn d)
+      if soon s.turn d s.end then [] else (piece (seen_on (quarter_on s.turn d)) ⧺ quarters n (quarter_on s.turn d))
 
   -- the directions that the path passes: to the left from its start to its end, or to the right
   unfoldable pub passes : Flat → Bool
@@ -79,7 +79,7 @@ module _ (s : SeenArc) where
   bend =
       let end = seen_from s.view s.arc.end in
       if is_round s.view s.arc.plane then quarters 3 s.start ⧺ piece end
-      else extremes 4 (towards s.radius.v (pos 0)) ⧺ filled (bytes "L_ _") end end
+      else (extremes 4 (towards s.radius.v (pos 0)) ⧺ filled (bytes "L_ _") end end)
 
 -- an arc of another list, whose numbers leave no room, is drawn as the straight line between its ends
 unfoldable pub arc : View → Point → Arc → Bool → List ℕ
