@@ -8,31 +8,31 @@ ghost use Rattle.io.specs.Counts.{IsPrefixLen};
 
 use files::{STDIN_FILENO, STDOUT_FILENO};
 use std::fs;
-use std::io::{Print, Result};
+use std::io::Print;
 use std::os::unix::fs::symlink;
 use std::rt::Files;
 
-fn main(rt: HostRuntime) -> Result<()> {
-    make_links(&rt)?;
+fn main(rt: HostRuntime) {
+    make_links(&rt);
     let mut input = io::large_buffer();
     let n = io::read_full(STDIN_FILENO, &mut input);
     do_lines(&rt, &input[..n]);
-    Ok(())
 }
 
 // The links among the files, which a repository does not hold: to the data, to a list, to a setup, to nothing, and in a circle.
-fn make_links(rt: &impl Files) -> Result<()> {
-    make_link(rt, "../first.nc", "links/data")?;
-    make_link(rt, "../whole.list", "links/list")?;
-    make_link(rt, "../examples/T.setup", "links/setup")?;
-    make_link(rt, "../none.list", "links/nowhere")?;
-    make_link(rt, "circle", "links/circle")
+// So this runs in a copy of its folder of data.
+fn make_links(rt: &impl Files) {
+    make_link(rt, "../first.nc", "links/data");
+    make_link(rt, "../whole.list", "links/list");
+    make_link(rt, "../examples/T.setup", "links/setup");
+    make_link(rt, "../none.list", "links/nowhere");
+    make_link(rt, "circle", "links/circle");
 }
 
-// A link in place of what stands under its name.
-fn make_link(rt: &impl Files, to: &str, name: &str) -> Result<()> {
+// A link in place of what stands under its name. Where it cannot be made, the commands that name it say what they find.
+fn make_link(rt: &impl Files, to: &str, name: &str) {
     let _ = fs::remove_file(rt, name);
-    symlink(rt, to, name)
+    let _ = symlink(rt, to, name);
 }
 
 fn do_lines<R: Files + Print>(rt: &R, input: &[u8]) {
