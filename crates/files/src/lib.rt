@@ -31,7 +31,7 @@ pub struct Named {
     pub missing: bool,
     // The name itself is a symbolic link.
     pub link: bool,
-    // This user may not write the file.
+    // This user may not write the file, which is not asked of one that is only read, nor behind a link.
     pub locked: bool,
 }
 

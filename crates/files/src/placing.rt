@@ -15,8 +15,8 @@ pub struct Spot {
 
 // The spot of a name, for a command that reads two other files. Where it may not be written to, a line says why.
 pub fn spot_for(rt: &impl Files, path: &[u8], first: &[u8], second: &[u8], err: i32) -> Spot {
-    let out = named_by(rt, path);
-    let fate = fate_of(out, named_by(rt, first), named_by(rt, second));
+    let out = named_by(rt, path, true);
+    let fate = fate_of(out, named_by(rt, first, false), named_by(rt, second, false));
     match fate {
         Fate::New => Spot {
             mode: 0,

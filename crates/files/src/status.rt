@@ -26,8 +26,8 @@ struct Told {
     pub file: Filed,
 }
 
-// What the system says of a name. One that is too long leads nowhere.
-pub fn named_by(rt: &impl Files, path: &[u8]) -> Named
+// What the system says of a name, and of a file that is to be written whether it may be. A name that is too long leads nowhere.
+pub fn named_by(rt: &impl Files, path: &[u8], to_be_written: bool) -> Named
     ensures { NamedBy (length path.now) result }
 {
     if PATH_MAX <= path.len() {
@@ -43,19 +43,19 @@ pub fn named_by(rt: &impl Files, path: &[u8]) -> Named
         };
     }
     match spelt(path) {
-        Ok(name) => asked_of(rt, name),
+        Ok(name) => asked_of(rt, name, to_be_written),
         Err(why) => named_of(blank(), false, false, number_by(why), false, false),
     }
 }
 
-fn asked_of(rt: &impl Files, path: &str) -> Named
+fn asked_of(rt: &impl Files, path: &str, to_be_written: bool) -> Named
     ensures { result.missing ≡ (not result.there && result.missing) }
 {
     let told = told_of(rt.metadata(path));
     let file = told.file;
     let error = told.error;
-    let locked = is_locked(rt, path, file.mode);
     let link = is_link(rt, path);
+    let locked = to_be_written && !link && is_locked(rt, path, file.mode);
     named_of(file, told.there, error == ENOENT, error, link, locked)
 }
 
