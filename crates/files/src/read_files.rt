@@ -81,13 +81,21 @@ fn fill(file: &mut impl Read, buffer: &mut [u8]) -> Result<usize>
 {
     let mut at: usize = 0;
     while at < buffer.len() {
-        let count = file.read(&mut buffer[at..])?;
+        let count = read_on(file, buffer, at)?;
         if count == 0 {
             return Ok(at);
         }
         at += count;
     }
     Ok(at)
+}
+
+// One read into the buffer from a place on. At the file's end it reads no byte, and all is well.
+fn read_on(file: &mut impl Read, buffer: &mut [u8], at: usize) -> Result<usize>
+    requires { at ≤ length buffer.old }
+    ensures { IfOk result (λ count. at + count ≤ length buffer.new) }
+{
+    file.read(&mut buffer[at..])
 }
 
 // Whether a file goes on after the bytes that were read, or cannot be read on; then a line says so.
