@@ -1,6 +1,6 @@
 // The system asked about a name.
 ghost use Rattle.terms.specs.Common.{not, length};
-ghost use Rattle.std.specs.Prelude.{IfOk, ◌≡◌, ◌&&◌};
+ghost use Rattle.std.specs.Prelude.{IfOk, IsOk, IsTrue, false, ◌≡◌, ◌≢◌, ◌↔◌, ◌/◌, ◌%◌, ◌&&◌};
 ghost use Rattle.files.specs.Names.{named_of, NamedBy, Spelt};
 
 use crate::Named;
@@ -76,7 +76,9 @@ fn named_of(file: Filed, there: bool, absent: bool, error: i32, link: bool, lock
 }
 
 // The system's answer to the question which file a name leads to, links followed.
-fn told_of(answer: Result<Metadata>) -> Told {
+fn told_of(answer: Result<Metadata>) -> Told
+    ensures { IsTrue result.there ↔ IsOk answer }
+{
     match answer {
         Ok(file) => Told {
             there: true,
@@ -106,7 +108,9 @@ fn blank() -> Filed {
 
 // Whether this user may not write a file: a regular one is opened to be written, and nothing is written to it. Nothing else
 // is opened, since that may wait or do something.
-fn is_locked(rt: &impl Files, path: &str, mode: u32) -> bool {
+fn is_locked(rt: &impl Files, path: &str, mode: u32) -> bool
+    ensures { mode / 4096 % 16 ≢ 8 → result ≡ false }
+{
     if mode / 4096 % 16 != REGULAR {
         return false;
     }
