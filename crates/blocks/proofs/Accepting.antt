@@ -1,5 +1,5 @@
 -- A block that is accepted has passed every test of the rules, so that it keeps what a run counts on. Assumes nothing.
-use Rattle.terms.proofs.Common.{ℕ, ◌≡◌, refl, sym, ap, ◌∙◌, Bool, true, false, not, Option, none, some, List, [], ◌∷◌, ◌++◌, append-nil, arith, ltb, ltb-false, not-false}
+use Rattle.terms.proofs.Common.{ℕ, ◌≡◌, refl, sym, ap, ◌∙◌, Bool, true, false, not, Option, None, Some, List, [], ◌∷◌, ◌++◌, append-nil, arith, ltb, ltb-false, not-false}
 use Rattle.terms.specs.Terms.{first_of}
 use Rattle.refusals.specs.declared.Refusal.{Refusal, TheVariants.BadParameter, TheVariants.LeavesTravel, TheVariants.NoRoom}
 use Rattle.words.specs.{declared.Word.Word, Words.Words, Words.these, Words.bad_at, Words.words_of}
@@ -15,15 +15,15 @@ use Rattle.blocks.proofs.{Meaning.meant, Making.made_short, Making.kept}
 
 abbrev pub AllNone : List (Option Blame) → Type 0
 AllNone [] = Unit
-AllNone (o ∷ os) = (o ≡ none) × AllNone os
+AllNone (o ∷ os) = (o ≡ None) × AllNone os
 
-pub none_before : (os last : List (Option Blame)) → first_of (os ++ last) ≡ none → AllNone os × (first_of last ≡ none)
+pub none_before : (os last : List (Option Blame)) → first_of (os ++ last) ≡ None → AllNone os × (first_of last ≡ None)
 unfolding first_of
 none_before [] last e = (tt, e)
-none_before (none ∷ os) last e = let h = none_before os last e in ((refl, h.0), h.1)
-none_before (some blame ∷ os) last e = let no : ◌≡◌ {A = ℕ} 0 1 = cc in absurd (omega arith)
+none_before (None ∷ os) last e = let h = none_before os last e in ((refl, h.0), h.1)
+none_before (Some blame ∷ os) last e = let no : ◌≡◌ {A = ℕ} 0 1 = cc in absurd (omega arith)
 
-pub all_none : (os : List (Option Blame)) → first_of os ≡ none → AllNone os
+pub all_none : (os : List (Option Blame)) → first_of os ≡ None → AllNone os
 all_none os e = (none_before os [] (ap first_of (append-nil os) ∙ e)).0
 
 -- what has passed is passed over
@@ -32,12 +32,12 @@ unfolding first_of
 past_all [] last h = refl
 past_all (o ∷ os) last h = rw h.0 (past_all os last h.1)
 
-pub word_none : (refusal : Refusal) (o : Option Word) → at_word refusal o ≡ none → o ≡ none
+pub word_none : (refusal : Refusal) (o : Option Word) → at_word refusal o ≡ None → o ≡ None
 unfolding at_word
-word_none refusal none e = refl
-word_none refusal (some w) e = let no : ◌≡◌ {A = ℕ} 0 1 = cc in absurd (omega arith)
+word_none refusal None e = refl
+word_none refusal (Some w) e = let no : ◌≡◌ {A = ℕ} 0 1 = cc in absurd (omega arith)
 
-pub start_none : (start : ℕ) (refusal : Refusal) (test : Bool) → at_start start refusal test ≡ none → test ≡ false
+pub start_none : (start : ℕ) (refusal : Refusal) (test : Bool) → at_start start refusal test ≡ None → test ≡ false
 unfolding at_start
 start_none start refusal true e = let no : ◌≡◌ {A = ℕ} 0 1 = cc in absurd (omega arith)
 start_none start refusal false e = refl
@@ -46,7 +46,7 @@ start_none start refusal false e = refl
 pub judged_accepts :
     (machine : Machine) (calls : Calls) (room : ℕ) (s : State) (start : ℕ) (ws : List Word) (b : Said)
     {after : State} {control : Control} {done : List Record} → judged machine calls room s start ws b ≡ accepted after control done
-    → (first_of (blames machine calls room s start ws b) ≡ none)
+    → (first_of (blames machine calls room s start ws b) ≡ None)
     × (accepted after control done ≡ accepted (settled machine s b) (control_of b) (made_by machine s b))
 unfolding judged unless
 judged_accepts machine calls room s start ws b {after} {control} {done} = go (first_of (blames machine calls room s start ws b)) refl
@@ -54,10 +54,10 @@ judged_accepts machine calls room s start ws b {after} {control} {done} = go (fi
     go :
         (o : Option Blame) → first_of (blames machine calls room s start ws b) ≡ o
         → unless o (accepted (settled machine s b) (control_of b) (made_by machine s b)) ≡ accepted after control done
-        → (first_of (blames machine calls room s start ws b) ≡ none)
+        → (first_of (blames machine calls room s start ws b) ≡ None)
         × (accepted after control done ≡ accepted (settled machine s b) (control_of b) (made_by machine s b))
-    go none f g = (f, sym g)
-    go (some blame) f g = let no : ◌≡◌ {A = ℕ} 0 1 = cc in absurd (omega arith)
+    go None f g = (f, sym g)
+    go (Some blame) f g = let no : ◌≡◌ {A = ℕ} 0 1 = cc in absurd (omega arith)
 
 module _ (bed : Bed) (calls : Calls) (room : ℕ) (s : State) (start : ℕ) (fair : Fair bed) (state : Reachable bed s) where
   module _ (ws : List Word) where
@@ -67,7 +67,7 @@ module _ (bed : Bed) (calls : Calls) (room : ℕ) (s : State) (start : ℕ) (fai
     abbrev made : List Record
     made = made_by (machine_of bed) s b
 
-    keeps : first_of (blames (machine_of bed) calls room s start ws b) ≡ none → Keeps bed room s (settled (machine_of bed) s b) made
+    keeps : first_of (blames (machine_of bed) calls room s start ws b) ≡ None → Keeps bed room s (settled (machine_of bed) s b) made
     unfolding blames settled said_by
     keeps e =
         let passed = all_none (blames (machine_of bed) calls room s start ws b) e in

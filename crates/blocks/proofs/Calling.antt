@@ -1,7 +1,7 @@
 -- A block that calls makes no record, so that after 5 and 6 nothing can refuse it: its call may be tested last, where it is followed.
 -- Assumes nothing.
 use Rattle.std.specs.Prelude.{if◌then◌else◌}
-use Rattle.terms.proofs.Common.{ℕ, ◌≡◌, refl, sym, ◌∙◌, ap, Bool, true, false, not, ◌&&◌, and-false, Option, none, some, List, [], ◌∷◌, ◌++◌, append-nil, arith, eqb-true, le-ltb, eqb, ltb}
+use Rattle.terms.proofs.Common.{ℕ, ◌≡◌, refl, sym, ◌∙◌, ap, Bool, true, false, not, ◌&&◌, and-false, Option, None, Some, List, [], ◌∷◌, ◌++◌, append-nil, arith, eqb-true, le-ltb, eqb, ltb}
 use Rattle.terms.{specs.Terms.first, specs.Terms.first_of, specs.Terms.all, specs.Terms.lookup, proofs.Laws.either_left}
 use Rattle.refusals.specs.declared.Refusal.{Refusal}
 use Rattle.refusals.specs.declared.Refusal.TheVariants.{BadParameter, AddressUndefined, ParameterUndefined, CannotExecute, NumberNotFound, NestOver, LeavesTravel, NoRoom, CentreTooFar}
@@ -33,17 +33,17 @@ no_s plane letter e = go (eqb letter 83) refl
 
 -- a test of the words that none fails
 pub none_first :
-    {A : Type 0} (test : A → Bool) (a : A) (l : List A) → first test (a ∷ l) ≡ none → (test a ≡ false) × (first test l ≡ none)
+    {A : Type 0} (test : A → Bool) (a : A) (l : List A) → first test (a ∷ l) ≡ None → (test a ≡ false) × (first test l ≡ None)
 unfolding first
 none_first test a l e = go (test a) e
   where
-    go : (t : Bool) → (if t then some a else first test l) ≡ none → (t ≡ false) × (first test l ≡ none)
+    go : (t : Bool) → (if t then Some a else first test l) ≡ None → (t ≡ false) × (first test l ≡ None)
     go true f = let no : ◌≡◌ {A = ℕ} 0 1 = cc in absurd (omega arith)
     go false f = (refl, f)
 
 speed_missing :
     (plane : Plane) (centred : Bool) (speeds : Speeds) (m : Modes) (v : Values) (ws : List Word)
-    → first (is_unused Calling plane centred) ws ≡ none → (values_after v speeds m Calling ws).s ≡ v.s
+    → first (is_unused Calling plane centred) ws ≡ None → (values_after v speeds m Calling ws).s ≡ v.s
 unfolding values_after with_value is_unused
 speed_missing plane centred speeds m v [] e = refl
 speed_missing plane centred speeds m v (w ∷ ws) e =
@@ -53,10 +53,10 @@ speed_missing plane centred speeds m v (w ∷ ws) e =
 
 speed_off :
     (code : BlockCode) → code ≡ Calling → (plane : Plane) (centred : Bool) (speeds : Speeds) (m : Modes) (ws : List Word)
-    → first_unused code plane centred ws ≡ none → (values_of speeds m code ws).s.stands ≡ false
+    → first_unused code plane centred ws ≡ None → (values_of speeds m code ws).s.stands ≡ false
 unfolding first_unused
 speed_off code e plane centred speeds m ws h =
-    let none_is : first (is_unused Calling plane centred) ws ≡ none = rw e at h in
+    let none_is : first (is_unused Calling plane centred) ws ≡ None = rw e at h in
     rw e (ap (λ (g : Given). g.stands) (speed_missing plane centred speeds m no_values ws none_is))
 
 m98_is : (m : Misc) → is_m 98 m ≡ true → m ≡ M98
@@ -89,23 +89,23 @@ module _ (machine : Machine) (s : State) (b : Said) (misc : b.misc ≡ M98) (cod
       let none_over = le-ltb room 0 (omega arith) in
       (rw code, (rw code, (rw made, (rw made, (rw (made, none_over), tt)))))
 
-clear : (start : ℕ) (refusal : Refusal) (t : Bool) → t ≡ false → at_start start refusal t ≡ none
+clear : (start : ℕ) (refusal : Refusal) (t : Bool) → t ≡ false → at_start start refusal t ≡ None
 unfolding at_start
 clear start refusal t e = rw e
 
 -- ---- two tests out of the middle of the order, tested last
 
-without : (early late : List (Option Blame)) → first_of (early ++ none ∷ none ∷ late) ≡ first_of (early ++ late)
+without : (early late : List (Option Blame)) → first_of (early ++ None ∷ None ∷ late) ≡ first_of (early ++ late)
 unfolding first_of
 without [] late = refl
-without (none ∷ os) late = without os late
-without (some blame ∷ os) late = refl
+without (None ∷ os) late = without os late
+without (Some blame ∷ os) late = refl
 
-alone : (x y : Option Blame) (late : List (Option Blame)) → first_of late ≡ none → first_of (x ∷ y ∷ late) ≡ first_of (x ∷ y ∷ [])
+alone : (x y : Option Blame) (late : List (Option Blame)) → first_of late ≡ None → first_of (x ∷ y ∷ late) ≡ first_of (x ∷ y ∷ [])
 unfolding first_of
-alone none none late e = e
-alone none (some blame) late e = refl
-alone (some blame) y late e = refl
+alone None None late e = e
+alone None (Some blame) late e = refl
+alone (Some blame) y late e = refl
 
 module _ (calls : Calls) (start : ℕ) (s : State) (control : Control) (made : List Record) where
   abbrev done : Verdict
@@ -122,19 +122,19 @@ module _ (calls : Calls) (start : ℕ) (s : State) (control : Control) (made : L
       → unless (first_of (early ++ unknown ∷ deep ∷ late)) done ≡ called calls start (unless (first_of (early ++ late)) done)
   unfolding first_of unless called
   tested_last [] late h =
-      let e : first_of late ≡ none = ap first_of (sym (append-nil late)) ∙ past_all late [] (h tt) in
+      let e : first_of late ≡ None = ap first_of (sym (append-nil late)) ∙ past_all late [] (h tt) in
       ap (λ (o : Option Blame). unless o done) (alone unknown deep late e) ∙ rw e
-  tested_last (none ∷ os) late h = tested_last os late (λ a. h (refl, a))
-  tested_last (some blame ∷ os) late h = refl
+  tested_last (None ∷ os) late h = tested_last os late (λ a. h (refl, a))
+  tested_last (Some blame ∷ os) late h = refl
 
   -- a block that does not call
-  not_called : call_to control ≡ none → (o : Option Blame) → unless o done ≡ called calls start (unless o done)
+  not_called : call_to control ≡ None → (o : Option Blame) → unless o done ≡ called calls start (unless o done)
   unfolding unless called first_of at_start unknown_call too_deep
-  not_called e none = rw e
-  not_called e (some blame) = refl
+  not_called e None = rw e
+  not_called e (Some blame) = refl
 
   not_tested :
-      (early late : List (Option Blame)) → call_to control ≡ none
+      (early late : List (Option Blame)) → call_to control ≡ None
       → unless (first_of (early ++ unknown ∷ deep ∷ late)) done ≡ called calls start (unless (first_of (early ++ late)) done)
   unfolding unknown_call too_deep
   not_tested early late e =
@@ -148,23 +148,23 @@ module _ (calls : Calls) (start : ℕ) (s : State) (control : Control) (made : L
 module _ (left : ℕ) where
   pub free_known : (o : Option ℕ) → unknown_call (freely left) o ≡ false
   unfolding unknown_call freely
-  free_known none = refl
-  free_known (some n) = refl
+  free_known None = refl
+  free_known (Some n) = refl
 
   pub free_level : (o : Option ℕ) → too_deep (freely left) o ≡ false
   unfolding too_deep freely
-  free_level none = refl
-  free_level (some n) = elim (eqb left 4) as (λ t. eqb (if t then 4 else 1) 0 ≡ false) [ true ↦ refl | false ↦ refl ]
+  free_level None = refl
+  free_level (Some n) = elim (eqb left 4) as (λ t. eqb (if t then 4 else 1) 0 ≡ false) [ true ↦ refl | false ↦ refl ]
 
   pub free_main : in_main (freely left) ≡ eqb left 4
   unfolding freely
   free_main = elim (eqb left 4) as (λ t. eqb (if t then 4 else 1) 4 ≡ t) [ true ↦ refl | false ↦ refl ]
 
-calls_none : (b : Said) → is_m 98 b.misc ≡ false → call_to (control_of b) ≡ none
+calls_none : (b : Said) → is_m 98 b.misc ≡ false → call_to (control_of b) ≡ None
 unfolding control_of call_to
 calls_none b e = rw e (go (is_m 99 b.misc) (ends_program b.misc))
   where
-    go : (t u : Bool) → call_to (if t then Back else (if u then Stop else On)) ≡ none
+    go : (t u : Bool) → call_to (if t then Back else (if u then Stop else On)) ≡ None
     go true u = refl
     go false true = refl
     go false false = refl
@@ -253,7 +253,7 @@ module _ (machine : Machine) (calls : Calls) (room : ℕ) (s : State) (start : �
       go : (t : Bool) → is_m 98 b.misc ≡ t → t ≡ true
       go true f = refl
       go false f =
-          let no : some n ≡ none = ap call_to (sym e) ∙ calls_none b f in
+          let no : Some n ≡ None = ap call_to (sym e) ∙ calls_none b f in
           let z : ◌≡◌ {A = ℕ} 0 1 = cc in
           absurd (omega arith)
 
@@ -267,12 +267,12 @@ module _ (machine : Machine) (calls : Calls) (room : ℕ) (s : State) (start : �
       go :
           (o : Option Blame) → first_of (blames machine calls room s start ws (b ws)) ≡ o
           → unless o (accepted (settled machine s (b ws)) (control_of (b ws)) (made_by machine s (b ws))) ≡ accepted after (Call n) made → made ≡ []
-      go none f g =
+      go None f g =
           let control : control_of (b ws) ≡ Call n = cc in
           let all_of : made ≡ made_by machine s (b ws) = cc in
           let passed = all_none (blames machine calls room s start ws (b ws)) f in
           all_of ∙ m98_makes_none ws (calls_m98 (b ws) n control) (passed.0, (passed.1.0, (passed.1.1.0, (passed.1.1.1.0, tt))))
-      go (some blame) f g = let z : ◌≡◌ {A = ℕ} 0 1 = cc in absurd (omega arith)
+      go (Some blame) f g = let z : ◌≡◌ {A = ℕ} 0 1 = cc in absurd (omega arith)
 
   pub exec_makes_none :
       (at : ℕ) (text : List ℕ) (n : ℕ) (after : State) (made : List Record)

@@ -1,7 +1,7 @@
 -- What the words of a block say in a state that a run can reach: an origin of the table, and values within their limits. Assumes
 -- nothing.
 use Rattle.std.specs.Prelude.{if◌then◌else◌}
-use Rattle.terms.proofs.Common.{ℕ, ◌<◌, ◌≡◌, refl, Bool, true, false, none, List, [], ◌∷◌, eqb, ltb, ltb-true}
+use Rattle.terms.proofs.Common.{ℕ, ◌<◌, ◌≡◌, refl, Bool, true, false, None, List, [], ◌∷◌, eqb, ltb, ltb-true}
 use Rattle.terms.{specs.Terms.all, specs.Terms.lookup, proofs.Laws.both_left, proofs.Laws.both_right}
 use Rattle.codes.specs.{declared.Code.Code, Codes.g_table, Codes.code_of}
 use Rattle.codes.specs.declared.Code.TheVariants.{GroupA, GroupB, GroupC, GroupD, GroupE, GroupF, G04, Unknown}
@@ -62,7 +62,7 @@ origin_kept m (w ∷ ws) h = origin_kept (if is_g w then switched m (code_in w) 
 
 pub meant :
     (bed : Bed) (s : State) (ws : List Word) → Fair bed → Reachable bed s
-    → (let m = modes_in s.modes ws in first_bad_value (machine_of bed).speeds m (block_code m ws) ws ≡ none)
+    → (let m = modes_in s.modes ws in first_bad_value (machine_of bed).speeds m (block_code m ws) ws ≡ None)
     → Meant (said_by (machine_of bed) s.modes ws)
 unfolding said_by machine_of
 meant bed s ws fair state fine =

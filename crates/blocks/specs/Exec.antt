@@ -1,6 +1,6 @@
 -- What one block does: the order of its refusals, and its effects in their order.
 use Rattle.std.specs.Prelude.{◌&&◌, ◌||◌, ◌∷◌, ◌++◌, if◌then◌else◌}
-use Rattle.terms.specs.Common.{ℕ, Bool, true, false, not, Option, none, some, List, [], eqb, ltb, nat_abs}
+use Rattle.terms.specs.Common.{ℕ, Bool, true, false, not, Option, None, Some, List, [], eqb, ltb, nat_abs}
 use Rattle.terms.specs.Terms.{all, first_of, stands, when}
 use Rattle.refusals.specs.declared.Refusal.{Refusal}
 use Rattle.refusals.specs.declared.Refusal.TheVariants.{BadParameter, AddressUndefined, ParameterUndefined, CannotExecute, NumberNotFound, NestOver, LeavesTravel, NoRoom, Unreadable, CentreTooFar}
@@ -97,8 +97,8 @@ pub record Blame : Type 0 where
   pub byte : ℕ
 
 unfoldable pub at_word : Refusal → Option Word → Option Blame
-at_word refusal none = none
-at_word refusal (some w) = some (record { refusal = refusal; byte = w.at })
+at_word refusal None = None
+at_word refusal (Some w) = Some (record { refusal = refusal; byte = w.at })
 
 -- "3: G04 or M98 without P; an arc with an end but no centre word"; "3 needs R missing too"
 unfoldable pub lacks_centre : Motion → Values → Bool
@@ -148,18 +148,18 @@ abbrev pub in_main : Calls → Bool
 in_main calls = eqb calls.left 4
 
 unfoldable pub call_to : Control → Option ℕ
-call_to On = none
-call_to (Call n) = some n
-call_to Back = none
-call_to Stop = none
+call_to On = None
+call_to (Call n) = Some n
+call_to Back = None
+call_to Stop = None
 
 unfoldable pub unknown_call : Calls → Option ℕ → Bool
-unknown_call calls none = false
-unknown_call calls (some n) = not (calls.known n)
+unknown_call calls None = false
+unknown_call calls (Some n) = not (calls.known n)
 
 unfoldable pub too_deep : Calls → Option ℕ → Bool
-too_deep calls none = false
-too_deep calls (some n) = eqb calls.left 0
+too_deep calls None = false
+too_deep calls (Some n) = eqb calls.left 0
 
 unfoldable pub at_start : ℕ → Refusal → Bool → Option Blame
 at_start start refusal test = when test (record { refusal = refusal; byte = start })
@@ -189,8 +189,8 @@ pub data Verdict : Type 0 where
   accepted : State → Control → List Record → Verdict
 
 unfoldable pub unless : Option Blame → Verdict → Verdict
-unless none verdict = verdict
-unless (some blame) verdict = refused blame
+unless None verdict = verdict
+unless (Some blame) verdict = refused blame
 
 unfoldable pub judged : Machine → Calls → ℕ → State → ℕ → List Word → Said → Verdict
 judged machine calls room s start ws b =

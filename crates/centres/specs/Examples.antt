@@ -1,6 +1,6 @@
 -- Arcs by their radius, in units of 0.00001 mm: the centre, or none where the radius is refused.
 use Rattle.std.specs.Prelude.{◌∷◌}
-use Rattle.terms.specs.Common.{ℕ, Bool, true, false, List, [], Option, none, some, ℤ, pos, neg_ℤ}
+use Rattle.terms.specs.Common.{ℕ, Bool, true, false, List, [], Option, None, Some, ℤ, pos, neg_ℤ}
 use Rattle.terms.specs.Terms.{when}
 use Rattle.lengths.specs.{Units.len, declared.Flat.Flat}
 use Rattle.centres.specs.Centres.{radius_holds, centre_by}
@@ -23,13 +23,13 @@ abbrev at : ℤ → ℤ → Flat
 at first second = record { first = len first; second = len second }
 
 abbrev left : ℤ → Flat → Flat → Flat → Row
-left r s e c = record { radius = r; left = true; start = s; end = e; centre = some c }
+left r s e c = record { radius = r; left = true; start = s; end = e; centre = Some c }
 
 abbrev right : ℤ → Flat → Flat → Flat → Row
-right r s e c = record { radius = r; left = false; start = s; end = e; centre = some c }
+right r s e c = record { radius = r; left = false; start = s; end = e; centre = Some c }
 
 abbrev refused : ℤ → Flat → Flat → Row
-refused r s e = record { radius = r; left = true; start = s; end = e; centre = none }
+refused r s e = record { radius = r; left = true; start = s; end = e; centre = None }
 
 abbrev pub rows : List Row
 rows =

@@ -1,6 +1,6 @@
 -- Document 02, #102, "Holes after the first": a block that names a cycle with Z and R, and then blocks of X and Y, give the records of
 -- blocks that name all of it each. So it is in G90 and in G91, under G98 and under G99, with every cycle. Assumes nothing.
-use Rattle.terms.proofs.Common.{ℕ, ◌-◌, ◌≡◌, refl, sym, ◌∙◌, ap, Bool, true, false, not, ◌&&◌, none, some, List, [], ◌∷◌, map, arith, eq-eqb}
+use Rattle.terms.proofs.Common.{ℕ, ◌-◌, ◌≡◌, refl, sym, ◌∙◌, ap, Bool, true, false, not, ◌&&◌, None, Some, List, [], ◌∷◌, map, arith, eq-eqb}
 use Rattle.terms.specs.Terms.{byte, any, first, first_of, lookup}
 use Rattle.refusals.specs.declared.Refusal.TheVariants.{BadParameter}
 use Rattle.lengths.specs.{declared.Len.Len, declared.Point.Point, Points.at_height}
@@ -39,9 +39,9 @@ record Ground : Type 0 where
 module _ (machine : Machine) (calls : Calls) (room : ℕ) (s : State) (ws : List Word) (b : Said) where
   -- "1 leftmost by value", all words before it being fine
   by_value :
-      {w : Word} → first_that_may_not (in_main calls) [] ws ≡ none
-      → first_unused b.code b.modes.plane (has_centre b.code b.modes.plane ws) ws ≡ none
-      → first_bad_value machine.speeds b.modes b.code ws ≡ some w
+      {w : Word} → first_that_may_not (in_main calls) [] ws ≡ None
+      → first_unused b.code b.modes.plane (has_centre b.code b.modes.plane ws) ws ≡ None
+      → first_bad_value machine.speeds b.modes b.code ws ≡ Some w
       → judged machine calls room s 0 ws b ≡ refused (record { refusal = BadParameter; byte = w.at })
   unfolding judged blames unless first_of at_word
   by_value e f g = rw (e, f, g)
@@ -49,7 +49,7 @@ module _ (machine : Machine) (calls : Calls) (room : ℕ) (s : State) (ws : List
   -- an accepted block has no bad value, and leaves its settings
   by_acceptance :
       {next : State} {control : Control} {made : List Record} → judged machine calls room s 0 ws b ≡ accepted next control made
-      → (first_bad_value machine.speeds b.modes b.code ws ≡ none) × (next ≡ settled machine s b)
+      → (first_bad_value machine.speeds b.modes b.code ws ≡ None) × (next ≡ settled machine s b)
   unfolding blames
   by_acceptance e =
       let h = judged_accepts machine calls room s 0 ws b e in
@@ -118,24 +118,24 @@ module _ (machine : Machine) (calls : Calls) (cycle : Cycle) (n : Naming) (is : 
   said_short m p = refl
 
   module _ (p : Spot) where
-    may_full : (main : Bool) → first_that_may_not main [] (in_full n p) ≡ none
+    may_full : (main : Bool) → first_that_may_not main [] (in_full n p) ≡ None
     unfolding first_that_may_not may_not_stand is_known repeats bad_g clash is_group_a is_g04 group_of any
     may_full main = rw is
 
-    may_short : (main : Bool) → first_that_may_not main [] (placed p) ≡ none
+    may_short : (main : Bool) → first_that_may_not main [] (placed p) ≡ None
     unfolding first_that_may_not may_not_stand is_known repeats bad_g clash is_group_a is_g04 group_of any
     may_short main = refl
 
-    unused_full : (plane : Plane) → first_unused code plane (has_centre code plane (in_full n p)) (in_full n p) ≡ none
+    unused_full : (plane : Plane) → first_unused code plane (has_centre code plane (in_full n p)) (in_full n p) ≡ None
     unfolding first_unused first is_unused has_centre is_arc turns use_of letters_of motion_letters drilling_letters lookup is_nothing
     unused_full plane =
-        elim cycle as (λ (c : Cycle). first_unused (Moving (Drilling c)) plane (has_centre (Moving (Drilling c)) plane (in_full n p)) (in_full n p) ≡ none)
+        elim cycle as (λ (c : Cycle). first_unused (Moving (Drilling c)) plane (has_centre (Moving (Drilling c)) plane (in_full n p)) (in_full n p) ≡ None)
         [ G81 ↦ refl | G82 ↦ refl | G85 ↦ refl | G89 ↦ refl ]
 
-    unused_short : (plane : Plane) → first_unused code plane (has_centre code plane (placed p)) (placed p) ≡ none
+    unused_short : (plane : Plane) → first_unused code plane (has_centre code plane (placed p)) (placed p) ≡ None
     unfolding first_unused first is_unused has_centre is_arc turns use_of letters_of motion_letters drilling_letters lookup is_nothing
     unused_short plane =
-        elim cycle as (λ (c : Cycle). first_unused (Moving (Drilling c)) plane (has_centre (Moving (Drilling c)) plane (placed p)) (placed p) ≡ none)
+        elim cycle as (λ (c : Cycle). first_unused (Moving (Drilling c)) plane (has_centre (Moving (Drilling c)) plane (placed p)) (placed p) ≡ None)
         [ G81 ↦ refl | G82 ↦ refl | G85 ↦ refl | G89 ↦ refl ]
 
   -- a G has no value that could be bad
@@ -259,7 +259,7 @@ module _ (machine : Machine) (calls : Calls) (cycle : Cycle) (n : Naming) (is : 
         unfolding exec_words given_by
         full_is = rw (said_full (drilling m) p, ex, ey, ez, er)
 
-        module _ {w : Word} (bad : first_bad_value machine.speeds (drilling m) code (placed p) ≡ some w) where
+        module _ {w : Word} (bad : first_bad_value machine.speeds (drilling m) code (placed p) ≡ Some w) where
           short_bad : short_verdict ≡ refused (record { refusal = BadParameter; byte = w.at })
           short_bad = short_is ∙ by_value machine calls room here (placed p) short_said (may_short p (in_main calls)) (unused_short p m.plane) bad
 
@@ -298,10 +298,10 @@ module _ (machine : Machine) (calls : Calls) (cycle : Cycle) (n : Naming) (is : 
         where
           go : (vx vy : Value) → x m p ≡ vx → y m p ≡ vy → Alike
           go Bad vy ex ey =
-              let bad : first_bad_value machine.speeds (drilling m) code (placed p) ≡ some (word (byte "X") p.x) = rw ex in
+              let bad : first_bad_value machine.speeds (drilling m) code (placed p) ≡ Some (word (byte "X") p.x) = rw ex in
               refused_alike (short_bad ex ey bad) (full_bad ex ey bad)
           go (Fit xv) Bad ex ey =
-              let bad : first_bad_value machine.speeds (drilling m) code (placed p) ≡ some (word (byte "Y") p.y) = rw (ex, ey) in
+              let bad : first_bad_value machine.speeds (drilling m) code (placed p) ≡ Some (word (byte "Y") p.y) = rw (ex, ey) in
               refused_alike (short_bad ex ey bad) (full_bad ex ey bad)
           go (Fit xv) (Fit yv) ex ey =
               record {
@@ -370,7 +370,7 @@ module _ (machine : Machine) (calls : Calls) (cycle : Cycle) (n : Naming) (is : 
     unfolding exec_words first_bad_value
     good_first e =
         let h = by_acceptance machine calls room before (in_full n p) first_said e in
-        let values : first_bad_value machine.speeds (drilling m₀) code (in_full n p) ≡ none = rw (said_full m₀ p) at h.0 in
+        let values : first_bad_value machine.speeds (drilling m₀) code (in_full n p) ≡ None = rw (said_full m₀ p) at h.0 in
         let test : Word → Bool = λ w. is_bad (word_value machine.speeds (drilling m₀) code w) in
         let zw = word (byte "Z") n.z in
         let rs = word (byte "R") n.r in

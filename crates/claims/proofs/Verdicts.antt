@@ -1,7 +1,7 @@
 -- What a verdict on a block says: what an accepted block has passed and where it leads, which refusals a block can get, and what
 -- another machine, whose two tests "16; 9" differ, says of a block that was accepted.
 use Rattle.std.specs.Prelude.{if◌then◌else◌}
-use Rattle.terms.proofs.Common.{ℕ, ◌+◌, ◌≡◌, refl, sym, ◌∙◌, ap, Bool, true, false, true≢false, not, ◌&&◌, ◌||◌, Option, none, some, List, [], ◌∷◌, ◌++◌, arith, eqb, ltb, drop, nat_abs, not-false}
+use Rattle.terms.proofs.Common.{ℕ, ◌+◌, ◌≡◌, refl, sym, ◌∙◌, ap, Bool, true, false, true≢false, not, ◌&&◌, ◌||◌, Option, None, Some, List, [], ◌∷◌, ◌++◌, arith, eqb, ltb, drop, nat_abs, not-false}
 use Rattle.terms.{specs.Terms.all, specs.Terms.any, specs.Terms.first, specs.Terms.first_of, proofs.Laws.either_left, proofs.Laws.either_right}
 use Rattle.refusals.specs.declared.Refusal.{Refusal}
 use Rattle.refusals.specs.declared.Refusal.TheVariants.{BadParameter, AddressUndefined, ParameterUndefined, CannotExecute, NumberNotFound, NestOver, LeavesTravel, NoRoom, Unreadable, CentreTooFar}
@@ -82,16 +82,16 @@ unfolding verdict_in verdict_on
 accepts job st b = exec_accepts _ _ _ _ _ _ _
 
 -- "M99 in the main .. refusal 4": no word of an accepted block of the main is M99
-no_return_words : (before ws : List Word) → first_that_may_not true before ws ≡ none → is_m 99 (misc_or_other (first is_misc ws)) ≡ false
+no_return_words : (before ws : List Word) → first_that_may_not true before ws ≡ None → is_m 99 (misc_or_other (first is_misc ws)) ≡ false
 unfolding first misc_or_other is_m misc_number first_that_may_not may_not_stand bad_m wrong_program
 no_return_words before [] e = refl
 no_return_words before (w ∷ ws) e = go (may_not_stand true before w) (is_misc w) (no_return_words (before ++ w ∷ []) ws) refl refl e
   where
     go :
-        (bad misc : Bool) → (first_that_may_not true (before ++ w ∷ []) ws ≡ none → is_m 99 (misc_or_other (first is_misc ws)) ≡ false)
+        (bad misc : Bool) → (first_that_may_not true (before ++ w ∷ []) ws ≡ None → is_m 99 (misc_or_other (first is_misc ws)) ≡ false)
         → may_not_stand true before w ≡ bad → is_misc w ≡ misc
-        → (if bad then some w else first_that_may_not true (before ++ w ∷ []) ws) ≡ none
-        → is_m 99 (misc_or_other (if misc then some w else first is_misc ws)) ≡ false
+        → (if bad then Some w else first_that_may_not true (before ++ w ∷ []) ws) ≡ None
+        → is_m 99 (misc_or_other (if misc then Some w else first is_misc ws)) ≡ false
     go true misc rest b m e = let z : ◌≡◌ {A = ℕ} 0 1 = cc in absurd (omega arith)
     go false false rest b m e = rest e
     go false true rest b m e =
@@ -153,7 +153,7 @@ other_tests bed fits stays =
 last_says :
     (machine : Machine) (room : ℕ) (at : Point) (start : ℕ) (made : List Record) (t : Bool) → all machine.fits made ≡ true
     → path_stays_in machine.stays at made ≡ t → ltb room (room_of made) ≡ false
-    → first_of (last_blames machine room at start made) ≡ (if t then none else some (record { refusal = LeavesTravel; byte = start }))
+    → first_of (last_blames machine room at start made) ≡ (if t then None else Some (record { refusal = LeavesTravel; byte = start }))
 unfolding first_of at_start
 last_says machine room at start made true e f g = rw (e, f, g)
 last_says machine room at start made false e f g = rw (e, f)
@@ -162,7 +162,7 @@ module _ (bed : Bed) (fair : Fair bed) where
   -- 16 never comes
   fits_all :
       (s : State) → Reachable bed s → (ws : List Word) (b : Said) → said_by (machine_of bed) s.modes ws ≡ b
-      → at_word BadParameter (first_bad_value (machine_of bed).speeds b.modes b.code ws) ≡ none
+      → at_word BadParameter (first_bad_value (machine_of bed).speeds b.modes b.code ws) ≡ None
       → all (machine_of bed).fits (made_by (machine_of bed) s b) ≡ true
   unfolding said_by
   fits_all s state ws b e n =
@@ -191,7 +191,7 @@ module _ (bed : Bed) (fair : Fair bed) where
       (past_all (first_blames m calls s start a.ws b) (last_blames m room s.at start (made_by m s b)) a.first ∙ says)
       ∙ by u (record { refusal = LeavesTravel; byte = start }) (sym i)
     where
-      by : (u : Bool) (blame : Blame) {v w : Verdict} → v ≡ w → unless (if u then none else some blame) v ≡ (if u then w else refused blame)
+      by : (u : Bool) (blame : Blame) {v w : Verdict} → v ≡ w → unless (if u then None else Some blame) v ≡ (if u then w else refused blame)
       by true blame e = e
       by false blame e = refl
 
@@ -199,12 +199,12 @@ module _ (bed : Bed) (fair : Fair bed) where
 
   -- what a test blames has one of a block's numbers
   abbrev Blames : Option Blame → Type 0
-  Blames o = (blame : Blame) → o ≡ some blame → numbered_in block_numbers blame.refusal ≡ true
+  Blames o = (blame : Blame) → o ≡ Some blame → numbered_in block_numbers blame.refusal ≡ true
 
   at_word_lem : (r : Refusal) (o : Option Word) → numbered_in block_numbers r ≡ true → Blames (at_word r o)
   unfolding at_word
-  at_word_lem r none h blame e = let z : ◌≡◌ {A = ℕ} 0 1 = cc in absurd (omega arith)
-  at_word_lem r (some w) h blame e = let same : r ≡ blame.refusal = cc in rw (← same) h
+  at_word_lem r None h blame e = let z : ◌≡◌ {A = ℕ} 0 1 = cc in absurd (omega arith)
+  at_word_lem r (Some w) h blame e = let same : r ≡ blame.refusal = cc in rw (← same) h
 
   at_start_lem : (start : ℕ) (r : Refusal) (test : Bool) → (test ≡ true → numbered_in block_numbers r ≡ true) → Blames (at_start start r test)
   unfolding at_start
@@ -212,10 +212,10 @@ module _ (bed : Bed) (fair : Fair bed) where
   at_start_lem start r true h blame e = let same : r ≡ blame.refusal = cc in rw (← same) (h refl)
 
   -- the first that blames, where the later tests may count on the earlier ones
-  next : (o : Option Blame) (os : List (Option Blame)) → Blames o → (o ≡ none → Blames (first_of os)) → Blames (first_of (o ∷ os))
+  next : (o : Option Blame) (os : List (Option Blame)) → Blames o → (o ≡ None → Blames (first_of os)) → Blames (first_of (o ∷ os))
   unfolding first_of
-  next none os h later = later refl
-  next (some blame) os h later = h
+  next None os h later = later refl
+  next (Some blame) os h later = h
 
   no_blame : Blames (first_of [])
   unfolding first_of
@@ -250,8 +250,8 @@ module _ (bed : Bed) (fair : Fair bed) where
           (o : Option Blame) (v : Verdict) {t : State} {c : Control} {made : List Record}
           → v ≡ accepted t c made → Blames o → unless o v ≡ refused blame
           → numbered_in block_numbers blame.refusal ≡ true
-      by none v a h e = let z : ◌≡◌ {A = ℕ} 0 1 = cc in absurd (omega arith)
-      by (some other) v a h e = h blame (cc)
+      by None v a h e = let z : ◌≡◌ {A = ℕ} 0 1 = cc in absurd (omega arith)
+      by (Some other) v a h e = h blame (cc)
 
       go : (w : Words) → exec_words (machine_of bed) calls room s start w ≡ refused blame → numbered_in block_numbers blame.refusal ≡ true
       go (bad_at bad) e = let same : Unreadable ≡ blame.refusal = cc in rw (← same)

@@ -1,7 +1,7 @@
 -- Document 02, #102: a plate of holes, written short and in full. Where a word stands in the data counts only for the byte that a
 -- refusal names, and is left out here: every word stands at byte 0.
 use Rattle.std.specs.Prelude.{◌-◌, ◌∷◌, ◌++◌}
-use Rattle.terms.specs.Common.{ℕ, Option, none, some, List, []}
+use Rattle.terms.specs.Common.{ℕ, Option, None, Some, List, []}
 use Rattle.terms.specs.Terms.{byte}
 use Rattle.refusals.specs.declared.Refusal.{Refusal}
 use Rattle.words.specs.{declared.Number.Number, declared.Word.Word, Words.these}
@@ -37,11 +37,11 @@ pub record Came : Type 0 where
   pub refusal : Option Refusal
 
 unfoldable pub came_by : Verdict → ℕ → (ℕ → State → Came) → Came
-came_by (refused blame) room rest = record { made = []; refusal = some blame.refusal }
+came_by (refused blame) room rest = record { made = []; refusal = Some blame.refusal }
 came_by (accepted s control made) room rest =
     let more = rest (room - room_of made) s in record { made = made ++ more.made; refusal = more.refusal }
 
 unfoldable pub came_to : Machine → Calls → ℕ → State → List (List Word) → Came
-came_to machine calls room s [] = record { made = []; refusal = none }
+came_to machine calls room s [] = record { made = []; refusal = None }
 came_to machine calls room s (ws ∷ rest) =
     came_by (exec_words machine calls room s 0 (these ws)) room (λ left next. came_to machine calls left next rest)

@@ -1,5 +1,5 @@
 -- The order of refusals, step by step. Assumes nothing.
-use Rattle.terms.proofs.Common.{ℕ, ◌+◌, ◌≡◌, refl, sym, ◌∙◌, ap, Bool, true, false, not, Option, none, some, List, [], ◌∷◌, map, arith, ltb, length}
+use Rattle.terms.proofs.Common.{ℕ, ◌+◌, ◌≡◌, refl, sym, ◌∙◌, ap, Bool, true, false, not, Option, None, Some, List, [], ◌∷◌, map, arith, ltb, length}
 use Rattle.terms.specs.Terms.{all, first_of}
 use Rattle.refusals.specs.declared.Refusal.{Refusal}
 use Rattle.refusals.specs.declared.Refusal.TheVariants.{BadParameter, AddressUndefined, ParameterUndefined, CannotExecute, NumberNotFound, NestOver, LeavesTravel, NoRoom, Unreadable, CentreTooFar}
@@ -41,18 +41,18 @@ module _ {offset : Point} {v : Verdict} {was : List ℕ} {at after : ℕ} where
 
 -- ---- one test of the order
 
-past : (o : Option Blame) (os : List (Option Blame)) (v : Verdict) → o ≡ none → unless (first_of (o ∷ os)) v ≡ unless (first_of os) v
+past : (o : Option Blame) (os : List (Option Blame)) (v : Verdict) → o ≡ None → unless (first_of (o ∷ os)) v ≡ unless (first_of os) v
 past o os v e = ap (λ (o : Option Blame). unless o v) (past_all (o ∷ []) os (e, tt))
 
-stop : (o : Option Blame) (os : List (Option Blame)) (v : Verdict) (blame : Blame) → o ≡ some blame → unless (first_of (o ∷ os)) v ≡ refused blame
+stop : (o : Option Blame) (os : List (Option Blame)) (v : Verdict) (blame : Blame) → o ≡ Some blame → unless (first_of (o ∷ os)) v ≡ refused blame
 unfolding first_of unless
 stop o os v blame e = rw e
 
-clear : (start : ℕ) (refusal : Refusal) (t : Bool) → t ≡ false → at_start start refusal t ≡ none
+clear : (start : ℕ) (refusal : Refusal) (t : Bool) → t ≡ false → at_start start refusal t ≡ None
 unfolding at_start
 clear start refusal t e = rw e
 
-raised : (start : ℕ) (refusal : Refusal) (t : Bool) → t ≡ true → at_start start refusal t ≡ some (record { refusal = refusal; byte = start })
+raised : (start : ℕ) (refusal : Refusal) (t : Bool) → t ≡ true → at_start start refusal t ≡ Some (record { refusal = refusal; byte = start })
 unfolding at_start
 raised start refusal t e = rw e
 
@@ -124,39 +124,39 @@ module _ (machine : Machine) (calls : Calls) (room : ℕ) (s : State) (start : �
 
 -- ---- 2 and 1 by the value, as they are judged together
 
-word_past : (refusal : Refusal) (o : Option Word) → o ≡ none → at_word refusal o ≡ none
+word_past : (refusal : Refusal) (o : Option Word) → o ≡ None → at_word refusal o ≡ None
 unfolding at_word
 word_past refusal o e = rw e
 
 module _ (o p : Option Word) (v : Values) where
   pub record Passed (values : Values) : Type 0 where
-    pub used : o ≡ none
-    pub good : p ≡ none
+    pub used : o ≡ None
+    pub good : p ≡ None
     pub are : values ≡ v
 
 fine_both : (o p : Option Word) (v values : Values) → unused_or o (bad_or p v) ≡ Fine values → Passed o p v values
 unfolding unused_or bad_or
-fine_both none none v values e = record { used = refl; good = refl; are = cc }
-fine_both none (some w) v values e = let no : ◌≡◌ {A = ℕ} 0 1 = cc in absurd (omega arith)
-fine_both (some w) p v values e = let no : ◌≡◌ {A = ℕ} 0 1 = cc in absurd (omega arith)
+fine_both None None v values e = record { used = refl; good = refl; are = cc }
+fine_both None (Some w) v values e = let no : ◌≡◌ {A = ℕ} 0 1 = cc in absurd (omega arith)
+fine_both (Some w) p v values e = let no : ◌≡◌ {A = ℕ} 0 1 = cc in absurd (omega arith)
 
 unused_stop :
     (o p : Option Word) (v : Values) (byte : ℕ) → unused_or o (bad_or p v) ≡ Unused byte
-    → at_word AddressUndefined o ≡ some (record { refusal = AddressUndefined; byte = byte })
+    → at_word AddressUndefined o ≡ Some (record { refusal = AddressUndefined; byte = byte })
 unfolding unused_or bad_or at_word
-unused_stop none none v byte e = let no : ◌≡◌ {A = ℕ} 0 1 = cc in absurd (omega arith)
-unused_stop none (some w) v byte e = let no : ◌≡◌ {A = ℕ} 0 1 = cc in absurd (omega arith)
-unused_stop (some w) p v byte e = let same : w.at ≡ byte = cc in rw same
+unused_stop None None v byte e = let no : ◌≡◌ {A = ℕ} 0 1 = cc in absurd (omega arith)
+unused_stop None (Some w) v byte e = let no : ◌≡◌ {A = ℕ} 0 1 = cc in absurd (omega arith)
+unused_stop (Some w) p v byte e = let same : w.at ≡ byte = cc in rw same
 
 pub record Stopped (o p : Option Word) (byte : ℕ) : Type 0 where
-  pub used : o ≡ none
-  pub named : at_word BadParameter p ≡ some (record { refusal = BadParameter; byte = byte })
+  pub used : o ≡ None
+  pub named : at_word BadParameter p ≡ Some (record { refusal = BadParameter; byte = byte })
 
 bad_stop : (o p : Option Word) (v : Values) (byte : ℕ) → unused_or o (bad_or p v) ≡ Bad byte → Stopped o p byte
 unfolding unused_or bad_or at_word
-bad_stop none none v byte e = let no : ◌≡◌ {A = ℕ} 0 1 = cc in absurd (omega arith)
-bad_stop none (some w) v byte e = let same : w.at ≡ byte = cc in record { used = refl; named = rw same }
-bad_stop (some w) p v byte e = let no : ◌≡◌ {A = ℕ} 0 1 = cc in absurd (omega arith)
+bad_stop None None v byte e = let no : ◌≡◌ {A = ℕ} 0 1 = cc in absurd (omega arith)
+bad_stop None (Some w) v byte e = let same : w.at ≡ byte = cc in record { used = refl; named = rw same }
+bad_stop (Some w) p v byte e = let no : ◌≡◌ {A = ℕ} 0 1 = cc in absurd (omega arith)
 
 module _ (machine : Machine) (calls : Calls) (room : ℕ) (s : State) (start : ℕ) (ws : List Word) where
   abbrev b : Said
@@ -196,17 +196,17 @@ module _ (machine : Machine) (calls : Calls) (room : ℕ) (s : State) (start : �
 
 -- ---- 15 and 4
 
-standing_fine : (o : Option Word) → status.Fine ≡ standing o → o ≡ none
+standing_fine : (o : Option Word) → status.Fine ≡ standing o → o ≡ None
 unfolding standing
-standing_fine none e = refl
-standing_fine (some w) e = let no : ◌≡◌ {A = ℕ} 0 1 = cc in absurd (omega arith)
+standing_fine None e = refl
+standing_fine (Some w) e = let no : ◌≡◌ {A = ℕ} 0 1 = cc in absurd (omega arith)
 
 standing_word :
     (o : Option Word) (refusal : Refusal) (byte : ℕ) → status.Refused refusal byte ≡ standing o
-    → at_word CannotExecute o ≡ some (record { refusal = refusal; byte = byte })
+    → at_word CannotExecute o ≡ Some (record { refusal = refusal; byte = byte })
 unfolding standing at_word
-standing_word none refusal byte e = let no : ◌≡◌ {A = ℕ} 0 1 = cc in absurd (omega arith)
-standing_word (some w) refusal byte e =
+standing_word None refusal byte e = let no : ◌≡◌ {A = ℕ} 0 1 = cc in absurd (omega arith)
+standing_word (Some w) refusal byte e =
     let same : CannotExecute ≡ refusal = cc in
     let here : w.at ≡ byte = cc in
     rw (same, here)

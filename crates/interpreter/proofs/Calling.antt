@@ -1,5 +1,5 @@
 -- The loop from call to call: what a call of a number leads to, and the walk of the subprogram. Assumes nothing.
-use Rattle.terms.proofs.Common.{ℕ, zero, suc, ◌+◌, ◌-◌, ◌≤◌, ◌<◌, ◌≡◌, refl, ◌∙◌, Bool, true, false, Option, none, some, List, [], arith, ne_eqb, eqb, length}
+use Rattle.terms.proofs.Common.{ℕ, zero, suc, ◌+◌, ◌-◌, ◌≤◌, ◌<◌, ◌≡◌, refl, ◌∙◌, Bool, true, false, Option, None, Some, List, [], arith, ne_eqb, eqb, length}
 use Rattle.terms.specs.Terms.{first_of, stands}
 use Rattle.refusals.specs.declared.Refusal.{Refusal, TheVariants.NumberNotFound, TheVariants.NestOver}
 use Rattle.lines.specs.Serving.{blocks_from}
@@ -14,11 +14,11 @@ use Rattle.interpreter.proofs.{Endings.ran_still, Endings.ran_after, Endings.ran
 use Rattle.programs.specs.declared.Callee.TheVariants as Callee
 
 -- a subprogram that a call leads to is the one of the number, and a level is left for it
-found_is : {program : Program} (o : Option Program) (left : ℕ) → Callee.Found program ≡ callee_by o left → (o ≡ some program) × (1 ≤ left)
+found_is : {program : Program} (o : Option Program) (left : ℕ) → Callee.Found program ≡ callee_by o left → (o ≡ Some program) × (1 ≤ left)
 unfolding callee_by
-found_is none left e = let z : ◌≡◌ {A = ℕ} 0 1 = cc in absurd (omega arith)
-found_is (some q) zero e = let z : ◌≡◌ {A = ℕ} 0 1 = cc in absurd (omega arith)
-found_is {program} (some q) (suc left) e =
+found_is None left e = let z : ◌≡◌ {A = ℕ} 0 1 = cc in absurd (omega arith)
+found_is (Some q) zero e = let z : ◌≡◌ {A = ℕ} 0 1 = cc in absurd (omega arith)
+found_is {program} (Some q) (suc left) e =
     let f : Callee.Found program ≡ Callee.Found q = rw (ne_eqb (suc left) 0 (λ h. omega arith)) at e in
     let g : q ≡ program = cc in
     (rw g, omega arith)
@@ -26,7 +26,7 @@ found_is {program} (some q) (suc left) e =
 -- the walk of a call is the walk of its subprogram, with one level less
 callee_is :
     (l : List ℕ) (task : Task) (left room n : ℕ) (program : Program) (q : Progress) → 1 ≤ left
-    → known (subs_of task.programs) n ≡ some program → Placed l program
+    → known (subs_of task.programs) n ≡ Some program → Placed l program
     → callees (job_of l task) left n (going_of room q) ≡ walk_from l room task (left - 1) program.block program.byte q
 unfolding callees blocks_for walk_from job_of
 callee_is l task zero room n program q h e b = absurd (omega arith)
@@ -54,9 +54,9 @@ module _ (l : List ℕ) (task : Task) (left number : ℕ) (leg : Leg) (room : �
   call_is {callee} c going = go (known (subs_of task.programs) number) (eqb left 0) refl refl
     where
       go : (o : Option Program) (deep : Bool) → known (subs_of task.programs) number ≡ o → eqb left 0 ≡ deep → call_from l room task left number leg ≡ follows callee
-      go none deep e f = let h : callee ≡ Callee.Refused NumberNotFound = rw e at c in rw h (rw e)
-      go (some q) true e f = let h : callee ≡ Callee.Refused NestOver = rw (e, f) at c in rw h (rw (e, f))
-      go (some q) false e f = let h : callee ≡ Callee.Found q = rw (e, f) at c in rw h (rw (e, f, going))
+      go None deep e f = let h : callee ≡ Callee.Refused NumberNotFound = rw e at c in rw h (rw e)
+      go (Some q) true e f = let h : callee ≡ Callee.Refused NestOver = rw (e, f) at c in rw h (rw (e, f))
+      go (Some q) false e f = let h : callee ≡ Callee.Found q = rw (e, f) at c in rw h (rw (e, f, going))
 
 -- a walk that comes to a call
 pub record Comes (l : List ℕ) (task : Task) (left : ℕ) (whole : Outcome) (p₀ : Progress) (was list : List ℕ) (n at : ℕ) (p : Progress)

@@ -1,5 +1,5 @@
 -- What a run starts with, and what it answers. Assumes nothing.
-use Rattle.terms.proofs.Common.{ℕ, ◌+◌, ◌-◌, ◌≤◌, ◌<◌, ◌^◌, ◌≡◌, refl, sym, ◌∙◌, ap, Bool, true, false, some, List, [], ◌∷◌, arith, dec_lt, lt-ltb, le-ltb, length, drop, sets-eq}
+use Rattle.terms.proofs.Common.{ℕ, ◌+◌, ◌-◌, ◌≤◌, ◌<◌, ◌^◌, ◌≡◌, refl, sym, ◌∙◌, ap, Bool, true, false, Some, List, [], ◌∷◌, arith, dec_lt, lt-ltb, le-ltb, length, drop, sets-eq}
 use Rattle.refusals.specs.declared.{Refusal.Refusal, Refusal.TheVariants.FirstBlock, Refusal.TheVariants.BadSetup, Refusal.TheVariants.DataTooLong, Place.Place}
 use Rattle.lines.specs.Blocks.{Block, block_from, blocks_of, length_from, is_percent, text_from}
 use Rattle.lines.{specs.Serving.blocks_from, proofs.Lines.blocks_step, proofs.Lines.blocks_end, proofs.Lines.percent_end}

@@ -1,6 +1,6 @@
 -- What the code of the run answers and leaves in the list, by the rules of the walk.
 use Rattle.std.specs.Prelude.{◌+◌, ◌-◌, ◌≤◌, ◌<◌, ◌≡◌, ◌&&◌, ◌||◌, ◌∷◌, if◌then◌else◌}
-use Rattle.terms.specs.Common.{ℕ, Bool, true, some, List, [], length, drop, sets}
+use Rattle.terms.specs.Common.{ℕ, Bool, true, Some, List, [], length, drop, sets}
 use Rattle.terms.specs.Terms.{byte}
 use Rattle.refusals.specs.declared.Place.{Place}
 use Rattle.lines.specs.{Blocks.Block, Blocks.block_from, Blocks.blocks_of, Blocks.begins_with, Blocks.is_percent, Blocks.is_slashed, Blocks.text_from, Serving.blocks_from}
@@ -103,7 +103,7 @@ pub record Ran (bed : Bed) (o : Outcome) (p : Progress) (was is : List ℕ) (r :
 pub record Sound (l : List ℕ) (task : Task) : Type 0 where
   pub fair : Fair task.bed
   pub ready : WellFound task.programs
-  pub places : (n : ℕ) (q : Program) → known (subs_of task.programs) n ≡ some q → Placed l q
+  pub places : (n : ℕ) (q : Program) → known (subs_of task.programs) n ≡ Some q → Placed l q
 
 -- A walk that comes to a block that calls. What is left gives the same: the walk from that block on, with the list as it is, ends and
 -- leaves what the whole walk does.

@@ -1,7 +1,7 @@
 -- The judgement of a block's words, word by word: what the words that are left make of it is the same at every word. Assumes
 -- nothing.
 use Rattle.std.specs.Prelude.{if◌then◌else◌}
-use Rattle.terms.proofs.Common.{ℕ, ◌+◌, ◌≤◌, ◌<◌, ◌≡◌, refl, sym, ◌∙◌, Bool, true, false, ◌&&◌, ◌||◌, some, List, [], ◌∷◌, arith, add-one, eqb, length, take, drop, get_or, drop_of_length-le, length-take-le, drop-cons, get_or-take, ne_eqb}
+use Rattle.terms.proofs.Common.{ℕ, ◌+◌, ◌≤◌, ◌<◌, ◌≡◌, refl, sym, ◌∙◌, Bool, true, false, ◌&&◌, ◌||◌, Some, List, [], ◌∷◌, arith, add-one, eqb, length, take, drop, get_or, drop_of_length-le, length-take-le, drop-cons, get_or-take, ne_eqb}
 use Rattle.terms.specs.Terms.{byte, bytes, first}
 use Rattle.codes.proofs.Tables.{Others}
 use Rattle.words.specs.{declared.Word.Word, declared.Given.Given, declared.Use.Use, declared.Value.Value, declared.Values.Values, Values.no_values}
@@ -43,7 +43,7 @@ module _ (speeds : Speeds) (m : Modes) (code : BlockCode) where
       (v : Values) (w : Word) (ws : List Word) (x : Value)
       → ((u : Values) → judged_all speeds m code (Fine u) ws ≡ by_values ws u)
       → judged_all speeds m code (value_next v w x) ws
-      ≡ bad_or (if is_bad x then some w else first_bad_value speeds m code ws)
+      ≡ bad_or (if is_bad x then Some w else first_bad_value speeds m code ws)
       (values_after (with_value v w.letter (given_by x)) speeds m code ws)
   unfolding value_next bad_or is_bad given_by
   value_next_lem v w ws (value.Fit x) rest = rest (with_value v w.letter (given_by (value.Fit x)))

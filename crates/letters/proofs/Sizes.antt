@@ -1,7 +1,7 @@
 -- How large the values of a block's words are, none of them being refused: each is within the limit of its letter's use. Assumes
 -- nothing.
 use Rattle.std.specs.Prelude.{if◌then◌else◌}
-use Rattle.terms.proofs.Common.{ℕ, ◌≤◌, min, ◌≡◌, refl, ◌∙◌, ap, Bool, true, false, not, ◌&&◌, none, some, List, [], ◌∷◌, arith, leb, eqb, ℤ, pos, lt_z, leb-true, eqb-true}
+use Rattle.terms.proofs.Common.{ℕ, ◌≤◌, min, ◌≡◌, refl, ◌∙◌, ap, Bool, true, false, not, ◌&&◌, None, Some, List, [], ◌∷◌, arith, leb, eqb, ℤ, pos, lt_z, leb-true, eqb-true}
 use Rattle.terms.specs.Terms.{byte, bytes, first, lookup, between}
 use Rattle.terms.proofs.Laws.{both_left, both_right, every_place, every_place_lem}
 use Rattle.lengths.{specs.declared.Len.Len, specs.Units.len, specs.View.Within, proofs.Tests.between_near}
@@ -102,15 +102,15 @@ module _ (speeds : Speeds) (m : Modes) (code : BlockCode) (low : Within 99_999 s
           (ap (λ (l : ℕ). limits n (use_of code m.plane l)) f ∙ fits) e
 
       all_near :
-          (ws : List Word) (v : Values) → first_bad_value speeds m code ws ≡ none → Within n (get v).v.v
+          (ws : List Word) (v : Values) → first_bad_value speeds m code ws ≡ None → Within n (get v).v.v
           → Within n (get (values_after v speeds m code ws)).v.v
       unfolding first_bad_value first values_after is_bad given_by
       all_near [] v e was = was
       all_near (w ∷ ws) v e was = go (word_value speeds m code w) refl e (all_near ws)
         where
           go :
-              (x : Value) → word_value speeds m code w ≡ x → (if is_bad x then some w else first_bad_value speeds m code ws) ≡ none
-              → ((u : Values) → first_bad_value speeds m code ws ≡ none → Within n (get u).v.v → Within n (get (values_after u speeds m code ws)).v.v)
+              (x : Value) → word_value speeds m code w ≡ x → (if is_bad x then Some w else first_bad_value speeds m code ws) ≡ None
+              → ((u : Values) → first_bad_value speeds m code ws ≡ None → Within n (get u).v.v → Within n (get (values_after u speeds m code ws)).v.v)
               → Within n (get (values_after (with_value v w.letter (given_by x)) speeds m code ws)).v.v
           go (Fit x) f g rest =
               let now : Given = record { stands = true; v = x } in
@@ -179,7 +179,7 @@ count_limits G89 plane = refl
 
 module _ (speeds : Speeds) (m : Modes) (code : BlockCode) (ws : List Word) where
   pub sizes :
-      Within 99_999 speeds.lowest.v → Within 99_999 speeds.highest.v → first_bad_value speeds m code ws ≡ none
+      Within 99_999 speeds.lowest.v → Within 99_999 speeds.highest.v → first_bad_value speeds m code ws ≡ None
       → Sizes code (values_of speeds m code ws)
   unfolding with_value
   sizes low high fine =

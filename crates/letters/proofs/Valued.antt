@@ -1,7 +1,7 @@
 -- A block's G and M words change nothing in the judgement of its words: their use is to be codes, which is never refused here
 -- and is no value. Assumes nothing.
 use Rattle.std.specs.Prelude.{if◌then◌else◌}
-use Rattle.terms.proofs.Common.{ℕ, ◌≡◌, refl, Bool, true, false, ◌||◌, and-false, some, List, [], ◌∷◌, eqb, eqb-true}
+use Rattle.terms.proofs.Common.{ℕ, ◌≡◌, refl, Bool, true, false, ◌||◌, and-false, Some, List, [], ◌∷◌, eqb, eqb-true}
 use Rattle.terms.specs.Terms.{byte, first, lookup}
 use Rattle.codes.specs.declared.Plane.{Plane}
 use Rattle.words.specs.{declared.Word.Word, declared.Given.Given, declared.Use.TheVariants.Codes, declared.Values.Values, Values.value_of, Values.no_values}
@@ -28,7 +28,7 @@ first_valued test passes (w ∷ ws) = go (is_g w || is_misc w) refl (first_value
   where
     go :
         (t : Bool) → is_g w || is_misc w ≡ t → first test (valued ws) ≡ first test ws
-        → first test (if t then valued ws else w ∷ valued ws) ≡ (if test w then some w else first test ws)
+        → first test (if t then valued ws else w ∷ valued ws) ≡ (if test w then Some w else first test ws)
     go true e rest = rw (passes w e) rest
     go false e rest = rw rest
 

@@ -1,6 +1,6 @@
 -- The judgement of a block's words by the refusals 2 and then 1, and how it is made word by word.
 use Rattle.std.specs.Prelude.{◌≤◌, ◌<◌, ◌≡◌, ◌||◌, ◌∷◌, if◌then◌else◌}
-use Rattle.terms.specs.Common.{ℕ, Bool, Option, none, some, List, [], eqb, length, get_or}
+use Rattle.terms.specs.Common.{ℕ, Bool, Option, None, Some, List, [], eqb, length, get_or}
 use Rattle.terms.specs.Terms.{byte, any}
 use Rattle.words.specs.{declared.Word.Word, declared.Value.Value, declared.Values.Values, Serving.Written}
 use Rattle.settings.specs.declared.Modes.{Modes}
@@ -10,12 +10,12 @@ use Rattle.words.specs.declared.Value.TheVariants as value
 
 -- "2 leftmost; 1 leftmost by value": the word at fault, or else what is left to say
 unfoldable pub unused_or : Option Word → Judged → Judged
-unused_or none other = other
-unused_or (some w) other = Unused w.at
+unused_or None other = other
+unused_or (Some w) other = Unused w.at
 
 unfoldable pub bad_or : Option Word → Values → Judged
-bad_or none v = Fine v
-bad_or (some w) v = Bad w.at
+bad_or None v = Fine v
+bad_or (Some w) v = Bad w.at
 
 -- `centred` tells that the block is an arc with a centre word
 unfoldable pub judged_by : Speeds → Modes → BlockCode → Bool → List Word → Judged

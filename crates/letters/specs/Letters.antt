@@ -1,7 +1,7 @@
 -- Document 01, "Codes" and "The sixteen refusals": which words may stand in a block, what they mean there, and the
 -- refusals 4, 2 and 1 that name a word.
 use Rattle.std.specs.Prelude.{◌&&◌, ◌||◌, ◌∷◌, ◌++◌, if◌then◌else◌}
-use Rattle.terms.specs.Common.{ℕ, Bool, true, false, not, Option, none, some, List, [], map, eqb}
+use Rattle.terms.specs.Common.{ℕ, Bool, true, false, not, Option, None, Some, List, [], map, eqb}
 use Rattle.terms.specs.Terms.{byte, bytes, any, first, lookup}
 use Rattle.codes.specs.declared.{Cycle.Cycle, Cycle.TheVariants.G81, Cycle.TheVariants.G82, Cycle.TheVariants.G85, Cycle.TheVariants.G89, Motion.Motion}
 use Rattle.codes.specs.declared.{Plane.Plane, Plane.TheVariants.G17, Plane.TheVariants.G18, Plane.TheVariants.G19, Code.Code, Code.TheVariants.Unknown, Misc.Misc, Misc.TheVariants.Other}
@@ -62,14 +62,14 @@ may_not_stand in_main before w =
     not (is_known w.letter) || repeats before w || is_g w && bad_g before w || is_misc w && bad_m in_main before w
 
 unfoldable pub first_that_may_not : Bool → List Word → List Word → Option Word
-first_that_may_not in_main before [] = none
+first_that_may_not in_main before [] = None
 first_that_may_not in_main before (w ∷ ws) =
-    if may_not_stand in_main before w then some w else first_that_may_not in_main (before ++ w ∷ []) ws
+    if may_not_stand in_main before w then Some w else first_that_may_not in_main (before ++ w ∷ []) ws
 
 -- the M code of a block, Other where it has none
 unfoldable pub misc_or_other : Option Word → Misc
-misc_or_other none = Other
-misc_or_other (some w) = misc_in w
+misc_or_other None = Other
+misc_or_other (Some w) = misc_in w
 
 unfoldable pub misc_of_block : List Word → Misc
 misc_of_block ws = misc_or_other (first is_misc ws)

@@ -1,6 +1,6 @@
 -- What stands inside comments changes neither the words of a text nor the blocks of the data.
 use Rattle.std.specs.Prelude.{if◌then◌else◌}
-use Rattle.terms.proofs.Common.{ℕ, zero, suc, ◌+◌, ◌-◌, ◌≡◌, refl, sym, ◌∙◌, ap, Bool, true, false, false≢true, not, ◌&&◌, ◌||◌, and-false, Option, none, some, List, [], ◌∷◌, arith, ℕ_discrete, eqb-true, eqb-false, not-true, ne_eqb, eqb, length, drop, set, drop-drop}
+use Rattle.terms.proofs.Common.{ℕ, zero, suc, ◌+◌, ◌-◌, ◌≡◌, refl, sym, ◌∙◌, ap, Bool, true, false, false≢true, not, ◌&&◌, ◌||◌, and-false, Option, None, Some, List, [], ◌∷◌, arith, ℕ_discrete, eqb-true, eqb-false, not-true, ne_eqb, eqb, length, drop, set, drop-drop}
 use Rattle.terms.{specs.Terms.byte, proofs.Laws.either_left, proofs.Laws.either_right}
 use Rattle.words.specs.declared.{Sign.Sign, Sign.TheVariants.Plain, Sign.TheVariants.Plus, Sign.TheVariants.Minus, Number.Number, Numbered.Numbered}
 use Rattle.words.specs.declared.Numbered.TheVariants.{Is, Unreadable}
@@ -26,24 +26,24 @@ length_alike (breaks e r) = ap suc (length_alike r)
 closing_alike : {m : Bool} {s t : List ℕ} → Alike m s t → closing s ≡ closing t
 unfolding closing
 closing_alike nothing = refl
-closing_alike (outside {b} e r) = ap (λ (o : Option ℕ). if eqb b 41 then some 1 else one_more o) (closing_alike r)
+closing_alike (outside {b} e r) = ap (λ (o : Option ℕ). if eqb b 41 then Some 1 else one_more o) (closing_alike r)
 closing_alike (begins r) = ap one_more (closing_alike r)
 closing_alike (inside {a} {b} e f g h r) = rw (ne_eqb a 41 e, ne_eqb b 41 f) (ap one_more (closing_alike r))
 closing_alike (finishes r) = refl
-closing_alike (breaks {b} e r) = ap (λ (o : Option ℕ). if eqb b 41 then some 1 else one_more o) (closing_alike r)
+closing_alike (breaks {b} e r) = ap (λ (o : Option ℕ). if eqb b 41 then Some 1 else one_more o) (closing_alike r)
 
 -- one byte more on the way to it
 further :
     (a b : ℕ) (s t : List ℕ) (here : Bool) (o : Option ℕ) → (here ≡ true → Alike false s t)
-    → ((k : ℕ) → o ≡ some k → Alike false (drop k s) (drop k t))
-    → (k : ℕ) → (if here then some 1 else one_more o) ≡ some k → Alike false (drop k (a ∷ s)) (drop k (b ∷ t))
+    → ((k : ℕ) → o ≡ Some k → Alike false (drop k s) (drop k t))
+    → (k : ℕ) → (if here then Some 1 else one_more o) ≡ Some k → Alike false (drop k (a ∷ s)) (drop k (b ∷ t))
 unfolding one_more
 further a b s t true o p q k e = let is : 1 ≡ k = cc in rw (← is) (p refl)
-further a b s t false none p q k e = let never : ◌≡◌ {A = ℕ} 0 1 = cc in absurd (omega arith)
-further a b s t false (some j) p q k e = let is : suc j ≡ k = cc in rw (← is) (q j refl)
+further a b s t false None p q k e = let never : ◌≡◌ {A = ℕ} 0 1 = cc in absurd (omega arith)
+further a b s t false (Some j) p q k e = let is : suc j ≡ k = cc in rw (← is) (q j refl)
 
 -- and no comment is open after it
-past_closing : {m : Bool} {s t : List ℕ} → Alike m s t → (k : ℕ) → closing s ≡ some k → Alike false (drop k s) (drop k t)
+past_closing : {m : Bool} {s t : List ℕ} → Alike m s t → (k : ℕ) → closing s ≡ Some k → Alike false (drop k s) (drop k t)
 unfolding closing
 past_closing nothing k e = let never : ◌≡◌ {A = ℕ} 0 1 = cc in absurd (omega arith)
 past_closing (outside {b} {s} {t} h r) k e = further b b s t (eqb b 41) (closing s) (λ i. r) (past_closing r) k e
@@ -119,10 +119,10 @@ past_number {s} {t} r n k e =
 
 -- What begins with a byte goes on alike if what follows it does, wherever no comment is open.
 module _ {s t : List ℕ} (f g : ℕ → Words) (on : (k : ℕ) → Alike false (drop k s) (drop k t) → f k ≡ g k) (at : ℕ) where
-  comment_then : (o : Option ℕ) → ((k : ℕ) → o ≡ some k → Alike false (drop k s) (drop k t)) → item_then at (comment_item o) f ≡ item_then at (comment_item o) g
+  comment_then : (o : Option ℕ) → ((k : ℕ) → o ≡ Some k → Alike false (drop k s) (drop k t)) → item_then at (comment_item o) f ≡ item_then at (comment_item o) g
   unfolding item_then comment_item
-  comment_then none h = refl
-  comment_then (some k) h = on k (h k refl)
+  comment_then None h = refl
+  comment_then (Some k) h = on k (h k refl)
 
   word_then :
       (b : ℕ) (n : Numbered) → ((m : Number) (k : ℕ) → n ≡ Is m k → Alike false (drop k s) (drop k t))

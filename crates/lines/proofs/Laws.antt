@@ -1,6 +1,6 @@
 -- How blanks and comments are passed, byte by byte.
 use Rattle.std.specs.Prelude.{if◌then◌else◌}
-use Rattle.terms.proofs.Common.{ℕ, zero, suc, ◌+◌, ◌≤◌, ◌<◌, ◌≡◌, refl, sym, ◌∙◌, ap, Bool, true, false, false≢true, true≢false, ◌&&◌, ◌||◌, Option, none, some, List, [], ◌∷◌, arith, dec_lt, eq-eqb, ne_eqb, eqb, length, drop, get_or, drop_of_length-le, length-drop, drop-drop}
+use Rattle.terms.proofs.Common.{ℕ, zero, suc, ◌+◌, ◌≤◌, ◌<◌, ◌≡◌, refl, sym, ◌∙◌, ap, Bool, true, false, false≢true, true≢false, ◌&&◌, ◌||◌, Option, None, Some, List, [], ◌∷◌, arith, dec_lt, eq-eqb, ne_eqb, eqb, length, drop, get_or, drop_of_length-le, length-drop, drop-drop}
 use Rattle.terms.{proofs.Laws.both_right}
 use Rattle.words.specs.{Numbers.number_in, declared.Numbered.Numbered, declared.Numbered.TheVariants.Is, declared.Numbered.TheVariants.Unreadable, declared.Word.Word}
 use Rattle.words.specs.Words.{is_blank, is_capital, one_more, closing, gap, unreadable, comment_item, word_item, item_at, Words, these, bad_at, with_word, item_then, words_after}
@@ -46,11 +46,11 @@ text_next (suc k) (b ∷ bs) h =
 
 -- ---- comments
 
-closing_paren : (bs : List ℕ) → closing (text_from (41 ∷ bs)) ≡ some 1
+closing_paren : (bs : List ℕ) → closing (text_from (41 ∷ bs)) ≡ Some 1
 unfolding closing text_from
 closing_paren bs = refl
 
-closing_lf : (bs : List ℕ) → closing (text_from (10 ∷ bs)) ≡ none
+closing_lf : (bs : List ℕ) → closing (text_from (10 ∷ bs)) ≡ None
 unfolding closing text_from
 closing_lf bs = refl
 
@@ -71,15 +71,15 @@ closing_more b bs e f =
     go true h = rw (h refl)
     go false h = rw (ne_eqb b 41 e)
 
-pub closing_within : (bs : List ℕ) (k : ℕ) → closing bs ≡ some k → k ≤ length bs
+pub closing_within : (bs : List ℕ) (k : ℕ) → closing bs ≡ Some k → k ≤ length bs
 unfolding closing one_more
 closing_within [] k e = let never : ◌≡◌ {A = ℕ} 0 1 = cc in omega arith
 closing_within (b ∷ bs) k e = go (eqb b 41) (closing bs) (closing_within bs) e
   where
-    go : (t : Bool) (o : Option ℕ) → ((j : ℕ) → o ≡ some j → j ≤ length bs) → (if t then some 1 else one_more o) ≡ some k → k ≤ suc (length bs)
+    go : (t : Bool) (o : Option ℕ) → ((j : ℕ) → o ≡ Some j → j ≤ length bs) → (if t then Some 1 else one_more o) ≡ Some k → k ≤ suc (length bs)
     go true o h g = let is : k ≡ 1 = cc in omega arith
-    go false none h g = let never : ◌≡◌ {A = ℕ} 0 1 = cc in omega arith
-    go false (some j) h g = let is : k ≡ suc j = cc in omega (arith, h j refl)
+    go false None h g = let never : ◌≡◌ {A = ℕ} 0 1 = cc in omega arith
+    go false (Some j) h g = let is : k ≡ suc j = cc in omega (arith, h j refl)
 
 -- by places
 module _ (l : List ℕ) (i : ℕ) where
@@ -97,8 +97,8 @@ module _ (l : List ℕ) (i : ℕ) where
 
   comment_shift : (o : Option ℕ) → comment_by i (one_more o) ≡ comment_by (i + 1) o
   unfolding comment_by one_more
-  comment_shift none = refl
-  comment_shift (some k) = ap Closed (omega arith)
+  comment_shift None = refl
+  comment_shift (Some k) = ap Closed (omega arith)
 
   pub comment_more :
       i < length l → (get_or l i 0 ≡ 41 → ⊥) → (get_or l i 0 ≡ 10 → ⊥)
@@ -124,8 +124,8 @@ word_then w (bad_at at) = refl
 module _ (b : ℕ) (bs : List ℕ) (p q : ℕ) (f g : ℕ → Words) (same : (k : ℕ) → no_words (f k) ≡ no_words (g k)) where
   by_comment : (o : Option ℕ) → no_words (item_then p (comment_item o) f) ≡ no_words (item_then q (comment_item o) g)
   unfolding item_then comment_item no_words
-  by_comment none = refl
-  by_comment (some k) = same k
+  by_comment None = refl
+  by_comment (Some k) = same k
 
   by_word_lem : (n : Numbered) → no_words (item_then p (word_item p b n) f) ≡ no_words (item_then q (word_item q b n) g)
   unfolding item_then word_item no_words
@@ -168,11 +168,11 @@ gaps_blank : (b : ℕ) (text : List ℕ) → is_blank b ≡ true → only_gaps (
 unfolding only_gaps words_after item_at item_then
 gaps_blank b text e = rw e (no_words_place 0 1 0 text)
 
-gaps_open : (text : List ℕ) → closing text ≡ none → only_gaps (40 ∷ text) ≡ false
+gaps_open : (text : List ℕ) → closing text ≡ None → only_gaps (40 ∷ text) ≡ false
 unfolding only_gaps words_after item_at item_then comment_item no_words
 gaps_open text e = rw e
 
-gaps_comment : (text : List ℕ) (k : ℕ) → closing text ≡ some k → only_gaps (40 ∷ text) ≡ only_gaps (drop k text)
+gaps_comment : (text : List ℕ) (k : ℕ) → closing text ≡ Some k → only_gaps (40 ∷ text) ≡ only_gaps (drop k text)
 unfolding only_gaps words_after item_at item_then comment_item
 gaps_comment text k e = rw e (ap no_words (words_pass k 1 text) ∙ no_words_place 0 (1 + k) 0 (drop k text))
 
@@ -186,15 +186,15 @@ gaps_other b text e f = rw (e, ne_eqb b 40 f) (go (is_capital b) (number_in text
     go false n = refl
 
 -- a comment that is open has no closing parenthesis, and one that is closed has it so many bytes on
-pub open_by : (at : ℕ) (o : Option ℕ) → comment_by at o ≡ Open → o ≡ none
+pub open_by : (at : ℕ) (o : Option ℕ) → comment_by at o ≡ Open → o ≡ None
 unfolding comment_by
-open_by at none e = refl
-open_by at (some k) e = let never : ◌≡◌ {A = ℕ} 0 1 = cc in absurd (omega arith)
+open_by at None e = refl
+open_by at (Some k) e = let never : ◌≡◌ {A = ℕ} 0 1 = cc in absurd (omega arith)
 
 -- the way past a comment whose bytes begin at a place
 pub record Way (l : List ℕ) (i next : ℕ) : Type 0 where
   pub count : ℕ
-  pub closes : closing (text_from (drop i l)) ≡ some count
+  pub closes : closing (text_from (drop i l)) ≡ Some count
   pub is : next ≡ i + count
   pub within : next ≤ length l
   pub text : drop count (text_from (drop i l)) ≡ text_from (drop next l)
@@ -211,8 +211,8 @@ unfolding comment_by
 comment_way l i next h e = go (closing (text_from (drop i l))) refl e
   where
     go : (o : Option ℕ) → closing (text_from (drop i l)) ≡ o → comment_by i o ≡ Closed next → Way l i next
-    go none f g = let never : ◌≡◌ {A = ℕ} 0 1 = cc in absurd (omega arith)
-    go (some k) f g =
+    go None f g = let never : ◌≡◌ {A = ℕ} 0 1 = cc in absurd (omega arith)
+    go (Some k) f g =
         let is : next ≡ i + k = cc in
         let short : k ≤ length (text_from (drop i l)) = closing_within (text_from (drop i l)) k f in
         record {

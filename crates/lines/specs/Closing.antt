@@ -1,13 +1,13 @@
 -- What only serves the proofs of this crate: where a comment ends, as the code answers it.
 use Rattle.std.specs.Prelude.{◌+◌}
-use Rattle.terms.specs.Common.{ℕ, Option, none, some, List}
+use Rattle.terms.specs.Common.{ℕ, Option, None, Some, List}
 use Rattle.words.specs.Words.{closing}
 use Rattle.lines.specs.declared.Comment.{Comment, TheVariants.Closed, TheVariants.Open}
 
 -- where a comment ends whose bytes begin at a place, with the block's text from there
 unfoldable pub comment_by : ℕ → Option ℕ → Comment
-comment_by at none = Open
-comment_by at (some k) = Closed (at + k)
+comment_by at None = Open
+comment_by at (Some k) = Closed (at + k)
 
 abbrev pub comment_at : ℕ → List ℕ → Comment
 comment_at at text = comment_by at (closing text)

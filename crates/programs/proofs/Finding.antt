@@ -1,5 +1,5 @@
 -- The subprogram of a number, searched by the places of the table. Assumes nothing.
-use Rattle.terms.proofs.Common.{ℕ, ◌+◌, ◌≤◌, ◌<◌, ◌≡◌, refl, sym, ◌∙◌, ap, Option, none, some, List, arith, add-one, eq-eqb, ne_eqb, length, take, drop, get_or, drop_of_length-le, length-take-le, get_or-take, drop-cons}
+use Rattle.terms.proofs.Common.{ℕ, ◌+◌, ◌≤◌, ◌<◌, ◌≡◌, refl, sym, ◌∙◌, ap, Option, None, Some, List, arith, add-one, eq-eqb, ne_eqb, length, take, drop, get_or, drop_of_length-le, length-take-le, get_or-take, drop-cons}
 use Rattle.terms.specs.Terms.{first}
 use Rattle.refusals.specs.declared.Refusal.TheVariants.{NumberNotFound, NestOver}
 use Rattle.programs.specs.{Openings.Table, Openings.known, Answers.Gives, Answers.found_as, Answers.callee_by}
@@ -12,11 +12,11 @@ gives_as g e = record { table = g.table ∙ e; ready = g.ready }
 
 -- a list from a place on
 module _ (l : List Program) (n i : ℕ) (d : Program) where
-  known_end : length l ≤ i → known (drop i l) n ≡ none
+  known_end : length l ≤ i → known (drop i l) n ≡ None
   unfolding known first
   known_end h = rw (drop_of_length-le l h)
 
-  known_here : i < length l → (get_or l i d).number ≡ n → known (drop i l) n ≡ some (get_or l i d)
+  known_here : i < length l → (get_or l i d).number ≡ n → known (drop i l) n ≡ Some (get_or l i d)
   unfolding known first
   known_here h e = rw (drop-cons l i d h) (rw (eq-eqb (get_or l i d).number n e))
 
@@ -56,15 +56,15 @@ module _ (n : ℕ) (subs : List Program) (count i : ℕ) (d : Program) (s : Hunt
         record { few = s.few; left = s.left ∙ known_past (take count subs) n i d (omega (arith, used)) other }
 
 -- what an answer of the search says of the rules' table
-pub found_at : {p : Program} (o : Option Program) → At p ≡ found_as o → o ≡ some p
+pub found_at : {p : Program} (o : Option Program) → At p ≡ found_as o → o ≡ Some p
 unfolding found_as
-found_at none e = let never : ◌≡◌ {A = ℕ} 0 1 = cc in absurd (omega arith)
-found_at (some q) e = cc
+found_at None e = let never : ◌≡◌ {A = ℕ} 0 1 = cc in absurd (omega arith)
+found_at (Some q) e = cc
 
-pub found_none : (o : Option Program) → Missing ≡ found_as o → o ≡ none
+pub found_none : (o : Option Program) → Missing ≡ found_as o → o ≡ None
 unfolding found_as
-found_none none e = refl
-found_none (some q) e = let never : ◌≡◌ {A = ℕ} 0 1 = cc in absurd (omega arith)
+found_none None e = refl
+found_none (Some q) e = let never : ◌≡◌ {A = ℕ} 0 1 = cc in absurd (omega arith)
 
 -- what a call of a number leads to, by what is found
 module _ (o : Option Program) (left : ℕ) {found : Found} (f : found ≡ found_as o) where

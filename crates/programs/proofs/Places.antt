@@ -1,6 +1,6 @@
 -- Every program of the table begins at a place of the data, and its blocks are those from that place on. Assumes nothing.
 use Rattle.std.specs.Prelude.{if◌then◌else◌}
-use Rattle.terms.proofs.Common.{ℕ, ◌+◌, ◌-◌, ◌≤◌, ◌<◌, ◌≡◌, refl, sym, ◌∙◌, ap, Bool, true, false, some, List, [], ◌∷◌, ◌++◌, arith, dec_lt, eqb, length, drop, length-drop, drop-drop}
+use Rattle.terms.proofs.Common.{ℕ, ◌+◌, ◌-◌, ◌≤◌, ◌<◌, ◌≡◌, refl, sym, ◌∙◌, ap, Bool, true, false, Some, List, [], ◌∷◌, ◌++◌, arith, dec_lt, eqb, length, drop, length-drop, drop-drop}
 use Rattle.terms.specs.Terms.{first}
 use Rattle.lines.specs.Blocks.{length_from, Block, block_from, blocks_of, closes, opens}
 use Rattle.lines.{specs.Serving.blocks_from, proofs.Lines.blocks_step, proofs.Lines.blocks_end, proofs.Lines.length_some}
@@ -120,12 +120,12 @@ pub subs_placed : {l : List ℕ} {main : Program} {subs : List Program} → Tabl
 subs_placed (found m s) = s
 
 -- the subprogram of a number
-pub known_placed : {l : List ℕ} {subs : List Program} {p : Program} (n : ℕ) → Places l subs → known subs n ≡ some p → Placed l p
+pub known_placed : {l : List ℕ} {subs : List Program} {p : Program} (n : ℕ) → Places l subs → known subs n ≡ Some p → Placed l p
 unfolding known first
 known_placed n none e = let never : ◌≡◌ {A = ℕ} 0 1 = cc in absurd (omega arith)
 known_placed {l} {p = p} n (more {p = q} {ps = qs} m s) e = go (eqb q.number n) (known_placed n s) e
   where
-    go : (t : Bool) → (first (λ r. eqb r.number n) qs ≡ some p → Placed l p) → (if t then some q else first (λ r. eqb r.number n) qs) ≡ some p → Placed l p
+    go : (t : Bool) → (first (λ r. eqb r.number n) qs ≡ Some p → Placed l p) → (if t then Some q else first (λ r. eqb r.number n) qs) ≡ Some p → Placed l p
     go true rest f = let g : q ≡ p = cc in rw g at m
     go false rest f = rest f
 

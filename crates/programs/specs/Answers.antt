@@ -1,6 +1,6 @@
 -- What the functions of this layer answer, in the types of the code.
 use Rattle.std.specs.Prelude.{◌≡◌, if◌then◌else◌}
-use Rattle.terms.specs.Common.{ℕ, Option, none, some, eqb}
+use Rattle.terms.specs.Common.{ℕ, Option, None, Some, eqb}
 use Rattle.refusals.specs.declared.Refusal.TheVariants.{NumberNotFound, NestOver}
 use Rattle.programs.specs.{Openings.Table, Found.table_of, Found.WellFound}
 use Rattle.programs.specs.declared.{Program.Program, Scanned.Scanned, Found.Found, Found.TheVariants.At, Found.TheVariants.Missing, Callee.Callee}
@@ -13,10 +13,10 @@ pub record Gives (t : Table) (r : Scanned) : Type 0 where
 
 -- the subprogram of a number, or none
 unfoldable pub found_as : Option Program → Found
-found_as none = Missing
-found_as (some p) = At p
+found_as None = Missing
+found_as (Some p) = At p
 
 -- "5; 6": what a call of a number leads to, by the subprogram that has it
 unfoldable pub callee_by : Option Program → ℕ → Callee
-callee_by none left = Callee.Refused NumberNotFound
-callee_by (some program) left = if eqb left 0 then Callee.Refused NestOver else Callee.Found program
+callee_by None left = Callee.Refused NumberNotFound
+callee_by (Some program) left = if eqb left 0 then Callee.Refused NestOver else Callee.Found program

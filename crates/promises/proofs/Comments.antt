@@ -1,6 +1,6 @@
 -- "Bytes inside a comment, replaced by others that are neither `)`, LF nor CR, change no record and no answer."
 use Rattle.std.specs.Prelude.{if◌then◌else◌}
-use Rattle.terms.proofs.Common.{ℕ, zero, suc, ◌+◌, ◌-◌, ◌≡◌, refl, ap, Bool, true, false, false≢true, ◌||◌, inl, inr, ⊎_elim, Option, none, some, List, [], ◌∷◌, arith, eqb-false, ne_eqb, not-true, eqb, length, drop}
+use Rattle.terms.proofs.Common.{ℕ, zero, suc, ◌+◌, ◌-◌, ◌≡◌, refl, ap, Bool, true, false, false≢true, ◌||◌, inl, inr, ⊎_elim, Option, None, Some, List, [], ◌∷◌, arith, eqb-false, ne_eqb, not-true, eqb, length, drop}
 use Rattle.terms.{specs.Terms.byte, proofs.Laws.either_left, proofs.Laws.either_right}
 use Rattle.refusals.specs.declared.Refusal.TheVariants.{FirstBlock}
 use Rattle.lines.specs.{Blocks.Block, Blocks.begins_with, Blocks.no_text, Blocks.closes, Blocks.opens, Blocks.is_slashed, Comments.open_after, Comments.inside_at}
@@ -110,8 +110,8 @@ called_alike {p} {q} jobs n =
     rw (← same) (go (known p.programs n))
   where
     go : (o : Option Program) → AlikeBlocks (blocks_for p.blocks o) (blocks_for q.blocks o)
-    go none = Alikes.none
-    go (some program) = drop_alike (program.block - 1) jobs.blocks
+    go None = Alikes.none
+    go (Some program) = drop_alike (program.block - 1) jobs.blocks
 
 callees_alike : {p q : Job} → AlikeJobs p q → (left n : ℕ) (g : Going) → callees p left n g ≡ callees q left n g
 unfolding callees

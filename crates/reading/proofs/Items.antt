@@ -1,6 +1,6 @@
 -- Items and words by their places.
 use Rattle.std.specs.Prelude.{if◌then◌else◌}
-use Rattle.terms.proofs.Common.{ℕ, suc, ◌+◌, ◌≤◌, ◌<◌, ◌≡◌, refl, sym, ◌∙◌, ap, Bool, true, false, ◌||◌, Option, none, some, List, [], ◌∷◌, arith, ℕ_discrete, ne_eqb, le-leb, lt-leb, eqb, length, drop, get_or, length-drop, drop-drop, take-length, slice}
+use Rattle.terms.proofs.Common.{ℕ, suc, ◌+◌, ◌≤◌, ◌<◌, ◌≡◌, refl, sym, ◌∙◌, ap, Bool, true, false, ◌||◌, Option, None, Some, List, [], ◌∷◌, arith, ℕ_discrete, ne_eqb, le-leb, lt-leb, eqb, length, drop, get_or, length-drop, drop-drop, take-length, slice}
 use Rattle.lines.specs.{Blocks.begins_with, Blocks.text_from, Blocks.no_text, Blocks.length_from, Blocks.ends_at, Closing.comment_at}
 use Rattle.lines.specs.declared.Comment.TheVariants.{Closed, Open}
 use Rattle.lines.proofs.Laws.{text_drop, text_none, text_inside, text_at, text_length, text_next, words_pass, open_by, comment_way, closing_within}
@@ -77,9 +77,9 @@ item_fits : (i b : ℕ) (rest : List ℕ) → Fits (item_at i b rest) rest
 unfolding item_at comment_item word_item
 item_fits i b rest = by (is_blank b) (eqb b 40) (is_capital b) refl
   where
-    by_comment : (o : Option ℕ) → ((k : ℕ) → o ≡ some k → k ≤ length rest) → Fits (comment_item o) rest
-    by_comment none h = tt
-    by_comment (some k) h = h k refl
+    by_comment : (o : Option ℕ) → ((k : ℕ) → o ≡ Some k → k ≤ length rest) → Fits (comment_item o) rest
+    by_comment None h = tt
+    by_comment (Some k) h = h k refl
 
     by_number : is_capital b ≡ true → (n : Numbered) → ((m : Number) (k : ℕ) → n ≡ Is m k → (k ≤ length rest) × Written m) → Fits (word_item i b n) rest
     by_number e (Is m k) h = let f = h m k refl in (f.0, f.1, e)

@@ -1,6 +1,6 @@
 -- What is kept of the words tells whether the next one may stand, and is kept with it.
 use Rattle.std.specs.Prelude.{if◌then◌else◌}
-use Rattle.terms.proofs.Common.{ℕ, ◌+◌, ◌<◌, ◌≡◌, refl, sym, ◌∙◌, ap, Bool, true, false, false≢true, not, ◌&&◌, ◌||◌, or-false, or-true, none, some, List, [], ◌∷◌, ◌++◌, arith, ℕ_discrete, eq-eqb, ne_eqb, eqb-true, eqb, lit<, length, get_or, set, replicate, length-set, length-replicate, get_or-replicate, get_or-set_same, get_or-set_other}
+use Rattle.terms.proofs.Common.{ℕ, ◌+◌, ◌<◌, ◌≡◌, refl, sym, ◌∙◌, ap, Bool, true, false, false≢true, not, ◌&&◌, ◌||◌, or-false, or-true, None, Some, List, [], ◌∷◌, ◌++◌, arith, ℕ_discrete, eq-eqb, ne_eqb, eqb-true, eqb, lit<, length, get_or, set, replicate, length-set, length-replicate, get_or-replicate, get_or-set_same, get_or-set_other}
 use Rattle.terms.specs.Terms.{any, first}
 use Rattle.terms.proofs.Laws.{either_left, either_right, any_snoc, any-more, any-neither, any_false}
 use Rattle.codes.specs.{declared.Code.Code, declared.Misc.Misc, declared.Misc.TheVariants.Other, Codes.group_of, Codes.is_group_a, Codes.is_g04, Codes.clash, Codes.is_m, Codes.misc_number}
@@ -55,7 +55,7 @@ modes_snoc m [] w = refl
 modes_snoc m (e ∷ done) w = modes_snoc (if is_g e then switched m (code_in e) else m) done w
 
 -- the first of a list with one more at its end
-first_snoc : (test : Word → Bool) (done : List Word) (w : Word) → any test done ≡ false → first test (done ++ w ∷ []) ≡ (if test w then some w else none)
+first_snoc : (test : Word → Bool) (done : List Word) (w : Word) → any test done ≡ false → first test (done ++ w ∷ []) ≡ (if test w then Some w else None)
 unfolding first any
 first_snoc test [] w e = refl
 first_snoc test (x ∷ done) w e =
@@ -64,7 +64,7 @@ first_snoc test (x ∷ done) w e =
 first_kept : (test : Word → Bool) (done : List Word) (w : Word) → test w ≡ false → first test (done ++ w ∷ []) ≡ first test done
 unfolding first
 first_kept test [] w e = rw e
-first_kept test (x ∷ done) w e = elim (test x) as (λ t. (if t then some x else first test (done ++ w ∷ [])) ≡ (if t then some x else first test done)) [ true ↦ refl | false ↦ first_kept test done w e ]
+first_kept test (x ∷ done) w e = elim (test x) as (λ t. (if t then Some x else first test (done ++ w ∷ [])) ≡ (if t then Some x else first test done)) [ true ↦ refl | false ↦ first_kept test done w e ]
 
 -- a list without a letter M has no M code
 no_misc : (test : Word → Bool) (done : List Word) → any is_misc done ≡ false → any (λ e. is_misc e && test e) done ≡ false

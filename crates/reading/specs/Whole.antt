@@ -1,6 +1,6 @@
 -- A block that was read as a whole.
 use Rattle.std.specs.Prelude.{◌+◌, ◌≤◌, ◌≡◌}
-use Rattle.terms.specs.Common.{ℕ, Bool, Option, none, some, List, [], length, take, drop}
+use Rattle.terms.specs.Common.{ℕ, Bool, Option, None, Some, List, [], length, take, drop}
 use Rattle.lines.specs.Blocks.{length_from}
 use Rattle.refusals.specs.declared.Refusal.TheVariants.{CannotExecute, Unreadable}
 use Rattle.words.specs.{Words.these, Words.bad_at, declared.Word.Word}
@@ -11,8 +11,8 @@ use Rattle.words.specs.Words as Words
 
 -- "15 leftmost; 4 leftmost"
 unfoldable pub standing : Option Word → Status
-standing none = Fine
-standing (some w) = Refused CannotExecute w.at
+standing None = Fine
+standing (Some w) = Refused CannotExecute w.at
 
 unfoldable pub status_of : Bool → Words.Words → Status
 status_of main (these ws) = standing (first_that_may_not main [] ws)

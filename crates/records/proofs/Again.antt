@@ -1,6 +1,6 @@
 -- What is read, written again, gives the same bytes. Assumes nothing.
 use Rattle.std.specs.Prelude.{if◌then◌else◌}
-use Rattle.terms.proofs.Common.{ℕ, zero, suc, ◌+◌, ◌-◌, ◌*◌, ◌≤◌, ◌<◌, ◌≡◌, refl, sym, ◌∙◌, Bool, true, false, ◌&&◌, Option, none, some, List, [], ◌∷◌, ◌++◌, append_assoc, arith, eqb-true, ltb-false, eqb, ltb, length, get_or, take, drop, drop-cons, drop-drop, take-add}
+use Rattle.terms.proofs.Common.{ℕ, zero, suc, ◌+◌, ◌-◌, ◌*◌, ◌≤◌, ◌<◌, ◌≡◌, refl, sym, ◌∙◌, Bool, true, false, ◌&&◌, Option, None, Some, List, [], ◌∷◌, ◌++◌, append_assoc, arith, eqb-true, ltb-false, eqb, ltb, length, get_or, take, drop, drop-cons, drop-drop, take-add}
 use Rattle.terms.specs.Terms.{first}
 use Rattle.lengths.{specs.Units.four_bytes, specs.View.Short, proofs.Four.four_read, proofs.Four.bytes_of_four}
 use Rattle.codes.specs.declared.Plane.{Plane}
@@ -13,13 +13,13 @@ use Rattle.records.proofs.Laid.{mark_length, mark_room}
 -- ---- what a test that was passed says
 
 module _ {A : Type 0} (f : A → Bool) where
-  passed : (as' : List A) {a : A} → first f as' ≡ some a → f a ≡ true
+  passed : (as' : List A) {a : A} → first f as' ≡ Some a → f a ≡ true
   unfolding first
   passed [] e = let z : ◌≡◌ {A = ℕ} 0 1 = cc in absurd (omega arith)
   passed (b ∷ bs) {a} e = by (f b) refl e (λ g. passed bs g)
     where
       by :
-          (t : Bool) → f b ≡ t → (if t then some b else first f bs) ≡ some a → (first f bs ≡ some a → f a ≡ true) → f a ≡ true
+          (t : Bool) → f b ≡ t → (if t then Some b else first f bs) ≡ Some a → (first f bs ≡ Some a → f a ≡ true) → f a ≡ true
       by true h g next = cc
       by false h g next = next g
 
@@ -61,7 +61,7 @@ pair_eq (x ∷ []) h e f = absurd (omega arith)
 pair_eq (x ∷ y ∷ []) h e f = cc
 pair_eq (x ∷ y ∷ z ∷ m) h e f = absurd (omega arith)
 
-mark_again : (l : List ℕ) (at : ℕ) {kind : Kind} → at + 2 ≤ length l → kind_at l at ≡ some kind → mark_of kind ≡ take 2 (drop at l)
+mark_again : (l : List ℕ) (at : ℕ) {kind : Kind} → at + 2 ≤ length l → kind_at l at ≡ Some kind → mark_of kind ≡ take 2 (drop at l)
 unfolding kind_at marked
 mark_again l at {kind} h e =
     let t = both_true _ _ (passed (marked l at) kinds e) in
@@ -78,7 +78,7 @@ abbrev plane_written : Bool → Plane → List ℕ
 plane_written t plane = if t then plane_byte plane ∷ [] else []
 
 plane_again :
-    (t : Bool) (l : List ℕ) (at : ℕ) {plane : Plane} → at + plane_count t ≤ length l → plane_for t l at ≡ some plane
+    (t : Bool) (l : List ℕ) (at : ℕ) {plane : Plane} → at + plane_count t ≤ length l → plane_for t l at ≡ Some plane
     → plane_written t plane ≡ take (plane_count t) (drop at l)
 unfolding plane_for plane_at
 plane_again true l at {plane} h e =
@@ -150,8 +150,8 @@ parts l at t n {next} e =
 record Came (l : List ℕ) (at : ℕ) (r : Record) (next : ℕ) : Type 0 where
   kind : Kind
   plane : Plane
-  mark : kind_at l at ≡ some kind
-  byte : plane_for (has_plane kind) l (at + 2) ≡ some plane
+  mark : kind_at l at ≡ Some kind
+  byte : plane_for (has_plane kind) l (at + 2) ≡ Some plane
   room : at + kind_length kind ≤ length l
   is : r ≡ record_of kind plane (numbers_at (numbers_in kind) l (at + head_length kind))
   place : next ≡ at + kind_length kind
@@ -162,17 +162,17 @@ left false e n = (refl, e)
 
 module _ (l : List ℕ) (at : ℕ) (r : Record) (next : ℕ) where
   by_plane :
-      (kind : Kind) → kind_at l at ≡ some kind → at + kind_length kind ≤ length l
+      (kind : Kind) → kind_at l at ≡ Some kind → at + kind_length kind ≤ length l
       → (o : Option Plane) → plane_for (has_plane kind) l (at + 2) ≡ o → plane_read l at kind o ≡ Next r next → Came l at r next
   unfolding plane_read
-  by_plane kind m k none p e = let z : ◌≡◌ {A = ℕ} 0 1 = cc in absurd (omega arith)
-  by_plane kind m k (some plane) p e =
+  by_plane kind m k None p e = let z : ◌≡◌ {A = ℕ} 0 1 = cc in absurd (omega arith)
+  by_plane kind m k (Some plane) p e =
       record { kind = kind; plane = plane; mark = m; byte = p; room = k; is = cc; place = cc }
 
   by_kind : (o : Option Kind) → kind_at l at ≡ o → kind_read l at o ≡ Next r next → Came l at r next
   unfolding kind_read
-  by_kind none m e = let z : ◌≡◌ {A = ℕ} 0 1 = cc in absurd (omega arith)
-  by_kind (some kind) m e =
+  by_kind None m e = let z : ◌≡◌ {A = ℕ} 0 1 = cc in absurd (omega arith)
+  by_kind (Some kind) m e =
       let a = left (ltb (length l) (at + kind_length kind)) e (λ h. let z : ◌≡◌ {A = ℕ} 0 1 = cc in omega arith) in
       by_plane kind m (ltb-false (length l) (at + kind_length kind) a.0) (plane_for (has_plane kind) l (at + 2)) refl a.1
 

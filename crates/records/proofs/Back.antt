@@ -1,5 +1,5 @@
 -- What is written is read back: the reader's laws over lists of records. Assumes nothing.
-use Rattle.terms.proofs.Common.{ℕ, zero, suc, ◌+◌, ◌≤◌, ◌≡◌, refl, sym, ap, ◌∙◌, some, List, [], ◌∷◌, ◌++◌, append_assoc, append-nil, add-zero, zero-add, suc-add, arith, eqb, length, get_or, drop, length-append, length-drop, get_or-drop, drop-drop, drop_at, drop-append_seam}
+use Rattle.terms.proofs.Common.{ℕ, zero, suc, ◌+◌, ◌≤◌, ◌≡◌, refl, sym, ap, ◌∙◌, Some, List, [], ◌∷◌, ◌++◌, append_assoc, append-nil, add-zero, zero-add, suc-add, arith, eqb, length, get_or, drop, length-append, length-drop, get_or-drop, drop-drop, drop_at, drop-append_seam}
 use Rattle.terms.specs.Terms.{first}
 use Rattle.lengths.{specs.Units.len, specs.Units.four_bytes, specs.declared.Len.Len, proofs.Four.short_four, proofs.Four.four_of_bytes}
 use Rattle.codes.specs.declared.Plane.{Plane, TheVariants.G17, TheVariants.G18, TheVariants.G19}
@@ -24,7 +24,7 @@ module _ (l : List ℕ) (at : ℕ) where
 
 -- ---- each part of a record
 
-mark_first : (kind : Kind) (rest : List ℕ) → kind_at (mark_of kind ++ rest) 0 ≡ some kind
+mark_first : (kind : Kind) (rest : List ℕ) → kind_at (mark_of kind ++ rest) 0 ≡ Some kind
 unfolding kind_at marked first
 mark_first rp rest = refl
 mark_first ln rest = refl
@@ -37,20 +37,20 @@ mark_first pa rest = refl
 mark_first en rest = refl
 
 mark_back :
-    (kind : Kind) (l : List ℕ) (at : ℕ) (rest : List ℕ) → drop at l ≡ mark_of kind ++ rest → kind_at l at ≡ some kind
+    (kind : Kind) (l : List ℕ) (at : ℕ) (rest : List ℕ) → drop at l ≡ mark_of kind ++ rest → kind_at l at ≡ Some kind
 unfolding kind_at marked
 mark_back kind l at rest e =
     first_same (marked l at) (marked (drop at l) 0) kinds (λ k. rw (here l at, there l at 1))
     ∙ ap (λ (m : List ℕ). kind_at m 0) e ∙ mark_first kind rest
 
-plane_first : (plane : Plane) (rest : List ℕ) → plane_at (plane_byte plane ∷ rest) 0 ≡ some plane
+plane_first : (plane : Plane) (rest : List ℕ) → plane_at (plane_byte plane ∷ rest) 0 ≡ Some plane
 unfolding plane_at first
 plane_first G17 rest = refl
 plane_first G18 rest = refl
 plane_first G19 rest = refl
 
 plane_byte_lem :
-    (plane : Plane) (l : List ℕ) (at : ℕ) (rest : List ℕ) → drop at l ≡ plane_byte plane ∷ rest → plane_at l at ≡ some plane
+    (plane : Plane) (l : List ℕ) (at : ℕ) (rest : List ℕ) → drop at l ≡ plane_byte plane ∷ rest → plane_at l at ≡ Some plane
 unfolding plane_at
 plane_byte_lem plane l at rest e =
     first_same
@@ -62,7 +62,7 @@ plane_byte_lem plane l at rest e =
 
 plane_back :
     (r : Record) (l : List ℕ) (at : ℕ) (rest : List ℕ)
-    → drop at l ≡ plane_bytes r ++ rest → plane_for (has_plane (kind_of r)) l at ≡ some (plane_of r)
+    → drop at l ≡ plane_bytes r ++ rest → plane_for (has_plane (kind_of r)) l at ≡ Some (plane_of r)
 unfolding plane_bytes plane_of plane_for
 plane_back (RP p) l at rest e = refl
 plane_back (LN p feed) l at rest e = refl

@@ -1,5 +1,5 @@
 -- Laws of what the reader finds at a place. Assumes nothing.
-use Rattle.terms.proofs.Common.{ℕ, ◌+◌, ◌*◌, ◌≤◌, ◌<◌, ◌≡◌, refl, sym, ◌∙◌, Bool, true, false, ◌&&◌, Option, none, some, List, [], ◌∷◌, arith, eqb-true, eqb-false, eq-eqb, ne_eqb, lt-ltb, le-ltb, eqb, length, get_or}
+use Rattle.terms.proofs.Common.{ℕ, ◌+◌, ◌*◌, ◌≤◌, ◌<◌, ◌≡◌, refl, sym, ◌∙◌, Bool, true, false, ◌&&◌, Option, None, Some, List, [], ◌∷◌, arith, eqb-true, eqb-false, eq-eqb, ne_eqb, lt-ltb, le-ltb, eqb, length, get_or}
 use Rattle.terms.specs.Terms.{first}
 use Rattle.lengths.specs.declared.{Len.Len, Point.Point}
 use Rattle.codes.specs.declared.Plane.{Plane}
@@ -57,7 +57,7 @@ by_word_lem l at {a} {b} {m} e f h g =
 pub no_word :
     (m : ℕ)
     → (m ≡ 0x5250 → ⊥) → (m ≡ 0x4c4e → ⊥) → (m ≡ 0x4152 → ⊥) → (m ≡ 0x414c → ⊥) → (m ≡ 0x4457 → ⊥)
-    → (m ≡ 0x5350 → ⊥) → (m ≡ 0x534f → ⊥) → (m ≡ 0x5041 → ⊥) → (m ≡ 0x454e → ⊥) → by_word m ≡ none
+    → (m ≡ 0x5350 → ⊥) → (m ≡ 0x534f → ⊥) → (m ≡ 0x5041 → ⊥) → (m ≡ 0x454e → ⊥) → by_word m ≡ None
 unfolding first
 no_word m rp ln ar al dw sp so pa en =
     rw (ne_eqb m 0x5250 rp, ne_eqb m 0x4c4e ln, ne_eqb m 0x4152 ar, ne_eqb m 0x414c al, ne_eqb m 0x4457 dw)
@@ -111,11 +111,11 @@ module _ (l : List ℕ) (at : ℕ) where
     unfolding read_at
     read_kind = rw (ne_eqb at (length l) (λ e. omega arith), le-ltb (length l) (at + 2) h)
 
-    pub read_unknown : kind_at l at ≡ none → read_at l at ≡ Faulty UnknownMark at
+    pub read_unknown : kind_at l at ≡ None → read_at l at ≡ Faulty UnknownMark at
     unfolding kind_read
     read_unknown e = read_kind ∙ rw e
 
-    module _ {kind : Kind} (e : kind_at l at ≡ some kind) where
+    module _ {kind : Kind} (e : kind_at l at ≡ Some kind) where
       pub read_short : length l < at + kind_length kind → read_at l at ≡ Faulty CutShort at
       unfolding kind_read
       read_short k = read_kind ∙ rw (e, lt-ltb (length l) (at + kind_length kind) k)
@@ -125,12 +125,12 @@ module _ (l : List ℕ) (at : ℕ) where
         unfolding kind_read
         read_plane = read_kind ∙ rw (e, le-ltb (length l) (at + kind_length kind) k)
 
-        pub read_other : plane_for (has_plane kind) l (at + 2) ≡ none → read_at l at ≡ Faulty OtherPlane at
+        pub read_other : plane_for (has_plane kind) l (at + 2) ≡ None → read_at l at ≡ Faulty OtherPlane at
         unfolding plane_read
         read_other p = read_plane ∙ rw p
 
         pub read_next :
-            {plane : Plane} → plane_for (has_plane kind) l (at + 2) ≡ some plane
+            {plane : Plane} → plane_for (has_plane kind) l (at + 2) ≡ Some plane
             → read_at l at
             ≡ Next (record_of kind plane (numbers_at (numbers_in kind) l (at + head_length kind))) (at + kind_length kind)
         unfolding plane_read

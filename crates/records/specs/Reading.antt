@@ -2,7 +2,7 @@
 -- another plane byte, with the byte place of its mark. At the list's end it says so; one last byte, or a place past the
 -- end, is cut short."
 use Rattle.std.specs.Prelude.{◌+◌, ◌&&◌, ◌∷◌, ◌++◌, if◌then◌else◌}
-use Rattle.terms.specs.Common.{ℕ, zero, suc, Bool, true, false, Option, none, some, List, [], ltb, eqb, length, get_or}
+use Rattle.terms.specs.Common.{ℕ, zero, suc, Bool, true, false, Option, None, Some, List, [], ltb, eqb, length, get_or}
 use Rattle.terms.specs.Terms.{first}
 use Rattle.lengths.specs.{Units.len, Units.of_four, declared.Len.Len}
 use Rattle.codes.specs.declared.Plane.{Plane, TheVariants.G17, TheVariants.G18, TheVariants.G19}
@@ -31,7 +31,7 @@ plane_at l k = first (λ plane. eqb (get_or l k 0) (plane_byte plane)) planes
 -- a record without a plane byte has none that could be wrong
 unfoldable pub plane_for : Bool → List ℕ → ℕ → Option Plane
 plane_for true l k = plane_at l k
-plane_for false l k = some G17
+plane_for false l k = Some G17
 
 -- the number whose four bytes begin at a place, and so many numbers one after the other
 abbrev pub len_at : List ℕ → ℕ → Len
@@ -42,13 +42,13 @@ numbers_at zero l k = []
 numbers_at (suc n) l k = len_at l k ∷ numbers_at n l (k + 4)
 
 unfoldable pub plane_read : List ℕ → ℕ → Kind → Option Plane → Listed
-plane_read l at kind none = Faulty OtherPlane at
-plane_read l at kind (some plane) =
+plane_read l at kind None = Faulty OtherPlane at
+plane_read l at kind (Some plane) =
     Next (record_of kind plane (numbers_at (numbers_in kind) l (at + head_length kind))) (at + kind_length kind)
 
 unfoldable pub kind_read : List ℕ → ℕ → Option Kind → Listed
-kind_read l at none = Faulty UnknownMark at
-kind_read l at (some kind) =
+kind_read l at None = Faulty UnknownMark at
+kind_read l at (Some kind) =
     if ltb (length l) (at + kind_length kind) then Faulty CutShort at
     else plane_read l at kind (plane_for (has_plane kind) l (at + 2))
 

@@ -1,6 +1,6 @@
 -- The walk through the blocks of a program: executed blocks, calls, budget and room.
 use Rattle.std.specs.Prelude.{◌+◌, ◌-◌, ◌&&◌, ◌||◌, ◌∷◌, ◌++◌, if◌then◌else◌}
-use Rattle.terms.specs.Common.{ℕ, zero, suc, Bool, true, false, Option, none, some, List, [], eqb, drop}
+use Rattle.terms.specs.Common.{ℕ, zero, suc, Bool, true, false, Option, None, Some, List, [], eqb, drop}
 use Rattle.refusals.specs.declared.{Refusal.Refusal, Refusal.TheVariants.NoEnd, Place.Place}
 use Rattle.records.specs.{declared.Record.Record, Layout.room_of}
 use Rattle.settings.specs.declared.State.{State}
@@ -115,8 +115,8 @@ walk job left callee (b ∷ bs) g =
 
 -- the blocks of the subprogram of a number; a block that calls an unknown number is refused before
 unfoldable pub blocks_for : List Block → Option Program → List Block
-blocks_for bs none = []
-blocks_for bs (some p) = blocks_at bs p
+blocks_for bs None = []
+blocks_for bs (Some p) = blocks_at bs p
 
 -- "Main may call a first level, down to a fourth." The callees of a program from which so many levels are left; a block
 -- that calls where none is left is refused before.

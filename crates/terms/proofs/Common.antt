@@ -1,5 +1,5 @@
 -- The names of the kit that proofs use, those of the definitions among them, passed on so that a file names them in one line.
-pub use Rattle.terms.specs.Common.{Bool, Char, List, Option, String, [], code, drop, eqb, false, get_or, le_z, leb, length, lt_z, ltb, map, min, nat_abs, negsuc, neg_ℤ, none, not, paste, pos, set, sets, some, suc, take, true, zero, ℕ, ℤ, ◌%◌, ◌&&◌, ◌*◌, ◌*ℤ◌, ◌++◌, ◌+◌, ◌+ℤ◌, ◌-◌, ◌-ℤ◌, ◌/◌, ◌<◌, ◌^◌, ◌||◌, ◌∷◌, ◌≡◌, ◌≤◌, ◌⊎◌}
+pub use Rattle.terms.specs.Common.{Bool, Char, List, Option, String, [], code, drop, eqb, false, get_or, le_z, leb, length, lt_z, ltb, map, min, nat_abs, negsuc, neg_ℤ, None, not, paste, pos, set, sets, Some, suc, take, true, zero, ℕ, ℤ, ◌%◌, ◌&&◌, ◌*◌, ◌*ℤ◌, ◌++◌, ◌+◌, ◌+ℤ◌, ◌-◌, ◌-ℤ◌, ◌/◌, ◌<◌, ◌^◌, ◌||◌, ◌∷◌, ◌≡◌, ◌≤◌, ◌⊎◌}
 pub use mathlib.Core.Bool.{and_assoc, and-false, and-true, cond, false≢true, or_assoc, or-false, or-true, true≢false}
 pub use mathlib.Core.List.{append_assoc, append-nil}
 pub use mathlib.Core.Logic.{inl, inr, ⊎_elim, ◌≢◌}

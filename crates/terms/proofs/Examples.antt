@@ -1,5 +1,5 @@
 -- What the words of the definitions mean, at small numbers, by computation.
-use Rattle.terms.proofs.Common.{ℕ, ◌≡◌, refl, true, false, none, some, [], ◌∷◌, map, leb, pos, negsuc}
+use Rattle.terms.proofs.Common.{ℕ, ◌≡◌, refl, true, false, None, Some, [], ◌∷◌, map, leb, pos, negsuc}
 use Rattle.terms.specs.Terms.{first_of, when, first, any, all, stands, lookup, from_to, between, within}
 use Rattle.terms.proofs.Opened.{opened}
 
@@ -14,11 +14,11 @@ pub within_ends : map (within 5) (negsuc 5 ∷ negsuc 4 ∷ pos 5 ∷ pos 6 ∷ 
 within_ends = refl
 
 -- the first that passes, wherever it stands
-pub first_of_three : map (λ n. first (leb n) (1 ∷ 3 ∷ 5 ∷ [])) (0 ∷ 2 ∷ 4 ∷ 6 ∷ []) ≡ some 1 ∷ some 3 ∷ some 5 ∷ none ∷ []
+pub first_of_three : map (λ n. first (leb n) (1 ∷ 3 ∷ 5 ∷ [])) (0 ∷ 2 ∷ 4 ∷ 6 ∷ []) ≡ Some 1 ∷ Some 3 ∷ Some 5 ∷ None ∷ []
 unfolding opened
 first_of_three = refl
 
-pub first_there_is : map (λ n. first_of {A = ℕ} (when (leb n 1) 1 ∷ when (leb n 3) 3 ∷ [])) (0 ∷ 2 ∷ 4 ∷ []) ≡ some 1 ∷ some 3 ∷ none ∷ []
+pub first_there_is : map (λ n. first_of {A = ℕ} (when (leb n 1) 1 ∷ when (leb n 3) 3 ∷ [])) (0 ∷ 2 ∷ 4 ∷ []) ≡ Some 1 ∷ Some 3 ∷ None ∷ []
 unfolding opened
 first_there_is = refl
 
@@ -30,7 +30,7 @@ pub all_of_two : map (λ n. all (leb n) (1 ∷ 3 ∷ [])) (1 ∷ 2 ∷ 4 ∷ [])
 unfolding opened
 all_of_two = refl
 
-pub stands_or_not : map (stands {A = ℕ}) (some 1 ∷ none ∷ []) ≡ true ∷ false ∷ []
+pub stands_or_not : map (stands {A = ℕ}) (Some 1 ∷ None ∷ []) ≡ true ∷ false ∷ []
 unfolding opened
 stands_or_not = refl
 

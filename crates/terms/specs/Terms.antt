@@ -1,6 +1,6 @@
 -- The words that the definitions of every layer are written in.
 use Rattle.std.specs.Prelude.{if◌then◌else◌, cond, ◌&&◌, ◌||◌, ◌∷◌}
-use Rattle.terms.specs.Common.{ℕ, Char, code, String, Bool, true, false, Option, none, some, List, [], leb, eqb, ℤ, nat_abs, le_z}
+use Rattle.terms.specs.Common.{ℕ, Char, code, String, Bool, true, false, Option, None, Some, List, [], leb, eqb, ℤ, nat_abs, le_z}
 use Prim.Native.String as Text
 
 -- the bytes of a text that is written in ASCII
@@ -15,19 +15,19 @@ byte c = code c
 module _ {ℓ} {A : Type ℓ} where
   -- the first that there is
   unfoldable pub first_of : List (Option A) → Option A
-  first_of [] = none
-  first_of (none ∷ os) = first_of os
-  first_of (some a ∷ os) = some a
+  first_of [] = None
+  first_of (None ∷ os) = first_of os
+  first_of (Some a ∷ os) = Some a
 
   -- something under a condition
   abbrev pub when : Bool → A → Option A
-  when true a = some a
-  when false a = none
+  when true a = Some a
+  when false a = None
 
   -- the first of a list that passes a test
   unfoldable pub first : (A → Bool) → List A → Option A
-  first test [] = none
-  first test (a ∷ as') = cond (test a) (some a) (first test as')
+  first test [] = None
+  first test (a ∷ as') = cond (test a) (Some a) (first test as')
 
   -- whether one of a list, or each of it, passes a test
   unfoldable pub any : (A → Bool) → List A → Bool
@@ -39,8 +39,8 @@ module _ {ℓ} {A : Type ℓ} where
   all test (a ∷ as') = test a && all test as'
 
   unfoldable pub stands : Option A → Bool
-  stands none = false
-  stands (some a) = true
+  stands None = false
+  stands (Some a) = true
 
 -- what stands beside a number in a table, or else `other`
 unfoldable pub lookup : {A : Type 0} → ℕ → List (ℕ × A) → A → A

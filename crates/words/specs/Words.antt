@@ -1,6 +1,6 @@
 -- Document 01, "Data set and blocks": the words of a block's text, with blanks and comments between them.
 use Rattle.std.specs.Prelude.{◌+◌, ◌||◌, ◌∷◌, if◌then◌else◌}
-use Rattle.terms.specs.Common.{ℕ, zero, suc, Bool, Option, none, some, List, [], eqb}
+use Rattle.terms.specs.Common.{ℕ, zero, suc, Bool, Option, None, Some, List, [], eqb}
 use Rattle.terms.specs.Terms.{byte, from_to}
 use Rattle.words.specs.{Numbers.number_in, declared.Numbered.Numbered, declared.Numbered.TheVariants.Is, declared.Numbered.TheVariants.Unreadable, declared.Word.Word}
 
@@ -13,12 +13,12 @@ is_capital b = from_to (byte "A") (byte "Z") b
 
 -- how many bytes lead to the first closing parenthesis, itself counted
 unfoldable pub one_more : Option ℕ → Option ℕ
-one_more none = none
-one_more (some k) = some (suc k)
+one_more None = None
+one_more (Some k) = Some (suc k)
 
 unfoldable pub closing : List ℕ → Option ℕ
-closing [] = none
-closing (b ∷ bs) = if eqb b (byte ")") then some 1 else one_more (closing bs)
+closing [] = None
+closing (b ∷ bs) = if eqb b (byte ")") then Some 1 else one_more (closing bs)
 
 -- What begins at a byte: a gap, which is a blank or a comment, or a word, each with the number of further bytes that
 -- belong to it; or nothing readable.
@@ -29,8 +29,8 @@ pub data Item : Type 0 where
 
 -- "`(` to `)` in one block is a comment; an unclosed `(` or a stray `)` is 15."
 unfoldable pub comment_item : Option ℕ → Item
-comment_item none = unreadable
-comment_item (some k) = gap k
+comment_item None = unreadable
+comment_item (Some k) = gap k
 
 -- "A word is a capital letter and, directly after, a number"
 unfoldable pub word_item : ℕ → ℕ → Numbered → Item
