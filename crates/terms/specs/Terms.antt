@@ -12,7 +12,7 @@ bytes (Text.◌∷◌ c s) = code c ∷ bytes s
 abbrev pub byte : Char → ℕ
 byte c = code c
 
-module _ {ℓ} {A : Type ℓ} where
+module _ {A : Type 0} where
   -- the first that there is
   unfoldable pub first_of : List (Option A) → Option A
   first_of [] = None
@@ -29,6 +29,12 @@ module _ {ℓ} {A : Type ℓ} where
   first test [] = None
   first test (a ∷ as') = cond (test a) (Some a) (first test as')
 
+  -- whether there is something
+  unfoldable pub stands : Option A → Bool
+  stands None = false
+  stands (Some a) = true
+
+module _ {ℓ} {A : Type ℓ} where
   -- whether one of a list, or each of it, passes a test
   unfoldable pub any : (A → Bool) → List A → Bool
   any test [] = false
@@ -37,10 +43,6 @@ module _ {ℓ} {A : Type ℓ} where
   unfoldable pub all : (A → Bool) → List A → Bool
   all test [] = true
   all test (a ∷ as') = test a && all test as'
-
-  unfoldable pub stands : Option A → Bool
-  stands None = false
-  stands (Some a) = true
 
 -- what stands beside a number in a table, or else `other`
 unfoldable pub lookup : {A : Type 0} → ℕ → List (ℕ × A) → A → A
