@@ -2,13 +2,14 @@
 use Rattle.terms.proofs.Common.{ℕ, ◌≡◌, refl, sym, ap, ◌∙◌, Bool, true, false, not, Option, None, Some, List, [], ◌∷◌, ◌++◌, append-nil, arith, ltb, ltb-false, not-false}
 use Rattle.terms.specs.Terms.{first_of}
 use Rattle.refusals.specs.declared.Refusal.{Refusal, TheVariants.BadParameter, TheVariants.LeavesTravel, TheVariants.NoRoom}
+use Rattle.refusals.specs.declared.Blame.{Blame}
 use Rattle.words.specs.{declared.Word.Word, Words.Words, Words.these, Words.bad_at, Words.words_of}
 use Rattle.records.specs.{declared.Record.Record, Layout.room_of, Path.path_stays_in}
 use Rattle.setup.specs.{declared.Bed.Bed, Fair.Fair}
 use Rattle.settings.specs.declared.State.{State}
 use Rattle.letters.specs.Letters.{first_bad_value}
 use Rattle.blocks.specs.{declared.Said.Said, declared.Control.Control, Machine.Machine, Machine.machine_of, Reach.Reachable, Reach.Steady, Keeping.Keeps}
-use Rattle.blocks.specs.Exec.{Blame, Calls, accepted, said_by, made_by, settled, control_of, at_word, at_start, blames, unless, judged, exec_words, exec}
+use Rattle.blocks.specs.Exec.{Calls, accepted, said_by, made_by, settled, control_of, at_word, at_start, blames, unless, judged, exec_words, exec}
 use Rattle.blocks.proofs.{Meaning.meant, Making.made_short, Making.kept}
 
 -- ---- where no test blames, each passed

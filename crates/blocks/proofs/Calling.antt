@@ -5,6 +5,7 @@ use Rattle.terms.proofs.Common.{ℕ, ◌≡◌, refl, sym, ◌∙◌, ap, Bool, 
 use Rattle.terms.{specs.Terms.first, specs.Terms.first_of, specs.Terms.all, specs.Terms.lookup, proofs.Laws.either_left}
 use Rattle.refusals.specs.declared.Refusal.{Refusal}
 use Rattle.refusals.specs.declared.Refusal.TheVariants.{BadParameter, AddressUndefined, ParameterUndefined, CannotExecute, NumberNotFound, NestOver, LeavesTravel, NoRoom, CentreTooFar}
+use Rattle.refusals.specs.declared.Blame.{Blame}
 use Rattle.codes.specs.{declared.Misc.Misc, declared.Plane.Plane, Codes.misc_number, Codes.is_m, Codes.ends_program}
 use Rattle.codes.specs.declared.Misc.TheVariants.{M00, M02, M03, M05, M30, M98, M99, Other}
 use Rattle.words.specs.{declared.Word.Word, declared.Given.Given, declared.Values.Values, Values.no_values, Words.Words, Words.these, Words.bad_at, Words.words_of}
@@ -13,7 +14,7 @@ use Rattle.settings.specs.declared.{Modes.Modes, State.State}
 use Rattle.letters.specs.declared.{BlockCode.BlockCode, BlockCode.TheVariants.Calling, Speeds.Speeds}
 use Rattle.letters.specs.Letters.{first_that_may_not, has_centre, use_of, letters_of, is_nothing, is_unused, first_unused, first_bad_value, misc_of_block, modes_in, code_under, block_code, given_by, word_value, with_value, values_after, values_of}
 use Rattle.blocks.specs.{Machine.Machine, Motions.moves_of, declared.Said.Said, declared.Control.Control, Calling.freely, Calling.called}
-use Rattle.blocks.specs.Exec.{Blame, Calls, in_main, Verdict, accepted, said_by, spindle_records, moves_in, last_records, made_by, settled, control_of, call_to, unknown_call, too_deep, lacks_parameter, drills, cannot_drill, at_word, at_start, blames, unless, judged, exec_words, exec}
+use Rattle.blocks.specs.Exec.{Calls, in_main, Verdict, accepted, said_by, spindle_records, moves_in, last_records, made_by, settled, control_of, call_to, unknown_call, too_deep, lacks_parameter, drills, cannot_drill, at_word, at_start, blames, unless, judged, exec_words, exec}
 use Rattle.blocks.specs.declared.Control.TheVariants.{On, Call, Back, Stop}
 use Rattle.blocks.proofs.Accepting.{AllNone, all_none, past_all, word_none}
 

@@ -2,7 +2,7 @@
 use Rattle.std.specs.Prelude.{◌&&◌, ◌||◌, ◌∷◌, ◌++◌, if◌then◌else◌}
 use Rattle.terms.specs.Common.{ℕ, Bool, true, false, not, Option, None, Some, List, [], eqb, ltb, nat_abs}
 use Rattle.terms.specs.Terms.{all, first_of, stands, when}
-use Rattle.refusals.specs.declared.Refusal.{Refusal}
+use Rattle.refusals.specs.declared.{Refusal.Refusal, Blame.Blame}
 use Rattle.refusals.specs.declared.Refusal.TheVariants.{BadParameter, AddressUndefined, ParameterUndefined, CannotExecute, NumberNotFound, NestOver, LeavesTravel, NoRoom, Unreadable, CentreTooFar}
 use Rattle.codes.specs.declared.{Misc.Misc, Motion.Motion, Distance.Distance, Plane.Plane, Plane.TheVariants.G17, Plane.TheVariants.G18, Plane.TheVariants.G19}
 use Rattle.codes.specs.Codes.{is_m, ends_program}
@@ -92,10 +92,6 @@ control_of b =
 
 -- "Order: .. 15 leftmost; 4 leftmost ..; 2 leftmost; 1 leftmost by value; 3; 5; 6; 4 for a cycle ..; 1 by geometry; 16;
 -- 9; 10." Each names a word's letter, else the block's first byte.
-pub record Blame : Type 0 where
-  pub refusal : Refusal
-  pub byte : ℕ
-
 unfoldable pub at_word : Refusal → Option Word → Option Blame
 at_word refusal None = None
 at_word refusal (Some w) = Some (record { refusal = refusal; byte = w.at })

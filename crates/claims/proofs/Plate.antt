@@ -3,6 +3,7 @@
 use Rattle.terms.proofs.Common.{ℕ, ◌-◌, ◌≡◌, refl, sym, ◌∙◌, ap, Bool, true, false, not, ◌&&◌, None, Some, List, [], ◌∷◌, map, arith, eq-eqb}
 use Rattle.terms.specs.Terms.{byte, any, first, first_of, lookup}
 use Rattle.refusals.specs.declared.Refusal.TheVariants.{BadParameter}
+use Rattle.refusals.specs.declared.Blame.{Blame}
 use Rattle.lengths.specs.{declared.Len.Len, declared.Point.Point, Points.at_height}
 use Rattle.codes.specs.Codes.{group_of, is_group_a, is_g04, clash, misc_number, is_m, cycle_number}
 use Rattle.codes.specs.declared.{Cycle.Cycle, Motion.TheVariants.Drilling, Plane.Plane, Code.TheVariants.GroupA, Misc.TheVariants.Other}
@@ -16,7 +17,7 @@ use Rattle.letters.specs.Letters.{is_known, code_in, repeats, bad_g, may_not_sta
 use Rattle.letters.specs.Letters.{drilling_letters, motion_letters, letters_of, use_of, is_nothing, turns, is_arc, has_centre, is_unused, first_unused, word_value, is_bad, first_bad_value, given_by, with_value, values_after}
 use Rattle.letters.specs.declared.BlockCode.{BlockCode, TheVariants.Moving}
 use Rattle.blocks.specs.{Machine.Machine, declared.Said.Said, declared.Control.Control, Motions.cycle_done, Motions.cycle_moves, Motions.motion_of, Motions.moves_of}
-use Rattle.blocks.specs.Exec.{Blame, Calls, in_main, said_by, kept_by, working, spindle_records, moves_in, made_by, settled, control_of, call_to, lacks_centre, lacks_parameter, drills, cannot_drill, at_word, blames, Verdict, refused, accepted, unless, judged, exec_words}
+use Rattle.blocks.specs.Exec.{Calls, in_main, said_by, kept_by, working, spindle_records, moves_in, made_by, settled, control_of, call_to, lacks_centre, lacks_parameter, drills, cannot_drill, at_word, blames, Verdict, refused, accepted, unless, judged, exec_words}
 use Rattle.blocks.proofs.{Accepting.all_none, Accepting.word_none, Accepting.judged_accepts, Calling.none_first}
 use Rattle.claims.specs.Plate.{word, Naming, Spot, placed, in_full, Came, came_by, came_to}
 

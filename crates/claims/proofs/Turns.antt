@@ -1,9 +1,10 @@
 -- What the next block can do, case by case; what every block keeps, a run keeps.
 use Rattle.terms.proofs.Common.{ℕ, zero, suc, ◌-◌, ◌≡◌, refl, sym, ◌∙◌, ap, Bool, true, false, ◌||◌, ◌⊎◌, inl, inr, List, [], ◌∷◌, ◌++◌, append_assoc, append-nil, arith}
 use Rattle.refusals.specs.declared.{Refusal.TheVariants.NoEnd, Place.Place}
+use Rattle.refusals.specs.declared.Blame.{Blame}
 use Rattle.records.specs.{declared.Record.Record, Layout.room_of}
 use Rattle.settings.specs.declared.State.{State}
-use Rattle.blocks.specs.{Machine.Machine, Exec.Blame, Exec.Verdict, Exec.refused, Exec.accepted, declared.Control.Control}
+use Rattle.blocks.specs.{Machine.Machine, Exec.Verdict, Exec.refused, Exec.accepted, declared.Control.Control}
 use Rattle.blocks.specs.declared.Control.TheVariants.{On, Call, Back, Stop}
 use Rattle.lines.specs.Blocks.{Block, closes, opens}
 use Rattle.programs.specs.Openings.{place_of}

@@ -5,6 +5,7 @@ use Rattle.terms.proofs.Common.{ℕ, ◌+◌, ◌≡◌, refl, sym, ◌∙◌, a
 use Rattle.terms.{specs.Terms.all, specs.Terms.any, specs.Terms.first, specs.Terms.first_of, proofs.Laws.either_left, proofs.Laws.either_right}
 use Rattle.refusals.specs.declared.Refusal.{Refusal}
 use Rattle.refusals.specs.declared.Refusal.TheVariants.{BadParameter, AddressUndefined, ParameterUndefined, CannotExecute, NumberNotFound, NestOver, LeavesTravel, NoRoom, Unreadable, CentreTooFar}
+use Rattle.refusals.specs.declared.Blame.{Blame}
 use Rattle.lengths.specs.declared.Point.{Point}
 use Rattle.codes.specs.Codes.{misc_number, is_m, is_no_m, ends_program}
 use Rattle.words.specs.{declared.Word.Word, Words.Words, Words.these, Words.bad_at, Words.words_of}
@@ -14,7 +15,7 @@ use Rattle.records.specs.{declared.Record.Record, Layout.room_of, Path.end_of, P
 use Rattle.settings.specs.declared.State.{State}
 use Rattle.blocks.{specs.Machine.Machine, specs.Machine.machine_of, specs.Reach.Reachable, specs.declared.Said.Said, specs.declared.Control.Control, proofs.Meaning.meant, proofs.Making.made_fits}
 use Rattle.blocks.specs.declared.Control.TheVariants.{On, Call, Back, Stop}
-use Rattle.blocks.specs.Exec.{Blame, Calls, Verdict, refused, accepted, said_by, moves_in, made_by, settled, control_of, in_main, call_to, unknown_call, lacks_parameter, cannot_drill, at_word, too_deep, at_start, blames, unless, judged, exec_words, exec, calls_in}
+use Rattle.blocks.specs.Exec.{Calls, Verdict, refused, accepted, said_by, moves_in, made_by, settled, control_of, in_main, call_to, unknown_call, lacks_parameter, cannot_drill, at_word, too_deep, at_start, blames, unless, judged, exec_words, exec, calls_in}
 use Rattle.blocks.proofs.Accepting.{AllNone, none_before, all_none, past_all, word_none, start_none, judged_accepts}
 use Rattle.lines.specs.Blocks.{Block}
 use Rattle.runs.specs.Walk.{Job, slash_length, verdict_on}

@@ -4,7 +4,7 @@
 ghost use Rattle.std.specs.Prelude.{◌≡◌};
 ghost use Rattle.codes.specs.Codes.{code_of, misc_of, group_of, misc_number, cycle_number};
 
-#[derive(Clone, Copy)]
+#[derive(Clone, Copy, PartialEq, Eq)]
 pub enum Cycle {
     G81,
     G82,
@@ -13,7 +13,7 @@ pub enum Cycle {
 }
 
 // Group A. Off is what G80 leaves, and what a run starts with.
-#[derive(Clone, Copy)]
+#[derive(Clone, Copy, PartialEq, Eq)]
 pub enum Motion {
     Off,
     G00,
@@ -24,7 +24,7 @@ pub enum Motion {
 }
 
 // Group B.
-#[derive(Clone, Copy)]
+#[derive(Clone, Copy, PartialEq, Eq)]
 pub enum Plane {
     G17,
     G18,
@@ -32,28 +32,28 @@ pub enum Plane {
 }
 
 // Group C: G20 and G21.
-#[derive(Clone, Copy)]
+#[derive(Clone, Copy, PartialEq, Eq)]
 pub enum Unit {
     Inch,
     Millimetre,
 }
 
 // Group D: G90 and G91.
-#[derive(Clone, Copy)]
+#[derive(Clone, Copy, PartialEq, Eq)]
 pub enum Distance {
     Absolute,
     Incremental,
 }
 
 // Group F: G98 and G99, where a cycle's passes end.
-#[derive(Clone, Copy)]
+#[derive(Clone, Copy, PartialEq, Eq)]
 pub enum Return {
     ToInitial,
     ToR,
 }
 
 // A G number: its group, and in it its meaning. Group E is the place in the table of origins, from 0.
-#[derive(Clone, Copy)]
+#[derive(Clone, Copy, PartialEq, Eq)]
 pub enum Code {
     GroupA(Motion),
     GroupB(Plane),
@@ -66,7 +66,7 @@ pub enum Code {
 }
 
 // An M number.
-#[derive(Clone, Copy)]
+#[derive(Clone, Copy, PartialEq, Eq)]
 pub enum Misc {
     M00,
     M02,

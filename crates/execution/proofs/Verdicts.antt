@@ -3,6 +3,7 @@ use Rattle.terms.proofs.Common.{ℕ, ◌+◌, ◌≡◌, refl, sym, ◌∙◌, a
 use Rattle.terms.specs.Terms.{all, first_of}
 use Rattle.refusals.specs.declared.Refusal.{Refusal}
 use Rattle.refusals.specs.declared.Refusal.TheVariants.{BadParameter, AddressUndefined, ParameterUndefined, CannotExecute, NumberNotFound, NestOver, LeavesTravel, NoRoom, Unreadable, CentreTooFar}
+use Rattle.refusals.specs.declared.Blame.{Blame}
 use Rattle.words.specs.{declared.Word.Word, declared.Values.Values, Words.Words, Words.these, Words.bad_at}
 use Rattle.lengths.specs.declared.Point.{Point}
 use Rattle.records.specs.{Layout.list_bytes, Layout.room_of, Path.path_stays_in, Path.record_moved, Serving.Wrote, Writing.moved_bytes}
@@ -13,7 +14,7 @@ use Rattle.letters.specs.declared.Judged.{Judged, TheVariants.Fine, TheVariants.
 use Rattle.reading.specs.Whole.{standing, status_of}
 use Rattle.blocks.specs.declared.{Said.Said, Control.Control, Executed.Executed, Executed.TheVariants.Refused, Executed.TheVariants.Accepted}
 use Rattle.blocks.{specs.Machine.Machine, specs.Doing.made_of, specs.Doing.executed, specs.Doing.Does, proofs.Accepting.past_all}
-use Rattle.blocks.specs.Exec.{Blame, Calls, Verdict, refused, accepted, said_by, moves_in, made_by, settled, control_of, in_main, call_to, unknown_call, too_deep, lacks_parameter, cannot_drill, at_word, at_start, blames, unless, judged, exec_words}
+use Rattle.blocks.specs.Exec.{Calls, Verdict, refused, accepted, said_by, moves_in, made_by, settled, control_of, in_main, call_to, unknown_call, too_deep, lacks_parameter, cannot_drill, at_word, at_start, blames, unless, judged, exec_words}
 use Rattle.execution.specs.Steps.{judged_from}
 use Rattle.reading.specs.declared.Status.TheVariants as status
 

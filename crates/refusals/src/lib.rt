@@ -31,6 +31,20 @@ pub struct Place {
     pub byte: usize,
 }
 
+// A block's refusal, and the byte of the data that it names.
+#[derive(Clone, Copy)]
+pub struct Blame {
+    pub refusal: Refusal,
+    pub byte: usize,
+}
+
+// A refusal of the data before any block, and the place that it names.
+#[derive(Clone, Copy)]
+pub struct Refused {
+    pub refusal: Refusal,
+    pub place: Place,
+}
+
 // What a run answers, with the count of the records that stand in the list.
 #[derive(Clone, Copy)]
 pub enum Answer {
