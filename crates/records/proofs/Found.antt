@@ -1,5 +1,6 @@
 -- Laws of what the reader finds at a place. Assumes nothing.
-use Rattle.terms.proofs.Common.{ℕ, ◌+◌, ◌*◌, ◌≤◌, ◌<◌, ◌≡◌, refl, sym, ◌∙◌, Bool, true, false, ◌&&◌, Option, None, Some, List, [], ◌∷◌, arith, eqb-true, eqb-false, eq-eqb, ne_eqb, lt-ltb, le-ltb, eqb, length, get_or}
+use Rattle.std.{specs.List.find, specs.Option.option_map, specs.Str.bytes_eq, proofs.Math.Bool.and-true}
+use Rattle.terms.proofs.Common.{ℕ, ◌+◌, ◌≤◌, ◌<◌, ◌≡◌, refl, ◌∙◌, Bool, Option, None, Some, List, [], ◌∷◌, arith, eq-eqb, ne_eqb, lt-ltb, le-ltb, length, get_or}
 use Rattle.terms.specs.Terms.{first}
 use Rattle.lengths.specs.declared.{Len.Len, Point.Point}
 use Rattle.codes.specs.declared.Plane.{Plane}
@@ -17,51 +18,38 @@ unfolding first
 first_same f g [] h = refl
 first_same f g (a ∷ as') h = rw (h a, first_same f g as' h)
 
--- ---- a mark as one number, the first byte the larger part
-
-abbrev mark_word : Kind → ℕ
-mark_word kind = 256 * get_or (mark_of kind) 0 0 + get_or (mark_of kind) 1 0
-
-abbrev pub by_word : ℕ → Option Kind
-by_word m = first (λ kind. eqb m (mark_word kind)) kinds
-
-both : (a b p q : ℕ) → b < 256 → q < 256 → (eqb a p && eqb b q) ≡ eqb (256 * a + b) (256 * p + q)
-both a b p q h k = by (eqb a p) (eqb b q) refl refl
-  where
-    by : (t u : Bool) → eqb a p ≡ t → eqb b q ≡ u → (t && u) ≡ eqb (256 * a + b) (256 * p + q)
-    by true true e f = sym (eq-eqb (256 * a + b) (256 * p + q) (omega (arith, eqb-true a p e, eqb-true b q f)))
-    by true false e f = sym (ne_eqb (256 * a + b) (256 * p + q) (λ g. eqb-false b q f (omega (arith, eqb-true a p e))))
-    by false u e f = sym (ne_eqb (256 * a + b) (256 * p + q) (λ g. eqb-false a p e (omega arith)))
-
-mark_below : (kind : Kind) → get_or (mark_of kind) 1 0 < 256
-mark_below RP = omega arith
-mark_below LN = omega arith
-mark_below AR = omega arith
-mark_below AL = omega arith
-mark_below DW = omega arith
-mark_below SP = omega arith
-mark_below SO = omega arith
-mark_below PA = omega arith
-mark_below EN = omega arith
-
-pub by_word_lem :
-    (l : List ℕ) (at : ℕ) {a b m : ℕ}
-    → a ≡ get_or l at 0 → b ≡ get_or l (at + 1) 0 → b < 256 → 256 * a + b ≡ m → kind_at l at ≡ by_word m
-unfolding kind_at marked
-by_word_lem l at {a} {b} {m} e f h g =
-    first_same (marked l at) (λ kind. eqb m (mark_word kind)) kinds same
-  where
-    same : (kind : Kind) → marked l at kind ≡ eqb m (mark_word kind)
-    same kind = rw (← e, ← f, ← g) (both a b (get_or (mark_of kind) 0 0) (get_or (mark_of kind) 1 0) h (mark_below kind))
-
-pub no_word :
-    (m : ℕ)
-    → (m ≡ 0x5250 → ⊥) → (m ≡ 0x4c4e → ⊥) → (m ≡ 0x4152 → ⊥) → (m ≡ 0x414c → ⊥) → (m ≡ 0x4457 → ⊥)
-    → (m ≡ 0x5350 → ⊥) → (m ≡ 0x534f → ⊥) → (m ≡ 0x5041 → ⊥) → (m ≡ 0x454e → ⊥) → by_word m ≡ None
+-- as the library has it
+found_first : {A : Type 0} (f : A → Bool) (as' : List A) → find f as' ≡ first f as'
 unfolding first
-no_word m rp ln ar al dw sp so pa en =
-    rw (ne_eqb m 0x5250 rp, ne_eqb m 0x4c4e ln, ne_eqb m 0x4152 ar, ne_eqb m 0x414c al, ne_eqb m 0x4457 dw)
-    (rw (ne_eqb m 0x5350 sp, ne_eqb m 0x534f so, ne_eqb m 0x5041 pa, ne_eqb m 0x454e en))
+found_first f [] = refl
+found_first f (a ∷ as') = rw (found_first f as')
+
+-- ---- the kind by its mark
+
+module _ (l : List ℕ) (at : ℕ) where
+  -- whether a kind's mark stands there, as the code compares it
+  abbrev pub stands_there : Kind → Bool
+  stands_there kind = bytes_eq (get_or l at 0 ∷ get_or l (at + 1) 0 ∷ []) (mark_of kind)
+
+  same_mark : (kind : Kind) → stands_there kind ≡ marked l at kind
+  unfolding marked
+  same_mark RP = rw and-true
+  same_mark LN = rw and-true
+  same_mark AR = rw and-true
+  same_mark AL = rw and-true
+  same_mark DW = rw and-true
+  same_mark SP = rw and-true
+  same_mark SO = rw and-true
+  same_mark PA = rw and-true
+  same_mark EN = rw and-true
+
+  pub kind_found : {r : Option Kind} → option_map (λ kind. kind) r ≡ find stands_there kinds → r ≡ kind_at l at
+  unfolding kind_at
+  kind_found {r} e = own r ∙ e ∙ found_first stands_there kinds ∙ first_same stands_there (marked l at) kinds same_mark
+    where
+      own : (o : Option Kind) → o ≡ option_map (λ kind. kind) o
+      own None = refl
+      own (Some kind) = refl
 
 -- ---- numbers, points and arcs in the list
 

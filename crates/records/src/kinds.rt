@@ -40,17 +40,7 @@ pub fn mark_of(kind: Kind) -> [u8; 2]
 pub fn has_plane(kind: Kind) -> bool
     ensures { result ≡ has_plane kind }
 {
-    match kind {
-        Kind::RP => false,
-        Kind::LN => false,
-        Kind::AR => true,
-        Kind::AL => true,
-        Kind::DW => false,
-        Kind::SP => false,
-        Kind::SO => false,
-        Kind::PA => false,
-        Kind::EN => false,
-    }
+    matches!(kind, Kind::AR | Kind::AL)
 }
 
 // How many numbers a record has. The bound spares callers a look into the table when they add and multiply.

@@ -10,10 +10,8 @@ pub fn path_end(from: Point, r: Record) -> Point
     ensures { result ≡ path_end from (path_of r) }
 {
     match r {
-        Record::RP(p) => p,
-        Record::LN(p, _) => p,
-        Record::AR(a) => a.end,
-        Record::AL(a) => a.end,
+        Record::RP(p) | Record::LN(p, _) => p,
+        Record::AR(a) | Record::AL(a) => a.end,
         _ => from,
     }
 }

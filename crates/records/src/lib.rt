@@ -68,17 +68,3 @@ pub enum Listed {
     End,
     Faulty(Fault, usize),
 }
-
-// A kind by its mark, or none.
-#[derive(Clone, Copy)]
-pub enum KindFound {
-    Mark(Kind),
-    NoMark,
-}
-
-// A plane by its byte, or none.
-#[derive(Clone, Copy)]
-pub enum PlaneFound {
-    Byte(Plane),
-    NoByte,
-}

@@ -3,11 +3,23 @@ ghost use Rattle.std.specs.Prelude.{◌+◌, ◌*◌, ◌≤◌, ◌<◌, ◌≡
 ghost use Rattle.terms.specs.Common.{length};
 ghost use Rattle.records.specs.Layout.{point_of, arc_of, record_of, numbers_in, has_plane, head_length};
 ghost use Rattle.records.specs.Reading.{kind_at, plane_at, plane_for, len_at, numbers_at, read_at};
-ghost use Rattle.records.specs.Serving.{found_kind, found_plane};
 
-use crate::{Arc, Fault, Kind, KindFound, Listed, PlaneFound, Record};
+use crate::{Arc, Fault, Kind, Listed, Record};
 use codes::Plane;
 use lengths::{Len, Point};
+
+// All kinds.
+const KINDS: [Kind; 9] = [
+    Kind::RP,
+    Kind::LN,
+    Kind::AR,
+    Kind::AL,
+    Kind::DW,
+    Kind::SP,
+    Kind::SO,
+    Kind::PA,
+    Kind::EN,
+];
 
 fn number_at(list: &[u8], at: usize) -> Len
     requires { at + 4 ≤ length list.now }
@@ -59,54 +71,40 @@ fn record_at(list: &[u8], at: usize, kind: Kind, plane: Plane) -> Record
     }
 }
 
-// One match on the mark, its two bytes taken as one number with the first byte as the larger part.
-fn kind_at(list: &[u8], at: usize) -> KindFound
+// The kind whose mark stands at a place.
+fn kind_at(list: &[u8], at: usize) -> Option<Kind>
     requires { at + 2 ≤ length list.now }
-    ensures { found_kind result ≡ kind_at list.now at }
+    ensures { result ≡ kind_at list.now at }
 {
-    let mark = 256 * wide(list[at]) + wide(list[at + 1]);
-    match mark {
-        0x5250 => KindFound::Mark(Kind::RP),
-        0x4c4e => KindFound::Mark(Kind::LN),
-        0x4152 => KindFound::Mark(Kind::AR),
-        0x414c => KindFound::Mark(Kind::AL),
-        0x4457 => KindFound::Mark(Kind::DW),
-        0x5350 => KindFound::Mark(Kind::SP),
-        0x534f => KindFound::Mark(Kind::SO),
-        0x5041 => KindFound::Mark(Kind::PA),
-        0x454e => KindFound::Mark(Kind::EN),
-        _ => KindFound::NoMark,
-    }
+    let mark = [list[at], list[at + 1]];
+    KINDS
+        .iter()
+        .copied()
+        .find(|kind| mark == crate::mark_of(*kind))
 }
 
-fn wide(b: u8) -> u64
-    ensures { (result ≡ b) × (result < 256) }
-{
-    b as u64
-}
-
-fn plane_at(list: &[u8], at: usize) -> PlaneFound
+fn plane_at(list: &[u8], at: usize) -> Option<Plane>
     requires { at + 1 ≤ length list.now }
-    ensures { found_plane result ≡ plane_at list.now at }
+    ensures { result ≡ plane_at list.now at }
 {
     let byte = list[at];
     match byte {
-        17 => PlaneFound::Byte(Plane::G17),
-        18 => PlaneFound::Byte(Plane::G18),
-        19 => PlaneFound::Byte(Plane::G19),
-        _ => PlaneFound::NoByte,
+        17 => Some(Plane::G17),
+        18 => Some(Plane::G18),
+        19 => Some(Plane::G19),
+        _ => None,
     }
 }
 
 // The plane of the record whose mark stands at a place. One without a plane byte has none that could be wrong.
-fn plane_for(list: &[u8], at: usize, kind: Kind) -> PlaneFound
+fn plane_for(list: &[u8], at: usize, kind: Kind) -> Option<Plane>
     requires { at + head_length kind ≤ length list.now }
-    ensures { found_plane result ≡ plane_for (has_plane kind) list.now (at + 2) }
+    ensures { result ≡ plane_for (has_plane kind) list.now (at + 2) }
 {
     if crate::has_plane(kind) {
         plane_at(list, at + 2)
     } else {
-        PlaneFound::Byte(Plane::G17)
+        Some(Plane::G17)
     }
 }
 
@@ -125,16 +123,14 @@ pub fn read(list: &[u8], at: usize) -> Listed
     if left < 2 {
         return Listed::Faulty(Fault::CutShort, at);
     }
-    let found = kind_at(list, at);
-    let KindFound::Mark(kind) = found else {
+    let Some(kind) = kind_at(list, at) else {
         return Listed::Faulty(Fault::UnknownMark, at);
     };
     let length = crate::kind_length(kind);
     if left < length {
         return Listed::Faulty(Fault::CutShort, at);
     }
-    let byte = plane_for(list, at, kind);
-    let PlaneFound::Byte(plane) = byte else {
+    let Some(plane) = plane_for(list, at, kind) else {
         return Listed::Faulty(Fault::OtherPlane, at);
     };
     Listed::Next(

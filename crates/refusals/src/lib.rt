@@ -82,8 +82,6 @@ pub fn count_of(answer: Answer) -> usize
     ensures { result ≡ count_of answer }
 {
     match answer {
-        Answer::Done(count) => count,
-        Answer::Unfinished(count) => count,
-        Answer::Refused(_, _, count) => count,
+        Answer::Done(count) | Answer::Unfinished(count) | Answer::Refused(_, _, count) => count,
     }
 }
