@@ -1,8 +1,8 @@
 -- Document 01, "Codes": the groups of the G codes, their meaning, and the M codes.
-use Rattle.std.specs.Prelude.{◌&&◌, ◌||◌, ◌∷◌}
+use Rattle.std.specs.Prelude.{◌≡◌, ◌&&◌, ◌||◌, ◌∷◌, Result, Ok, Err}
 use Rattle.terms.specs.Common.{ℕ, Bool, List, [], eqb}
 use Rattle.terms.specs.Terms.{lookup}
-use Rattle.codes.specs.declared.{Plane.TheVariants.G17, Plane.TheVariants.G18, Plane.TheVariants.G19, Unit.TheVariants.Inch, Unit.TheVariants.Millimetre}
+use Rattle.codes.specs.declared.{NoPlane.NoPlane, Plane.Plane, Plane.TheVariants.G17, Plane.TheVariants.G18, Plane.TheVariants.G19, Unit.TheVariants.Inch, Unit.TheVariants.Millimetre}
 use Rattle.codes.specs.declared.{Distance.TheVariants.Absolute, Distance.TheVariants.Incremental, Return.TheVariants.ToInitial, Return.TheVariants.ToR, Code.Code, Misc.Misc}
 use Rattle.codes.specs.declared.Cycle.{Cycle, TheVariants.G81, TheVariants.G82, TheVariants.G85, TheVariants.G89}
 use Rattle.codes.specs.declared.Motion.TheVariants.{Off, G00, G01, G02, G03, Drilling}
@@ -85,3 +85,14 @@ is_no_m m = is_m 100 m
 
 abbrev pub ends_program : Misc → Bool
 ends_program m = is_m 2 m || is_m 30 m
+
+-- the number of a plane's code
+abbrev pub plane_number : Plane → ℕ
+plane_number G17 = 17
+plane_number G18 = 18
+plane_number G19 = 19
+
+-- a plane told from a number has that number; where none is told, no plane has it
+abbrev pub NumbersPlane : ℕ → Result Plane NoPlane → Type 0
+NumbersPlane n (Ok plane) = plane_number plane ≡ n
+NumbersPlane n (Err e) = (plane : Plane) → plane_number plane ≡ n → ⊥

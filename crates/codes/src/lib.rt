@@ -2,7 +2,7 @@
 #![tactic(auto)]
 
 ghost use Rattle.std.specs.Prelude.{◌≡◌};
-ghost use Rattle.codes.specs.Codes.{code_of, misc_of, group_of, misc_number, cycle_number};
+ghost use Rattle.codes.specs.Codes.{code_of, misc_of, group_of, misc_number, cycle_number, plane_number, NumbersPlane};
 
 #[derive(Clone, Copy, PartialEq, Eq)]
 pub enum Cycle {
@@ -162,5 +162,37 @@ pub fn cycle_number(c: Cycle) -> u64
         Cycle::G82 => 82,
         Cycle::G85 => 85,
         Cycle::G89 => 89,
+    }
+}
+
+// The number of a plane's code.
+impl From<Plane> for u8 {
+    ghost from_gives = { λ plane n. n ≡ plane_number plane };
+
+    fn from(plane: Plane) -> u8 {
+        match plane {
+            Plane::G17 => 17,
+            Plane::G18 => 18,
+            Plane::G19 => 19,
+        }
+    }
+}
+
+// A number that no plane's code has.
+#[derive(Clone, Copy, PartialEq, Eq)]
+pub struct NoPlane(pub u8);
+
+impl TryFrom<u8> for Plane {
+    type Error = NoPlane;
+
+    ghost try_from_gives = { NumbersPlane };
+
+    fn try_from(n: u8) -> Result<Plane, NoPlane> {
+        match n {
+            17 => Ok(Plane::G17),
+            18 => Ok(Plane::G18),
+            19 => Ok(Plane::G19),
+            _ => Err(NoPlane(n)),
+        }
     }
 }

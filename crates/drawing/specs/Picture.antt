@@ -1,13 +1,13 @@
 -- The whole picture of a list under a setup, as SVG text, and what the library answers.
-use Rattle.std.specs.Prelude.{◌+◌, ◌*◌, ◌/◌, ◌≤◌, ◌≡◌, ◌-ℤ◌, if◌then◌else◌}
+use Rattle.std.specs.Prelude.{◌+◌, ◌*◌, ◌/◌, ◌≤◌, ◌≡◌, ◌-ℤ◌, if◌then◌else◌, Result, Ok, Err}
 use Rattle.terms.specs.Common.{ℕ, true, false, List, ltb, pos, neg_ℤ, nat_abs, length, sets}
 use Rattle.terms.specs.Terms.{bytes}
 use Rattle.lengths.specs.{Units.len, Units.◌⊕◌, Units.◌⊖◌, declared.Point.Point, declared.Flat.Flat, Near.Near}
 use Rattle.setup.specs.{declared.Setup.Setup, Frame.point_of, Limits.valid_setup}
 use Rattle.records.specs.declared.{Record.Record, Listed.Listed, Listed.TheVariants.Next, Listed.TheVariants.End, Listed.TheVariants.Faulty as faulty}
 use Rattle.svg.specs.{declared.View.View, declared.View.TheVariants.Above, declared.View.TheVariants.Side, Text.◌⧺◌, Text.filled, Lines.seen_from}
-use Rattle.drawing.specs.{declared.Sheet.Sheet, declared.Drawn.Drawn, Shapes.path, Walks.records_from, Walks.end_from}
-use Rattle.drawing.specs.declared.Drawn.TheVariants.{Is, NoRoom, Faulty, BadSetup}
+use Rattle.drawing.specs.{declared.Sheet.Sheet, declared.Undrawn.Undrawn, Shapes.path, Walks.records_from, Walks.end_from}
+use Rattle.drawing.specs.declared.Undrawn.TheVariants.{NoRoom, Faulty, BadSetup}
 
 -- a fortieth of the travel's three sides together, at least 4 units, so that the picture looks alike whatever the machine's size
 unfoldable pub gap_of : Point → Point → ℕ
@@ -84,13 +84,13 @@ unfoldable pub picture_of : Sheet → List Record → List ℕ
 picture_of sh rs = opening sh ⧺ view_of Above sh rs ⧺ shift sh ⧺ view_of Side sh rs ⧺ bytes "</g>\n</g>\n</svg>\n"
 
 -- what is answered of a text and a room, and what becomes of the buffer: the text has to leave at least one byte
-unfoldable pub fitting : List ℕ → ℕ → Drawn
-fitting text room = if ltb (length text) room then Is (length text) else NoRoom
+unfoldable pub fitting : List ℕ → ℕ → Result ℕ Undrawn
+fitting text room = if ltb (length text) room then Ok (length text) else Err NoRoom
 
-unfoldable pub answer_for : Listed → Drawn → Drawn
+unfoldable pub answer_for : Listed → Result ℕ Undrawn → Result ℕ Undrawn
 answer_for (Next r next) drawn = drawn
 answer_for End drawn = drawn
-answer_for (faulty fault place) drawn = Faulty place
+answer_for (faulty fault place) drawn = Err (Faulty place)
 
 unfoldable pub bytes_for : Listed → List ℕ → List ℕ → List ℕ
 bytes_for (Next r next) was is = is
@@ -98,10 +98,10 @@ bytes_for End was is = is
 bytes_for (faulty fault place) was is = was
 
 -- The picture of a list under a setup, over a buffer. Where there is no room, the buffer holds the picture's first bytes.
-pub record Draws (l : List ℕ) (s : Setup) (was is : List ℕ) (r : Drawn) : Type 0 where
+pub record Draws (l : List ℕ) (s : Setup) (was is : List ℕ) (r : Result ℕ Undrawn) : Type 0 where
   pub answer :
       r
-      ≡ (if valid_setup s then answer_for (end_from l 0) (fitting (picture_of (sheet_of s) (records_from l 0)) (length was)) else BadSetup)
+      ≡ (if valid_setup s then answer_for (end_from l 0) (fitting (picture_of (sheet_of s) (records_from l 0)) (length was)) else Err BadSetup)
   pub bytes :
       is
       ≡ (if valid_setup s then bytes_for (end_from l 0) was (sets was 0 (picture_of (sheet_of s) (records_from l 0))) else was)

@@ -16,10 +16,10 @@ pub struct Sheet {
     pub gap: u64,
 }
 
-// The bytes written; no room for them and one more; the place of a record that cannot be read; a setup that breaks a limit.
-#[derive(Clone, Copy)]
-pub enum Drawn {
-    Is(usize),
+// Why a list is not drawn: no room for the picture and one byte more; the place of a record that cannot be read; a setup that
+// breaks a limit.
+#[derive(Clone, Copy, PartialEq, Eq)]
+pub enum Undrawn {
     NoRoom,
     Faulty(usize),
     BadSetup,

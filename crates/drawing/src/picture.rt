@@ -8,7 +8,7 @@ ghost use Rattle.drawing.specs.Picture.{sheet_of, gap_of, Fair, corner_of, size_
 ghost use Rattle.drawing.specs.Walks.{records_from};
 
 use crate::layers::{last_of, put_path};
-use crate::{Drawn, Sheet};
+use crate::{Sheet, Undrawn};
 use lengths::{Flat, Len, Point};
 use records::Listed;
 use setup::Setup;
@@ -150,20 +150,20 @@ fn sheet_of(s: Setup) -> Sheet
     }
 }
 
-// Draws a list under a setup into a buffer, which has to be longer than the picture.
-pub fn draw(list: &[u8], s: Setup, out: &mut [u8]) -> Drawn
+// Draws a list under a setup into a buffer, which has to be longer than the picture, and answers the bytes written.
+pub fn draw(list: &[u8], s: Setup, out: &mut [u8]) -> Result<usize, Undrawn>
     ensures { Draws list.now s out.old out.new result }
 {
     if !setup::is_valid(s) {
-        return Drawn::BadSetup;
+        return Err(Undrawn::BadSetup);
     }
-    let end = last_of(list);
-    if let Listed::Faulty(_, place) = end {
-        return Drawn::Faulty(place);
+    if let Listed::Faulty(_, place) = last_of(list) {
+        return Err(Undrawn::Faulty(place));
     }
     let n = put_picture(out, sheet_of(s), list);
     if n < out.len() {
-        return Drawn::Is(n);
+        Ok(n)
+    } else {
+        Err(Undrawn::NoRoom)
     }
-    Drawn::NoRoom
 }

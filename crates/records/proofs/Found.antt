@@ -1,14 +1,14 @@
 -- Laws of what the reader finds at a place. Assumes nothing.
-use Rattle.std.{specs.List.find, specs.Option.option_map, specs.Str.bytes_eq, proofs.Math.Bool.and-true}
-use Rattle.terms.proofs.Common.{ℕ, ◌+◌, ◌≤◌, ◌<◌, ◌≡◌, refl, ◌∙◌, Bool, Option, None, Some, List, [], ◌∷◌, arith, eq-eqb, ne_eqb, lt-ltb, le-ltb, length, get_or}
+use Rattle.std.{specs.Prelude.Result, specs.Prelude.Ok, specs.Prelude.Err, specs.Result.result_ok, specs.List.find, specs.Option.option_map, specs.Str.bytes_eq, proofs.Math.Bool.and-true}
+use Rattle.terms.proofs.Common.{ℕ, ◌+◌, ◌≤◌, ◌<◌, ◌≡◌, refl, sym, ◌∙◌, Bool, Option, None, Some, List, [], ◌∷◌, arith, eq-eqb, ne_eqb, lt-ltb, le-ltb, length, get_or}
 use Rattle.terms.specs.Terms.{first}
 use Rattle.lengths.specs.declared.{Len.Len, Point.Point}
-use Rattle.codes.specs.declared.Plane.{Plane}
+use Rattle.codes.specs.{Codes.NumbersPlane, declared.NoPlane.NoPlane, declared.Plane.Plane, declared.Plane.TheVariants.G17, declared.Plane.TheVariants.G18, declared.Plane.TheVariants.G19}
 use Rattle.records.specs.declared.{Arc.Arc, Kind.Kind, Record.TheVariants.LN as line, Fault.TheVariants.UnknownMark, Fault.TheVariants.CutShort, Fault.TheVariants.OtherPlane}
 use Rattle.records.specs.declared.Listed.TheVariants.{Next, End, Faulty}
 use Rattle.records.specs.declared.Kind.TheVariants.{RP, LN, AR, AL, DW, SP, SO, PA, EN}
 use Rattle.records.specs.Layout.{mark_of, has_plane, head_length, kind_length, numbers_in, point_of, arc_of, record_of, number_at}
-use Rattle.records.specs.Reading.{marked, kinds, kind_at, plane_for, len_at, numbers_at, plane_read, kind_read, read_at}
+use Rattle.records.specs.Reading.{marked, kinds, kind_at, plane_at, plane_for, len_at, numbers_at, plane_read, kind_read, read_at}
 
 -- ---- the first of a list that passes a test
 
@@ -50,6 +50,17 @@ module _ (l : List ℕ) (at : ℕ) where
       own : (o : Option Kind) → o ≡ option_map (λ kind. kind) o
       own None = refl
       own (Some kind) = refl
+
+-- ---- the plane by its byte
+
+pub plane_found : (l : List ℕ) (k : ℕ) (r : Result Plane NoPlane) → NumbersPlane (get_or l k 0) r → result_ok r ≡ plane_at l k
+unfolding plane_at first
+plane_found l k (Ok G17) e = rw (← e)
+plane_found l k (Ok G18) e = rw (← e)
+plane_found l k (Ok G19) e = rw (← e)
+plane_found l k (Err none) h =
+    let b : ℕ = get_or l k 0 in
+    simp (ne_eqb b 17 (λ e. h G17 (sym e)), ne_eqb b 18 (λ e. h G18 (sym e)), ne_eqb b 19 (λ e. h G19 (sym e)))
 
 -- ---- numbers, points and arcs in the list
 

@@ -5,7 +5,7 @@ use Rattle.std.specs.Prelude.{◌+◌, ◌*◌, ◌∷◌, ◌++◌, if◌then�
 use Rattle.terms.specs.Common.{ℕ, Bool, true, false, List, [], pos, get_or}
 use Rattle.terms.specs.Terms.{bytes}
 use Rattle.lengths.specs.{Units.len, Units.four_bytes, declared.Len.Len, declared.Point.Point}
-use Rattle.codes.specs.declared.Plane.{Plane, TheVariants.G17, TheVariants.G18, TheVariants.G19}
+use Rattle.codes.specs.{Codes.plane_number, declared.Plane.Plane, declared.Plane.TheVariants.G17}
 use Rattle.records.specs.declared.{Arc.Arc, Kind.Kind, Record.Record}
 use Rattle.records.specs.declared.Kind.TheVariants.{RP as rp, LN as ln, AR as ar, AL as al, DW as dw, SP as sp, SO as so, PA as pa, EN as en}
 use Rattle.records.specs.declared.Record.TheVariants.{RP, LN, AR, AL, DW, SP, SO, PA, EN}
@@ -64,10 +64,9 @@ head_length kind = if has_plane kind then 3 else 2
 abbrev pub kind_length : Kind → ℕ
 kind_length kind = head_length kind + 4 * numbers_in kind
 
+-- the number of the plane's code
 abbrev pub plane_byte : Plane → ℕ
-plane_byte G17 = 17
-plane_byte G18 = 18
-plane_byte G19 = 19
+plane_byte = plane_number
 
 -- the plane of a record; G17 stands for the plane of one that has none, and is not written
 unfoldable pub plane_of : Record → Plane

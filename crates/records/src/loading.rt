@@ -2,7 +2,7 @@
 ghost use Rattle.std.specs.Prelude.{◌+◌, ◌*◌, ◌≤◌, ◌<◌, ◌≡◌};
 ghost use Rattle.terms.specs.Common.{length};
 ghost use Rattle.records.specs.Layout.{point_of, arc_of, record_of, numbers_in, has_plane, head_length};
-ghost use Rattle.records.specs.Reading.{kind_at, plane_at, plane_for, len_at, numbers_at, read_at};
+ghost use Rattle.records.specs.Reading.{kind_at, plane_for, len_at, numbers_at, read_at};
 
 use crate::{Arc, Fault, Kind, Listed, Record};
 use codes::Plane;
@@ -83,26 +83,13 @@ fn kind_at(list: &[u8], at: usize) -> Option<Kind>
         .find(|kind| mark == crate::mark_of(*kind))
 }
 
-fn plane_at(list: &[u8], at: usize) -> Option<Plane>
-    requires { at + 1 ≤ length list.now }
-    ensures { result ≡ plane_at list.now at }
-{
-    let byte = list[at];
-    match byte {
-        17 => Some(Plane::G17),
-        18 => Some(Plane::G18),
-        19 => Some(Plane::G19),
-        _ => None,
-    }
-}
-
 // The plane of the record whose mark stands at a place. One without a plane byte has none that could be wrong.
 fn plane_for(list: &[u8], at: usize, kind: Kind) -> Option<Plane>
     requires { at + head_length kind ≤ length list.now }
     ensures { result ≡ plane_for (has_plane kind) list.now (at + 2) }
 {
     if crate::has_plane(kind) {
-        plane_at(list, at + 2)
+        Plane::try_from(list[at + 2]).ok()
     } else {
         Some(Plane::G17)
     }

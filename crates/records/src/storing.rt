@@ -6,7 +6,6 @@ ghost use Rattle.records.specs.{declared.Record.TheVariants.RP, declared.Record.
 ghost use Rattle.records.specs.Layout.{mark_of, plane_byte, point_numbers, arc_numbers, number_bytes};
 
 use crate::{Arc, Kind, Record};
-use codes::Plane;
 use lengths::{Len, Point};
 
 pub fn put_number(list: &mut [u8], at: usize, n: Len) -> usize
@@ -32,23 +31,12 @@ fn put_point(list: &mut [u8], at: usize, p: Point) -> usize
     put_number(list, y, p.z)
 }
 
-fn plane_byte(plane: Plane) -> u8
-    ensures { result ≡ plane_byte plane }
-{
-    match plane {
-        Plane::G17 => 17,
-        Plane::G18 => 18,
-        Plane::G19 => 19,
-    }
-}
-
 fn put_arc(list: &mut [u8], at: usize, a: Arc) -> usize
     requires at_in_bounds { at + 25 ≤ length list.old }
     requires all_short { AllShort (arc_numbers a) }
     ensures { Wrote list.old at (plane_byte a.plane ∷ number_bytes (arc_numbers a)) list.new result }
 {
-    let plane = a.plane;
-    list[at] = plane_byte(plane);
+    list[at] = u8::from(a.plane);
     let first = put_point(list, at + 1, a.end);
     let second = put_number(list, first, a.first);
     let feed = put_number(list, second, a.second);

@@ -1,7 +1,7 @@
 // A list drawn as a picture, from files to a file.
 use crate::setup_files::setup_in;
 use commands::word;
-use drawing::Drawn;
+use drawing::Undrawn;
 use files::{Spot, complain, complain_record, list_room, picture_room, spot_for};
 use setup::Setup;
 use std::rt::Files;
@@ -33,18 +33,17 @@ fn plot_file(rt: &impl Files, setup: Setup, line: &[u8], spot: Spot, err: i32) {
 
 fn plot_list(rt: &impl Files, setup: Setup, list: &[u8], line: &[u8], spot: Spot, err: i32) {
     let mut picture = picture_room();
-    let drawn = drawing::draw(list, setup, &mut picture);
-    match drawn {
-        Drawn::Is(n) => {
+    match drawing::draw(list, setup, &mut picture) {
+        Ok(n) => {
             files::write_whole(rt, word(line, 3), &picture[..n], spot, err);
         }
-        Drawn::NoRoom => complain(
+        Err(Undrawn::NoRoom) => complain(
             err,
             word(line, 1),
             b"is too long to draw: the picture would take more than 4194303 bytes",
         ),
-        Drawn::Faulty(place) => complain_record(err, word(line, 1), place),
-        Drawn::BadSetup => complain(
+        Err(Undrawn::Faulty(place)) => complain_record(err, word(line, 1), place),
+        Err(Undrawn::BadSetup) => complain(
             err,
             word(line, 2),
             b"breaks a limit; iswenaid check tells which",

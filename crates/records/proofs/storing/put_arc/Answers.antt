@@ -12,27 +12,27 @@ put_point-first-requires c =
 pub put_number-second-requires : goal.put_number-second-requires
 unfolding number_bytes
 put_number-second-requires c =
-    let h = length-set c.args.list.now c.args.at c.plane_byte.result in
+    let h = length-set c.args.list.now c.args.at c.from.result in
     record { at_in_bounds = omega arith; short = c.requires.all_short.1.1.1.0 }
 
 pub put_number-feed-requires : goal.put_number-feed-requires
 unfolding number_bytes
 put_number-feed-requires c =
-    let h = length-set c.args.list.now c.args.at c.plane_byte.result in
+    let h = length-set c.args.list.now c.args.at c.from.result in
     record { at_in_bounds = omega arith; short = c.requires.all_short.1.1.1.1.0 }
 
 pub put_number-requires : goal.put_number-requires
 unfolding number_bytes
 put_number-requires c =
-    let h = length-set c.args.list.now c.args.at c.plane_byte.result in
+    let h = length-set c.args.list.now c.args.at c.from.result in
     record { at_in_bounds = omega arith; short = c.requires.all_short.1.1.1.1.1.0 }
 
 pub returns : goal.returns
 unfolding number_bytes
 returns c =
-    rw (← c.plane_byte.ensures)
+    rw (← c.from.ensures)
     (wrote_cons
-    c.plane_byte.result
+    c.from.result
     (wrote_then
     (wrote_then (wrote_then c.put_point-first.ensures c.put_number-second.ensures) c.put_number-feed.ensures)
     c.put_number.ensures))

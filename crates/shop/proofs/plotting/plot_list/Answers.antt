@@ -5,8 +5,8 @@ use Rattle.shop.proofs.plotting.plot_list.Goals as goal
 
 pub slice_bounds-picture-end : goal.slice_bounds-picture-end
 slice_bounds-picture-end g c =
-    omega (arith, draws_inside c.draw-drawn.ensures c.in-Is.is)
+    omega (arith, draws_inside c.draw.ensures c.in-Ok.is)
 
 pub slice_bounds-write_whole-end : goal.slice_bounds-write_whole-end
 slice_bounds-write_whole-end g c =
-    sym (length-take-le c.in-Is.n c.draw-drawn.new.out (omega (arith, c.draw-drawn.auto.out, draws_inside c.draw-drawn.ensures c.in-Is.is)))
+    sym (length-take-le c.in-Ok.n c.draw.new.out (omega (arith, c.draw.auto.out, draws_inside c.draw.ensures c.in-Ok.is)))
