@@ -1,10 +1,10 @@
 -- What is kept where no cycle is on, and how large what a cycle keeps is. Assumes nothing.
 use Rattle.std.specs.Prelude.{if◌then◌else◌}
-use Rattle.terms.proofs.Common.{◌≡◌, refl, true, false, [], ◌∷◌, arith}
-use denote.Enum.Declared.{tag_of}
+use Rattle.terms.proofs.Common.{◌≡◌, refl, true, false, [], ◌∷◌, arith, rules}
+use denote.Enum.{Bare.sameb, Declared.tag_of}
 use types.Run.{OneOf, miss}
 use Rattle.lengths.specs.{declared.Len.Len, View.Within}
-use Rattle.codes.{specs.declared.Cycle.Cycle, specs.declared.Motion.Motion, specs.declared.Distance.Distance, specs.contracts.Motion.the_type as motion-type}
+use Rattle.codes.{specs.declared.Cycle.Cycle, specs.Codes.cycle_number, specs.contracts.Cycle.the_type as cycle-type, specs.declared.Motion.Motion, specs.declared.Distance.Distance, specs.contracts.Motion.the_type as motion-type}
 use Rattle.codes.specs.declared.Motion.TheVariants.{Off, G00, G01, G02, G03, Drilling}
 use Rattle.words.specs.declared.Values.{Values}
 use Rattle.settings.specs.{declared.Kept.Kept, declared.State.State, Settings.none_kept, Bounds.KeptNear}
@@ -36,6 +36,11 @@ none_under G03 s d v h = refl
 none_under (Drilling cycle) s d v h = absurd (miss (0 ∷ 1 ∷ 2 ∷ 3 ∷ 4 ∷ []) 5 tt h)
 
 -- ---- a cycle after a cycle
+
+-- the code's own comparison is the rule's
+pub told_same : (a b : Cycle) → sameb cycle-type a b ≡ same_cycle a b
+unfolding same_cycle cycle_number
+told_same a b = search rules
 
 module _ (cycle : Cycle) {m : Motion} {other : Cycle} (z : Len) (kept : Kept) (on : m ≡ Drilling other) where
   pub kept_again : same_cycle cycle other ≡ true → kept ≡ kept_before cycle m z kept

@@ -1,6 +1,6 @@
 // What a cycle keeps for the blocks after it: the words of Z, R and P, and the initial level.
 ghost use Rattle.std.specs.Prelude.{◌≡◌};
-ghost use Rattle.settings.specs.{Settings.none_kept, CycleWords.same_cycle, CycleWords.kept_before, CycleWords.under_by, CycleWords.stands_with, CycleWords.under_with, CycleWords.kept_with, CycleWords.kept_under};
+ghost use Rattle.settings.specs.{Settings.none_kept, CycleWords.kept_before, CycleWords.under_by, CycleWords.stands_with, CycleWords.under_with, CycleWords.kept_with, CycleWords.kept_under};
 
 use crate::{Kept, Stands, State, Under};
 use codes::{Cycle, Distance, Motion};
@@ -28,12 +28,6 @@ pub fn none_kept(initial: Len) -> Kept
     }
 }
 
-fn same_cycle(a: Cycle, b: Cycle) -> bool
-    ensures { result ≡ same_cycle a b }
-{
-    codes::cycle_number(a) == codes::cycle_number(b)
-}
-
 // What a cycle finds: all that is kept where it was on before, the initial level alone where another cycle was, and else the height
 // where the tool is.
 fn kept_before(cycle: Cycle, motion: Motion, z: Len, kept: Kept) -> Kept
@@ -42,7 +36,7 @@ fn kept_before(cycle: Cycle, motion: Motion, z: Len, kept: Kept) -> Kept
     let Motion::Drilling(other) = motion else {
         return none_kept(z);
     };
-    if same_cycle(cycle, other) {
+    if cycle == other {
         return kept;
     }
     none_kept(kept.initial)
@@ -70,11 +64,9 @@ fn stands_with(v: Values, kept: Stands) -> Stands
 fn under_with(d: Distance, v: Values, kept: Under) -> Under
     ensures { result ≡ under_with d v kept }
 {
-    let z = kept.z;
-    let r = kept.r;
     Under {
-        z: under_by(d, v.z, z),
-        r: under_by(d, v.r, r),
+        z: under_by(d, v.z, kept.z),
+        r: under_by(d, v.r, kept.r),
     }
 }
 
@@ -82,9 +74,8 @@ fn under_with(d: Distance, v: Values, kept: Under) -> Under
 fn kept_with(d: Distance, v: Values, kept: Kept) -> Kept
     ensures { result ≡ kept_with d v kept }
 {
-    let initial = kept.initial;
     Kept {
-        initial,
+        initial: kept.initial,
         z: crate::or_else(v.z, kept.z),
         r: crate::or_else(v.r, kept.r),
         dwell: crate::or_else(v.p, kept.dwell),
@@ -100,7 +91,5 @@ pub fn kept_under(motion: Motion, s: State, d: Distance, v: Values) -> Kept
     let Motion::Drilling(cycle) = motion else {
         return none_kept(s.at.z);
     };
-    let modes = s.modes;
-    let before = modes.motion;
-    kept_with(d, v, kept_before(cycle, before, s.at.z, s.kept))
+    kept_with(d, v, kept_before(cycle, s.modes.motion, s.at.z, s.kept))
 }

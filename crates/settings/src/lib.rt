@@ -5,7 +5,6 @@ mod cycle_words;
 
 ghost use Rattle.std.specs.Prelude.{◌≡◌, ◌^◌};
 ghost use Rattle.lengths.specs.{View.Within, Near.Near};
-ghost use Rattle.codes.specs.declared.Code.TheVariants.{GroupA, GroupB, GroupC, GroupD, GroupE, GroupF};
 ghost use Rattle.settings.specs.{Settings.first_modes, Settings.first_state, Settings.kept_moved, Settings.state_moved, Settings.switched, Settings.or_else, Target.base, Target.aimed};
 ghost use Rattle.settings.specs.Bounds.{Sized, Aims, Aimed};
 
@@ -81,108 +80,13 @@ fn first_modes() -> Modes
 pub fn first_state(start: Point, feed: Len, speed: Len) -> State
     ensures { result ≡ first_state start feed speed }
 {
-    let modes = first_modes();
-    let kept = cycle_words::none_kept(start.z);
     State {
         at: start,
-        modes,
+        modes: first_modes(),
         feed,
         speed,
         turning: false,
-        kept,
-    }
-}
-
-fn with_motion(m: Modes, motion: Motion) -> Modes
-    ensures { result ≡ switched m (GroupA motion) }
-{
-    let plane = m.plane;
-    let unit = m.unit;
-    let distance = m.distance;
-    let back = m.back;
-    Modes {
-        motion,
-        plane,
-        unit,
-        distance,
-        origin: m.origin,
-        back,
-    }
-}
-
-fn with_plane(m: Modes, plane: Plane) -> Modes
-    ensures { result ≡ switched m (GroupB plane) }
-{
-    let motion = m.motion;
-    let unit = m.unit;
-    let distance = m.distance;
-    let back = m.back;
-    Modes {
-        motion,
-        plane,
-        unit,
-        distance,
-        origin: m.origin,
-        back,
-    }
-}
-
-fn with_unit(m: Modes, unit: Unit) -> Modes
-    ensures { result ≡ switched m (GroupC unit) }
-{
-    let motion = m.motion;
-    let plane = m.plane;
-    let distance = m.distance;
-    let back = m.back;
-    Modes {
-        motion,
-        plane,
-        unit,
-        distance,
-        origin: m.origin,
-        back,
-    }
-}
-
-fn with_distance(m: Modes, distance: Distance) -> Modes
-    ensures { result ≡ switched m (GroupD distance) }
-{
-    let motion = m.motion;
-    let plane = m.plane;
-    let unit = m.unit;
-    let back = m.back;
-    Modes {
-        motion,
-        plane,
-        unit,
-        distance,
-        origin: m.origin,
-        back,
-    }
-}
-
-fn with_origin(m: Modes, origin: usize) -> Modes
-    ensures { result ≡ switched m (GroupE origin) }
-{
-    let mut n = m;
-    n.origin = origin;
-    n
-}
-
-fn with_back(m: Modes, back: Return) -> Modes
-    ensures { result ≡ switched m (GroupF back) }
-{
-    let motion = m.motion;
-    let plane = m.plane;
-    let unit = m.unit;
-    let distance = m.distance;
-    Modes {
-        motion,
-        plane,
-        unit,
-        distance,
-        origin: m.origin,
-        back,
+        kept: cycle_words::none_kept(start.z),
     }
 }
 
@@ -191,14 +95,13 @@ pub fn switched(m: Modes, c: Code) -> Modes
     ensures { result ≡ switched m c }
 {
     match c {
-        Code::GroupA(motion) => with_motion(m, motion),
-        Code::GroupB(plane) => with_plane(m, plane),
-        Code::GroupC(unit) => with_unit(m, unit),
-        Code::GroupD(distance) => with_distance(m, distance),
-        Code::GroupE(origin) => with_origin(m, origin),
-        Code::GroupF(back) => with_back(m, back),
-        Code::G04 => m,
-        Code::Unknown => m,
+        Code::GroupA(motion) => Modes { motion, ..m },
+        Code::GroupB(plane) => Modes { plane, ..m },
+        Code::GroupC(unit) => Modes { unit, ..m },
+        Code::GroupD(distance) => Modes { distance, ..m },
+        Code::GroupE(origin) => Modes { origin, ..m },
+        Code::GroupF(back) => Modes { back, ..m },
+        Code::G04 | Code::Unknown => m,
     }
 }
 
@@ -247,18 +150,9 @@ fn kept_moved(by: Len, k: Kept) -> Kept
     requires { (Within (2 ^ 61) by.v) × (Within (2 ^ 61) k.initial.v) }
     ensures { result ≡ kept_moved by k }
 {
-    let z = k.z;
-    let r = k.r;
-    let dwell = k.dwell;
-    let stands = k.stands;
-    let under = k.under;
     Kept {
         initial: k.initial.plus(by),
-        z,
-        r,
-        dwell,
-        stands,
-        under,
+        ..k
     }
 }
 
@@ -267,17 +161,9 @@ pub fn state_moved(by: Point, s: State) -> State
     requires { (Near (2 ^ 61) by) × (Near (2 ^ 61) s.at) × (Within (2 ^ 61) s.kept.initial.v) }
     ensures { result ≡ state_moved by s }
 {
-    let at = lengths::moved(by, s.at);
-    let kept = kept_moved(by.z, s.kept);
-    let modes = s.modes;
-    let feed = s.feed;
-    let speed = s.speed;
     State {
-        at,
-        modes,
-        feed,
-        speed,
-        turning: s.turning,
-        kept,
+        at: lengths::moved(by, s.at),
+        kept: kept_moved(by.z, s.kept),
+        ..s
     }
 }

@@ -1,10 +1,10 @@
 -- Laws of what a written number is worth: the value that the code computes is the rule's. Assumes nothing.
 use Rattle.std.specs.Prelude.{if◌then◌else◌}
-use Rattle.terms.proofs.Common.{ℕ, zero, suc, ◌-◌, ◌*◌, ◌^◌, ◌≤◌, ◌<◌, min, ◌≡◌, refl, sym, ◌∙◌, Bool, true, false, ◌&&◌, mul-le-mul, pow-le-pow_right, arith, leb, ℤ, pos, nat_abs, le_z, lt_z, le-leb, lt-leb}
+use Rattle.terms.proofs.Common.{ℕ, zero, suc, ◌-◌, ◌*◌, ◌^◌, ◌≤◌, ◌<◌, min, ◌≡◌, refl, sym, ◌∙◌, Bool, true, false, ◌&&◌, Option, None, Some, mul-le-mul, pow-le-pow_right, arith, leb, ℤ, pos, nat_abs, le_z, lt_z, le-leb, lt-leb}
 use Rattle.lengths.specs.{Units.len, declared.Len.Len}
 use Rattle.codes.specs.declared.Unit.{Unit, TheVariants.Inch, TheVariants.Millimetre}
 use Rattle.words.specs.Serving.{Written, Steps}
-use Rattle.words.specs.declared.{Sign.Sign, Sign.TheVariants.Plain, Sign.TheVariants.Plus, Sign.TheVariants.Minus, Number.Number, Value.Value, Value.TheVariants.Fit, Value.TheVariants.Bad}
+use Rattle.words.specs.declared.{Sign.Sign, Sign.TheVariants.Plain, Sign.TheVariants.Plus, Sign.TheVariants.Minus, Number.Number}
 use Rattle.words.specs.Values.{signed, decimals_fit, steps_of, places_of, units_of, length_of, is_length, dwell_of, is_dwell, count_of, checked}
 use Rattle.words.proofs.Bounds.{tested}
 
@@ -52,7 +52,7 @@ abs_signed Minus zero = refl
 abs_signed Minus (suc m) = refl
 
 module _ (u : Unit) (n : Number) where
-  pub length_fine : places_of u < n.decimals → Bad ≡ checked (is_length u n) (length_of u n)
+  pub length_fine : places_of u < n.decimals → None ≡ checked (is_length u n) (length_of u n)
   unfolding is_length decimals_fit checked
   length_fine h = rw (lt-leb n.decimals (places_of u) h)
 
@@ -67,20 +67,20 @@ module _ (u : Unit) (n : Number) where
 
 -- ---- a value with a further test
 
-pub further_bad : (t more : Bool) (z : ℤ) (v : Value) → v ≡ checked t z → v ≡ Bad → v ≡ checked (t && more) z
+pub further_bad : (t more : Bool) (z : ℤ) (v : Option Len) → v ≡ checked t z → v ≡ None → v ≡ checked (t && more) z
 unfolding checked
 further_bad true more z v e f = let never : ◌≡◌ {A = ℕ} 0 1 = cc in absurd (omega arith)
 further_bad false more z v e f = e
 
 pub further :
-    (more : ℤ → Bool) (t : Bool) (z : ℤ) (v : Value) (y : Len) → v ≡ checked t z → v ≡ Fit y
+    (more : ℤ → Bool) (t : Bool) (z : ℤ) (v : Option Len) (y : Len) → v ≡ checked t z → v ≡ Some y
     → checked (more y.v) y.v ≡ checked (t && more z) z
 further more t z v y e f = let k = tested t z y (sym e ∙ f) in rw (k.passed, k.is)
 
 -- ---- dwells, counts and speeds
 
 module _ (n : Number) where
-  pub dwell_fine : 3 < n.decimals → Bad ≡ checked (is_dwell n) (dwell_of n)
+  pub dwell_fine : 3 < n.decimals → None ≡ checked (is_dwell n) (dwell_of n)
   unfolding is_dwell decimals_fit checked
   dwell_fine h = rw (lt-leb n.decimals 3 h)
 

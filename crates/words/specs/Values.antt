@@ -1,11 +1,10 @@
 -- Document 01: what a written number is worth, by what its letter means in the block.
 use Rattle.std.specs.Prelude.{◌-◌, ◌*◌, ◌^◌, ◌&&◌, if◌then◌else◌}
-use Rattle.terms.specs.Common.{ℕ, min, Bool, true, false, not, leb, ℤ, pos, neg_ℤ, lt_z}
+use Rattle.terms.specs.Common.{ℕ, min, Bool, true, false, not, Option, None, Some, leb, ℤ, pos, neg_ℤ, lt_z}
 use Rattle.terms.specs.Terms.{between, within}
-use Rattle.lengths.specs.Units.{len}
+use Rattle.lengths.specs.{declared.Len.Len, Units.len}
 use Rattle.codes.specs.declared.Unit.{Unit, TheVariants.Inch, TheVariants.Millimetre}
-use Rattle.words.specs.declared.{Sign.Sign, Sign.TheVariants.Plain, Sign.TheVariants.Plus, Sign.TheVariants.Minus, Number.Number, Use.Use, Given.Given, Values.Values, Value.Value}
-use Rattle.words.specs.declared.Value.TheVariants.{Fit, Bad}
+use Rattle.words.specs.declared.{Sign.Sign, Sign.TheVariants.Plain, Sign.TheVariants.Plus, Sign.TheVariants.Minus, Number.Number, Use.Use, Given.Given, Values.Values}
 use Rattle.words.specs.declared.Use.TheVariants.{Nothing, Codes, Label, Program, Length, Feed, Speed, Dwell, Count}
 
 unfoldable pub unsigned : Sign → Bool
@@ -60,15 +59,16 @@ is_dwell n = decimals_fit 3 n && between (pos 0) (pos 3_600_000) (dwell_of n)
 unfoldable pub count_of : Number → ℕ
 count_of n = if lt_z (signed n.sign n.digits) (pos 0) then 0 else min n.digits 9_999
 
-unfoldable pub checked : Bool → ℤ → Value
-checked true z = Fit (len z)
-checked false z = Bad
+-- a value that is refused where its test fails
+unfoldable pub checked : Bool → ℤ → Option Len
+checked true z = Some (len z)
+checked false z = None
 
 -- The value of a number, with the unit of its block and the setup's lowest and highest spindle speed.
-unfoldable pub value_of : Unit → ℤ → ℤ → Use → Number → Value
+unfoldable pub value_of : Unit → ℤ → ℤ → Use → Number → Option Len
 -- a G or an M is tested as a code, and a word without a use is refused as such
-value_of u lowest highest Nothing n = Fit (len (pos 0))
-value_of u lowest highest Codes n = Fit (len (pos 0))
+value_of u lowest highest Nothing n = Some (len (pos 0))
+value_of u lowest highest Codes n = Some (len (pos 0))
 -- "G, M, N, O, P of M98 and S take neither sign nor point"
 value_of u lowest highest Label n = checked (is_plain n) (pos n.digits)
 value_of u lowest highest Program n = checked (is_plain n) (pos n.digits)

@@ -48,7 +48,7 @@ pub struct Word {
 }
 
 // What a letter means in a block, which decides the form and the limits of its number.
-#[derive(Clone, Copy)]
+#[derive(Clone, Copy, PartialEq, Eq)]
 pub enum Use {
     Nothing,
     Codes,
@@ -66,13 +66,6 @@ pub enum Use {
 pub struct Given {
     pub stands: bool,
     pub v: Len,
-}
-
-// The value that a number has for a use, or none.
-#[derive(Clone, Copy)]
-pub enum Value {
-    Fit(Len),
-    Bad,
 }
 
 // The values of a block's words, by their letters.
@@ -117,9 +110,8 @@ pub fn pack(w: Word) -> u64
     ensures { result ≡ packed w }
 {
     let n = w.number;
-    let sign = n.sign;
     let point = n.point as u64;
-    n.digits * 32768 + n.decimals * 2048 + sign_number(sign) * 512 + point * 256 + w.letter as u64
+    n.digits * 32768 + n.decimals * 2048 + sign_number(n.sign) * 512 + point * 256 + w.letter as u64
 }
 
 // The word again.
@@ -192,65 +184,54 @@ fn signed(sign: Sign, n: u64) -> Len
 {
     let z = Len::of_count(n);
     match sign {
-        Sign::Plain => z,
-        Sign::Plus => z,
+        Sign::Plain | Sign::Plus => z,
         Sign::Minus => z.negated(),
     }
 }
 
 // A value that is refused where its test failed.
-fn checked(ok: bool, z: Len) -> Value
+fn checked(ok: bool, z: Len) -> Option<Len>
     ensures { result ≡ checked ok z.v }
 {
-    if ok { Value::Fit(z) } else { Value::Bad }
+    ok.then_some(z)
 }
 
 // Neither sign nor point.
 pub fn is_plain(n: Number) -> bool
     ensures { result ≡ is_plain n }
 {
-    let sign = n.sign;
-    match sign {
-        Sign::Plain => !n.point,
-        Sign::Plus => false,
-        Sign::Minus => false,
-    }
+    matches!(n.sign, Sign::Plain) && !n.point
 }
 
 // The size is tested without its sign. It fits: nine digits and four more are below 2 ^ 63 units, in inch too.
-fn length_value(unit: Unit, n: Number) -> Value
+fn length_value(unit: Unit, n: Number) -> Option<Len>
     requires { Written n }
     ensures { result ≡ checked (is_length unit n) (length_of unit n) }
 {
     let places = places_of(unit);
     if places < n.decimals {
-        return Value::Bad;
+        return None;
     }
     let size = steps(places, n) * units_of(unit);
-    let sign = n.sign;
-    checked(size <= 1000000000, signed(sign, size))
+    checked(size <= 1000000000, signed(n.sign, size))
 }
 
-fn feed_value(unit: Unit, n: Number) -> Value
+fn feed_value(unit: Unit, n: Number) -> Option<Len>
     requires { Written n }
     ensures { result ≡ checked (is_length unit n && lt_z (pos 0) (length_of unit n)) (length_of unit n) }
 {
-    let v = length_value(unit, n);
-    let Value::Fit(z) = v else {
-        return v;
-    };
+    let z = length_value(unit, n)?;
     checked(Len::zero().below(z), z)
 }
 
-fn dwell_value(n: Number) -> Value
+fn dwell_value(n: Number) -> Option<Len>
     requires { Written n }
     ensures { result ≡ checked (is_dwell n) (dwell_of n) }
 {
     if 3 < n.decimals {
-        return Value::Bad;
+        return None;
     }
-    let sign = n.sign;
-    let z = signed(sign, steps(3, n));
+    let z = signed(n.sign, steps(3, n));
     checked(
         Len::zero().at_most(z) & z.at_most(Len::of_count(3600000)),
         z,
@@ -262,28 +243,27 @@ fn count_of(n: Number) -> u64
     requires { Written n }
     ensures { result ≡ count_of n }
 {
-    let sign = n.sign;
-    if signed(sign, n.digits).below(Len::zero()) {
+    if signed(n.sign, n.digits).below(Len::zero()) {
         return 0;
     }
     if n.digits <= 9999 { n.digits } else { 9999 }
 }
 
-fn count_value(n: Number) -> Value
+fn count_value(n: Number) -> Option<Len>
     requires { Written n }
     ensures { result ≡ checked (not n.point) (pos (count_of n)) }
 {
     checked(!n.point, Len::of_count(count_of(n)))
 }
 
-fn label_value(n: Number) -> Value
+fn label_value(n: Number) -> Option<Len>
     requires { Written n }
     ensures { result ≡ checked (is_plain n) (pos n.digits) }
 {
     checked(is_plain(n), Len::of_count(n.digits))
 }
 
-fn speed_value(lowest: Len, highest: Len, n: Number) -> Value
+fn speed_value(lowest: Len, highest: Len, n: Number) -> Option<Len>
     requires { Written n }
     ensures { result ≡ checked (is_plain n && between lowest.v highest.v (pos n.digits)) (pos n.digits) }
 {
@@ -291,16 +271,14 @@ fn speed_value(lowest: Len, highest: Len, n: Number) -> Value
     checked(is_plain(n) & (lowest.at_most(z) & z.at_most(highest)), z)
 }
 
-// The value of a number for its use, by the unit of its block and the lowest and the highest spindle speed.
-pub fn value_of(unit: Unit, lowest: Len, highest: Len, use_of: Use, n: Number) -> Value
+// The value of a number for its use, or none where it is refused, by the unit of its block and the lowest and the highest spindle speed.
+pub fn value_of(unit: Unit, lowest: Len, highest: Len, use_of: Use, n: Number) -> Option<Len>
     requires { Written n }
     ensures { result ≡ value_of unit lowest.v highest.v use_of n }
 {
     match use_of {
-        Use::Nothing => Value::Fit(Len::zero()),
-        Use::Codes => Value::Fit(Len::zero()),
-        Use::Label => label_value(n),
-        Use::Program => label_value(n),
+        Use::Nothing | Use::Codes => Some(Len::zero()),
+        Use::Label | Use::Program => label_value(n),
         Use::Speed => speed_value(lowest, highest, n),
         Use::Count => count_value(n),
         Use::Dwell => dwell_value(n),

@@ -4,4 +4,4 @@ use Rattle.settings.proofs.state_moved.Goals as goal
 
 pub returns : goal.returns
 unfolding state_moved
-returns c = rw (c.moved-at.ensures.is, c.kept_moved-kept.ensures)
+returns c = rw (c.moved.ensures.is, c.kept_moved.ensures)

@@ -1,11 +1,14 @@
 -- `words::checked` meets its contract, by the test.
+use Rattle.terms.proofs.Common.{◌≡◌, refl, ◌∙◌, Bool, true, false}
+use Rattle.std.specs.Bool.{then_some}
+use Rattle.lengths.specs.declared.Len.{Len}
 use Rattle.words.specs.Values.{checked}
 use Rattle.words.proofs.checked.Goals as goal
 
-pub returns-then-ok : goal.returns-then-ok
+told : (ok : Bool) (z : Len) → then_some ok z ≡ checked ok z.v
 unfolding checked
-returns-then-ok c = rw c.if-ok.true
+told true z = refl
+told false z = refl
 
-pub returns-else-ok : goal.returns-else-ok
-unfolding checked
-returns-else-ok c = rw c.if-ok.false
+pub returns : goal.returns
+returns c = c.then_some.ensures ∙ told c.args.ok c.args.z

@@ -5,6 +5,3 @@ use Rattle.words.proofs.count_value.Goals as goal
 
 pub of_count-requires : goal.of_count-requires
 of_count-requires c = omega (arith, c.count_of.ensures, count_most c.args.n)
-
-pub returns : goal.returns
-returns c = rw (c.checked.ensures, c.of_count.ensures.is, c.count_of.ensures)

@@ -1,29 +1,9 @@
 -- `words::pack` meets its contract.
-use Rattle.terms.proofs.Common.{rules, ◌<◌, arith}
+use Rattle.terms.proofs.Common.{◌<◌, arith}
 use mir.Val.{bool_byte}
 use Rattle.words.specs.Packed.{packed}
 use Rattle.words.proofs.{Packed.sign_small, Packed.point_small}
 use Rattle.words.proofs.pack.Goals as goal
-
-pub overflow_cast-point : goal.overflow_cast-point
-unfolding packed
-overflow_cast-point c = search rules
-
-pub overflow_mul-result : goal.overflow_mul-result
-unfolding packed
-overflow_mul-result c = search rules
-
-pub overflow_mul-result-2 : goal.overflow_mul-result-2
-unfolding packed
-overflow_mul-result-2 c = search rules
-
-pub overflow_add-result : goal.overflow_add-result
-unfolding packed
-overflow_add-result c = search rules
-
-pub sign_number-requires : goal.sign_number-requires
-unfolding packed
-sign_number-requires c = search rules
 
 pub overflow_mul-result-3 : goal.overflow_mul-result-3
 unfolding packed
@@ -37,21 +17,11 @@ overflow_add-result-2 c =
     let small : (c.sign_number.result < 4) × (bool_byte c.args.w.number.point < 2) = (rw c.sign_number.ensures (sign_small _), point_small c.args.w.number.point) in
     omega (arith, small.0)
 
-pub overflow_mul-result-4 : goal.overflow_mul-result-4
-unfolding packed
-overflow_mul-result-4 c =
-    let small : (c.sign_number.result < 4) × (bool_byte c.args.w.number.point < 2) = (rw c.sign_number.ensures (sign_small _), point_small c.args.w.number.point) in
-    omega (arith, small.1)
-
 pub overflow_add-result-3 : goal.overflow_add-result-3
 unfolding packed
 overflow_add-result-3 c =
     let small : (c.sign_number.result < 4) × (bool_byte c.args.w.number.point < 2) = (rw c.sign_number.ensures (sign_small _), point_small c.args.w.number.point) in
     omega (arith, small.0, small.1)
-
-pub overflow_cast-result : goal.overflow_cast-result
-unfolding packed
-overflow_cast-result c = search rules
 
 pub overflow_add-result-4 : goal.overflow_add-result-4
 unfolding packed

@@ -1,19 +1,6 @@
 -- `words::sign_number` meets its contract, sign by sign.
-use Rattle.terms.proofs.Common.{rules}
 use Rattle.words.specs.Packed.{sign_number}
 use Rattle.words.proofs.sign_number.Goals as goal
-
-pub enum_told-1 : goal.enum_told-1
-unfolding sign_number
-enum_told-1 c = search rules
-
-pub enum_told-in-Plus : goal.enum_told-in-Plus
-unfolding sign_number
-enum_told-in-Plus c = search rules
-
-pub enum_told-in-Minus : goal.enum_told-in-Minus
-unfolding sign_number
-enum_told-in-Minus c = search rules
 
 pub returns-in-Plain : goal.returns-in-Plain
 unfolding sign_number

@@ -1,10 +1,6 @@
 -- `words::steps` meets its contract.
-use Rattle.terms.proofs.Common.{arith}
 use Rattle.words.proofs.{Worth.steps_pointed, Worth.steps_whole}
 use Rattle.words.proofs.steps.Goals as goal
-
-pub overflow_mul-result : goal.overflow_mul-result
-overflow_mul-result c = omega (arith, (steps_pointed _ _ c.requires.written _ c.requires.decimals_le_places.1 c.if-n.true c.power_of_ten.ensures).most)
 
 pub returns-then-n : goal.returns-then-n
 returns-then-n c = steps_pointed _ _ c.requires.written _ c.requires.decimals_le_places.1 c.if-n.true c.power_of_ten.ensures

@@ -1,15 +1,6 @@
 -- `words::units_of` meets its contract, unit by unit.
-use Rattle.terms.proofs.Common.{rules}
 use Rattle.words.specs.Values.{units_of}
 use Rattle.words.proofs.units_of.Goals as goal
-
-pub enum_told-1 : goal.enum_told-1
-unfolding units_of
-enum_told-1 c = search rules
-
-pub enum_told-in-Inch : goal.enum_told-in-Inch
-unfolding units_of
-enum_told-in-Inch c = search rules
 
 pub returns-in-Millimetre : goal.returns-in-Millimetre
 unfolding units_of
