@@ -2,8 +2,7 @@
 use Rattle.std.specs.Prelude.{if◌then◌else◌}
 use Rattle.terms.proofs.Common.{ℕ, zero, suc, ◌+◌, ◌-◌, ◌≡◌, refl, sym, ◌∙◌, ap, Bool, true, false, false≢true, not, ◌&&◌, ◌||◌, and-false, Option, None, Some, List, [], ◌∷◌, arith, ℕ_discrete, eqb-true, eqb-false, not-true, ne_eqb, eqb, length, drop, set, drop-drop}
 use Rattle.terms.{specs.Terms.byte, proofs.Laws.either_left, proofs.Laws.either_right}
-use Rattle.words.specs.declared.{Sign.Sign, Sign.TheVariants.Plain, Sign.TheVariants.Plus, Sign.TheVariants.Minus, Number.Number, Numbered.Numbered}
-use Rattle.words.specs.declared.Numbered.TheVariants.{Is, Unreadable}
+use Rattle.words.specs.declared.{Sign.Sign, Sign.TheVariants.Plain, Sign.TheVariants.Plus, Sign.TheVariants.Minus, Numeral.Numeral}
 use Rattle.words.specs.Numbers.{is_figure, sign_of, sign_length, run, is_numeral, number_by, number_in}
 use Rattle.words.specs.Words.{is_blank, is_capital, one_more, closing, gap, unreadable, comment_item, word_item, item_at, Words, with_word, item_then, words_after, words_of}
 use Rattle.lines.specs.{Comments.open_after, Comments.inside_at, Gaps.no_words, Gaps.only_gaps}
@@ -99,19 +98,21 @@ number_alike {s} {t} r =
     rw (← sign_alike r) (ap (number_by (sign_of s)) (run_alike is_figure refl (past_sign r)))
 
 -- so many bytes has a number
-number_length : (sign : Sign) (figures : List ℕ) (n : Number) (k : ℕ) → number_by sign figures ≡ Is n k → k ≡ sign_length sign + length figures
+number_length : (sign : Sign) (figures : List ℕ) (n : Numeral) → number_by sign figures ≡ Some n → n.length ≡ sign_length sign + length figures
 unfolding number_by
-number_length sign figures n k e = go (is_numeral figures) _ e
+number_length sign figures n e = go (is_numeral figures) _ refl e
   where
-    go : (t : Bool) (m : Number) → (if t then Is m (sign_length sign + length figures) else Unreadable) ≡ Is n k → k ≡ sign_length sign + length figures
-    go true m f = cc
-    go false m f = let never : ◌≡◌ {A = ℕ} 0 1 = cc in absurd (omega arith)
+    go :
+        (t : Bool) (m : Numeral) → m.length ≡ sign_length sign + length figures → (if t then Some m else None) ≡ Some n
+        → n.length ≡ sign_length sign + length figures
+    go true m is f = cc
+    go false m is f = let never : ◌≡◌ {A = ℕ} 0 1 = cc in absurd (omega arith)
 
-past_number : {s t : List ℕ} → Alike false s t → (n : Number) (k : ℕ) → number_in s ≡ Is n k → Alike false (drop k s) (drop k t)
+past_number : {s t : List ℕ} → Alike false s t → (n : Numeral) → number_in s ≡ Some n → Alike false (drop n.length s) (drop n.length t)
 unfolding number_in
-past_number {s} {t} r n k e =
+past_number {s} {t} r n e =
     let figures : List ℕ = run is_figure (drop (sign_length (sign_of s)) s) in
-    rw (number_length (sign_of s) figures n k e)
+    rw (number_length (sign_of s) figures n e)
     (rw (← drop-drop (length figures) (sign_length (sign_of s)) s, ← drop-drop (length figures) (sign_length (sign_of s)) t)
     (past_run is_figure refl (past_sign r)))
 
@@ -125,11 +126,11 @@ module _ {s t : List ℕ} (f g : ℕ → Words) (on : (k : ℕ) → Alike false 
   comment_then (Some k) h = on k (h k refl)
 
   word_then :
-      (b : ℕ) (n : Numbered) → ((m : Number) (k : ℕ) → n ≡ Is m k → Alike false (drop k s) (drop k t))
+      (b : ℕ) (n : Option Numeral) → ((m : Numeral) → n ≡ Some m → Alike false (drop m.length s) (drop m.length t))
       → item_then at (word_item at b n) f ≡ item_then at (word_item at b n) g
   unfolding item_then word_item
-  word_then b (Is m k) h = ap (with_word (record { letter = b; number = m; at = at })) (on k (h m k refl))
-  word_then b Unreadable h = refl
+  word_then b (Some m) h = ap (with_word (record { letter = b; number = m.number; at = at })) (on m.length (h m refl))
+  word_then b None h = refl
 
 item_alike :
     {b c : ℕ} {s t : List ℕ} → Alike false (b ∷ s) (c ∷ t) → (f g : ℕ → Words) (on : (k : ℕ) → Alike false (drop k s) (drop k t) → f k ≡ g k) (at : ℕ)

@@ -1,11 +1,10 @@
 -- How blanks and comments are passed, byte by byte.
 use Rattle.std.specs.Prelude.{if◌then◌else◌}
-use Rattle.terms.proofs.Common.{ℕ, zero, suc, ◌+◌, ◌≤◌, ◌<◌, ◌≡◌, refl, sym, ◌∙◌, ap, Bool, true, false, false≢true, true≢false, ◌&&◌, ◌||◌, Option, None, Some, List, [], ◌∷◌, arith, dec_lt, eq-eqb, ne_eqb, eqb, length, drop, get_or, drop_of_length-le, length-drop, drop-drop}
+use Rattle.terms.proofs.Common.{ℕ, zero, suc, ◌+◌, ◌≤◌, ◌<◌, ◌≡◌, refl, sym, ◌∙◌, ap, Bool, true, false, false≢true, true≢false, ◌&&◌, ◌||◌, ◌⊎◌, inl, inr, Option, None, Some, List, [], ◌∷◌, arith, dec_lt, ne_eqb, eqb, length, drop, get_or, drop_of_length-le, length-drop, drop-drop}
 use Rattle.terms.{proofs.Laws.both_right}
-use Rattle.words.specs.{Numbers.number_in, declared.Numbered.Numbered, declared.Numbered.TheVariants.Is, declared.Numbered.TheVariants.Unreadable, declared.Word.Word}
+use Rattle.words.specs.{Numbers.number_in, declared.Numeral.Numeral, declared.Word.Word}
 use Rattle.words.specs.Words.{is_blank, is_capital, one_more, closing, gap, unreadable, comment_item, word_item, item_at, Words, these, bad_at, with_word, item_then, words_after}
 use Rattle.lines.specs.{Blocks.begins_with, Blocks.text_from, Blocks.no_text, Blocks.length_from, Gaps.no_words, Gaps.only_gaps, Closing.comment_by, Closing.comment_at}
-use Rattle.lines.specs.declared.Comment.TheVariants.{Closed, Open}
 use Rattle.lines.proofs.Lines.{at_place}
 
 -- ---- the text from a place on
@@ -83,22 +82,22 @@ closing_within (b ∷ bs) k e = go (eqb b 41) (closing bs) (closing_within bs) e
 
 -- by places
 module _ (l : List ℕ) (i : ℕ) where
-  pub comment_end_of : length l ≤ i → comment_at i (text_from (drop i l)) ≡ Open
+  pub comment_end_of : length l ≤ i → comment_at i (text_from (drop i l)) ≡ None
   unfolding comment_by closing text_from
   comment_end_of h = rw (drop_of_length-le l h)
 
-  pub comment_paren : i < length l → get_or l i 0 ≡ 41 → comment_at i (text_from (drop i l)) ≡ Closed (i + 1)
+  pub comment_paren : i < length l → get_or l i 0 ≡ 41 → comment_at i (text_from (drop i l)) ≡ Some (i + 1)
   unfolding comment_by
   comment_paren h e = rw (at_place l i) (rw e (rw (closing_paren (drop (i + 1) l))))
 
-  pub comment_lf : i < length l → get_or l i 0 ≡ 10 → comment_at i (text_from (drop i l)) ≡ Open
+  pub comment_lf : i < length l → get_or l i 0 ≡ 10 → comment_at i (text_from (drop i l)) ≡ None
   unfolding comment_by
   comment_lf h e = rw (at_place l i) (rw e (rw (closing_lf (drop (i + 1) l))))
 
   comment_shift : (o : Option ℕ) → comment_by i (one_more o) ≡ comment_by (i + 1) o
   unfolding comment_by one_more
   comment_shift None = refl
-  comment_shift (Some k) = ap Closed (omega arith)
+  comment_shift (Some k) = ap Some (omega arith)
 
   pub comment_more :
       i < length l → (get_or l i 0 ≡ 41 → ⊥) → (get_or l i 0 ≡ 10 → ⊥)
@@ -127,10 +126,10 @@ module _ (b : ℕ) (bs : List ℕ) (p q : ℕ) (f g : ℕ → Words) (same : (k 
   by_comment None = refl
   by_comment (Some k) = same k
 
-  by_word_lem : (n : Numbered) → no_words (item_then p (word_item p b n) f) ≡ no_words (item_then q (word_item q b n) g)
+  by_word_lem : (n : Option Numeral) → no_words (item_then p (word_item p b n) f) ≡ no_words (item_then q (word_item q b n) g)
   unfolding item_then word_item no_words
-  by_word_lem (Is n k) = word_then _ (f k) ∙ sym (word_then _ (g k))
-  by_word_lem Unreadable = refl
+  by_word_lem (Some n) = word_then _ (f n.length) ∙ sym (word_then _ (g n.length))
+  by_word_lem None = refl
 
   by_item :
       (blank paren capital : Bool)
@@ -153,14 +152,11 @@ no_words_place zero p q (b ∷ bs) =
 
 -- ---- blanks
 
-pub blank_space : (b : ℕ) → b ≡ 32 → is_blank b ≡ true
-blank_space b e = rw (eq-eqb b 32 e)
+pub blank_is : (b : ℕ) → (b ≡ 9) ⊎ (b ≡ 32) → is_blank b ≡ true
+blank_is b = elim [ inl e ↦ rw e | inr e ↦ rw e ]
 
-pub blank_tab : (b : ℕ) → b ≡ 9 → is_blank b ≡ true
-blank_tab b e = rw e
-
-pub blank_not : (b : ℕ) → (b ≡ 32 → ⊥) → (b ≡ 9 → ⊥) → is_blank b ≡ false
-blank_not b e f = rw (ne_eqb b 32 e, ne_eqb b 9 f)
+pub blank_not : (b : ℕ) → ((b ≡ 9) ⊎ (b ≡ 32) → ⊥) → is_blank b ≡ false
+blank_not b e = rw (ne_eqb b 32 (λ f. e (inr f)), ne_eqb b 9 (λ f. e (inl f)))
 
 -- ---- what stands at the beginning of a text
 
@@ -180,13 +176,13 @@ gaps_other : (b : ℕ) (text : List ℕ) → is_blank b ≡ false → (b ≡ 40 
 unfolding only_gaps words_after item_at item_then word_item no_words
 gaps_other b text e f = rw (e, ne_eqb b 40 f) (go (is_capital b) (number_in text))
   where
-    go : (t : Bool) (n : Numbered) → no_words (item_then 0 (if t then word_item 0 b n else unreadable) (λ k. words_after k 1 text)) ≡ false
-    go true (Is n k) = word_then _ (words_after k 1 text)
-    go true Unreadable = refl
+    go : (t : Bool) (n : Option Numeral) → no_words (item_then 0 (if t then word_item 0 b n else unreadable) (λ k. words_after k 1 text)) ≡ false
+    go true (Some n) = word_then _ (words_after n.length 1 text)
+    go true None = refl
     go false n = refl
 
 -- a comment that is open has no closing parenthesis, and one that is closed has it so many bytes on
-pub open_by : (at : ℕ) (o : Option ℕ) → comment_by at o ≡ Open → o ≡ None
+pub open_by : (at : ℕ) (o : Option ℕ) → comment_by at o ≡ None → o ≡ None
 unfolding comment_by
 open_by at None e = refl
 open_by at (Some k) e = let never : ◌≡◌ {A = ℕ} 0 1 = cc in absurd (omega arith)
@@ -206,11 +202,11 @@ text_length (b ∷ bs) =
     elim (eqb b 10 || eqb b 13 && begins_with 10 bs) as (λ t. length (if t then [] else b ∷ text_from bs) ≤ suc (length bs))
     [ true ↦ omega arith | false ↦ omega (arith, text_length bs) ]
 
-pub comment_way : (l : List ℕ) (i next : ℕ) → i ≤ length l → comment_at i (text_from (drop i l)) ≡ Closed next → Way l i next
+pub comment_way : (l : List ℕ) (i next : ℕ) → i ≤ length l → comment_at i (text_from (drop i l)) ≡ Some next → Way l i next
 unfolding comment_by
 comment_way l i next h e = go (closing (text_from (drop i l))) refl e
   where
-    go : (o : Option ℕ) → closing (text_from (drop i l)) ≡ o → comment_by i o ≡ Closed next → Way l i next
+    go : (o : Option ℕ) → closing (text_from (drop i l)) ≡ o → comment_by i o ≡ Some next → Way l i next
     go None f g = let never : ◌≡◌ {A = ℕ} 0 1 = cc in absurd (omega arith)
     go (Some k) f g =
         let is : next ≡ i + k = cc in
@@ -252,13 +248,13 @@ module _ (l : List ℕ) (i : ℕ) where
   gaps_at_other e f g = rw (text_at e) (gaps_other (get_or l i 0) (text_from (drop (i + 1) l)) f g)
 
   pub gaps_at_open :
-      no_text (drop i l) ≡ false → get_or l i 0 ≡ 40 → comment_at (i + 1) (text_from (drop (i + 1) l)) ≡ Open
+      no_text (drop i l) ≡ false → get_or l i 0 ≡ 40 → comment_at (i + 1) (text_from (drop (i + 1) l)) ≡ None
       → only_gaps (text_from (drop i l)) ≡ false
   gaps_at_open e f g = rw (text_at e) (rw f (gaps_open (text_from (drop (i + 1) l)) (open_by (i + 1) (closing (text_from (drop (i + 1) l))) g)))
 
   -- past a comment the text goes on after its closing parenthesis
   pub gaps_at_comment :
-      (next : ℕ) → no_text (drop i l) ≡ false → get_or l i 0 ≡ 40 → comment_at (i + 1) (text_from (drop (i + 1) l)) ≡ Closed next
+      (next : ℕ) → no_text (drop i l) ≡ false → get_or l i 0 ≡ 40 → comment_at (i + 1) (text_from (drop (i + 1) l)) ≡ Some next
       → only_gaps (text_from (drop i l)) ≡ only_gaps (text_from (drop next l))
   gaps_at_comment next e f g =
       let inside = text_inside e in

@@ -2,12 +2,11 @@
 use Rattle.std.specs.Prelude.{◌+◌}
 use Rattle.terms.specs.Common.{ℕ, Option, None, Some, List}
 use Rattle.words.specs.Words.{closing}
-use Rattle.lines.specs.declared.Comment.{Comment, TheVariants.Closed, TheVariants.Open}
 
 -- where a comment ends whose bytes begin at a place, with the block's text from there
-unfoldable pub comment_by : ℕ → Option ℕ → Comment
-comment_by at None = Open
-comment_by at (Some k) = Closed (at + k)
+unfoldable pub comment_by : ℕ → Option ℕ → Option ℕ
+comment_by at None = None
+comment_by at (Some k) = Some (at + k)
 
-abbrev pub comment_at : ℕ → List ℕ → Comment
+abbrev pub comment_at : ℕ → List ℕ → Option ℕ
 comment_at at text = comment_by at (closing text)

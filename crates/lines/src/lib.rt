@@ -9,13 +9,6 @@ ghost use Rattle.lines.specs.Blocks.{no_text, text_from, length_from, begins_wit
 
 pub use gaps::{comment_end, only_gaps};
 
-// What follows an opening parenthesis: the place after the closing one, or none in the block.
-#[derive(Clone, Copy)]
-pub enum Comment {
-    Closed(usize),
-    Open,
-}
-
 // Whether a block's text ends at a place: at the data's end, at an LF, or at a CR just before one.
 pub fn text_ends(s: &[u8], at: usize) -> bool
     requires { at ≤ length s.now }

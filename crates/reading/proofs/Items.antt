@@ -1,15 +1,14 @@
 -- Items and words by their places.
-use Rattle.std.specs.Prelude.{if◌then◌else◌}
+use Rattle.std.specs.Prelude.{if◌then◌else◌, Ok, Err}
 use Rattle.terms.proofs.Common.{ℕ, suc, ◌+◌, ◌≤◌, ◌<◌, ◌≡◌, refl, sym, ◌∙◌, ap, Bool, true, false, ◌||◌, Option, None, Some, List, [], ◌∷◌, arith, ℕ_discrete, ne_eqb, le-leb, lt-leb, eqb, length, drop, get_or, length-drop, drop-drop, take-length, slice}
 use Rattle.lines.specs.{Blocks.begins_with, Blocks.text_from, Blocks.no_text, Blocks.length_from, Blocks.ends_at, Closing.comment_at}
-use Rattle.lines.specs.declared.Comment.TheVariants.{Closed, Open}
 use Rattle.lines.proofs.Laws.{text_drop, text_none, text_inside, text_at, text_length, text_next, words_pass, open_by, comment_way, closing_within}
 use Rattle.refusals.specs.declared.Refusal.{Refusal}
-use Rattle.words.specs.{Serving.Written, declared.Number.Number, declared.Numbered.Numbered, declared.Numbered.TheVariants.Is, declared.Numbered.TheVariants.Unreadable}
+use Rattle.words.specs.{Serving.Written, declared.Numeral.Numeral}
 use Rattle.words.{specs.declared.Sign.TheVariants.Plain, specs.declared.Word.Word, proofs.Numbers.number_short, proofs.Numbers.number_in_written}
 use Rattle.words.specs.Numbers.{is_digit, is_point, sign_of, sign_length, run, number_by, number_in}
 use Rattle.words.specs.Words.{is_blank, is_capital, closing, gap, word, unreadable, comment_item, word_item, item_at, these, bad_at, with_word, item_then, words_after}
-use Rattle.reading.specs.{Items.placed, Items.words_at, Items.status_after, declared.Item.Item}
+use Rattle.reading.specs.{Items.placed, Items.words_at, Items.status_after}
 use Rattle.refusals.specs.declared.Refusal.TheVariants as refusals
 use Rattle.words.specs.Words as Words
 use Rattle.reading.specs.declared.Item.TheVariants as item
@@ -81,14 +80,14 @@ item_fits i b rest = by (is_blank b) (eqb b 40) (is_capital b) refl
     by_comment None h = tt
     by_comment (Some k) h = h k refl
 
-    by_number : is_capital b ≡ true → (n : Numbered) → ((m : Number) (k : ℕ) → n ≡ Is m k → (k ≤ length rest) × Written m) → Fits (word_item i b n) rest
-    by_number e (Is m k) h = let f = h m k refl in (f.0, f.1, e)
-    by_number e Unreadable h = tt
+    by_number : is_capital b ≡ true → (n : Option Numeral) → ((m : Numeral) → n ≡ Some m → (m.length ≤ length rest) × Written m.number) → Fits (word_item i b n) rest
+    by_number e (Some m) h = let f = h m refl in (f.0, f.1, e)
+    by_number e None h = tt
 
     by : (blank paren capital : Bool) → is_capital b ≡ capital → Fits (if blank then gap 0 else (if paren then comment_item (closing rest) else (if capital then word_item i b (number_in rest) else unreadable))) rest
     by true paren capital e = omega arith
     by false true capital e = by_comment (closing rest) (closing_within rest)
-    by false false true e = by_number e (number_in rest) (λ m k f. (number_short rest m k f, number_in_written rest m k f))
+    by false false true e = by_number e (number_in rest) (λ m f. (number_short rest m f, number_in_written rest m f))
     by false false false e = tt
 
 -- ---- the item at a place
@@ -100,23 +99,23 @@ module _ (l : List ℕ) (i : ℕ) where
   abbrev rest : List ℕ
   rest = text_from (drop (i + 1) l)
 
-  pub placed_blank : is_blank here ≡ true → placed i (item_at i here rest) ≡ item.Gap (i + 1)
+  pub placed_blank : is_blank here ≡ true → placed i (item_at i here rest) ≡ Ok (item.Gap (i + 1))
   unfolding placed item_at
-  placed_blank e = rw e (ap item.Gap (omega arith))
+  placed_blank e = rw e (ap (λ (n : ℕ). Ok (item.Gap n)) (omega arith))
 
   module _ (e : here ≡ 40) where
-    pub placed_open : comment_at (i + 1) rest ≡ Open → placed i (item_at i here rest) ≡ item.Refused refusals.Unreadable
+    pub placed_open : comment_at (i + 1) rest ≡ None → placed i (item_at i here rest) ≡ Err refusals.Unreadable
     unfolding placed item_at comment_item
     placed_open f = rw e (rw (open_by (i + 1) (closing rest) f))
 
-    pub placed_comment : (next : ℕ) → i < length l → comment_at (i + 1) rest ≡ Closed next → placed i (item_at i here rest) ≡ item.Gap next
+    pub placed_comment : (next : ℕ) → i < length l → comment_at (i + 1) rest ≡ Some next → placed i (item_at i here rest) ≡ Ok (item.Gap next)
     unfolding placed item_at comment_item
     placed_comment next h f =
         let w = comment_way l (i + 1) next (omega arith) f in
-        rw e (rw w.closes (ap item.Gap (sym w.is)))
+        rw e (rw w.closes (ap (λ (n : ℕ). Ok (item.Gap n)) (sym w.is)))
 
   module _ (blank : is_blank here ≡ false) (paren : here ≡ 40 → ⊥) where
-    pub placed_other : is_capital here ≡ false → placed i (item_at i here rest) ≡ item.Refused refusals.Unreadable
+    pub placed_other : is_capital here ≡ false → placed i (item_at i here rest) ≡ Err refusals.Unreadable
     unfolding placed item_at
     placed_other e = rw (blank, ne_eqb here 40 paren, e)
 
@@ -125,22 +124,22 @@ module _ (l : List ℕ) (i : ℕ) where
       unfolding item_at
       by_number = rw (blank, ne_eqb here 40 paren, capital)
 
-      pub placed_none : number_in (drop (i + 1) l) ≡ Unreadable → placed i (item_at i here rest) ≡ item.Refused refusals.Unreadable
+      pub placed_none : number_in (drop (i + 1) l) ≡ None → placed i (item_at i here rest) ≡ Err refusals.Unreadable
       unfolding placed word_item
       placed_none e = by_number ∙ rw (number_text (drop (i + 1) l)) (rw e)
 
       pub placed_word :
-          (n : Number) (k : ℕ) → number_in (drop (i + 1) l) ≡ Is n k
-          → placed i (item_at i here rest) ≡ item.Says (record { letter = here; number = n; at = i }) (i + 1 + k)
+          (n : Numeral) → number_in (drop (i + 1) l) ≡ Some n
+          → placed i (item_at i here rest) ≡ Ok (item.Says (record { letter = here; number = n.number; at = i }) (i + 1 + n.length))
       unfolding placed word_item
-      placed_word n k e = by_number ∙ rw (number_text (drop (i + 1) l)) (rw e)
+      placed_word n e = by_number ∙ rw (number_text (drop (i + 1) l)) (rw e)
 
 -- the number reader reads to the end of the data
 pub from_place : (l : List ℕ) (i : ℕ) → number_in (drop (i + 1) l) ≡ number_in (slice (i + 1) (length l) l)
 from_place l i = ap (λ (x : List ℕ). number_in (drop (i + 1) x)) (sym (take-length l))
 
-pub taken_inside : (l : List ℕ) (i : ℕ) (n : Number) (k : ℕ) → i < length l → number_in (drop (i + 1) l) ≡ Is n k → i + 1 + k ≤ length l
-taken_inside l i n k h e = omega (arith, number_short (drop (i + 1) l) n k e, length-drop (i + 1) l)
+pub taken_inside : (l : List ℕ) (i : ℕ) (n : Numeral) → i < length l → number_in (drop (i + 1) l) ≡ Some n → i + 1 + n.length ≤ length l
+taken_inside l i n h e = omega (arith, number_short (drop (i + 1) l) n e, length-drop (i + 1) l)
 
 pub capital_is : (b : ℕ) → 65 ≤ b → b ≤ 90 → is_capital b ≡ true
 capital_is b h k = rw (le-leb 65 b h, le-leb b 90 k)
@@ -189,34 +188,34 @@ module _ (l : List ℕ) (i : ℕ) (going : no_text (drop i l) ≡ false) where
   at_item = rw (text_at l i going)
 
   -- the refusal of what begins here is 15
-  pub step_bad : (refusal : Refusal) → placed i (item_at i (here l i) (rest l i)) ≡ item.Refused refusal → (words_at l i ≡ bad_at i) × (refusal ≡ refusals.Unreadable)
+  pub step_bad : (refusal : Refusal) → placed i (item_at i (here l i) (rest l i)) ≡ Err refusal → (words_at l i ≡ bad_at i) × (refusal ≡ refusals.Unreadable)
   unfolding placed item_then
   step_bad refusal e = let g = go (item_at i (here l i) (rest l i)) e in (at_item ∙ g.0, g.1)
     where
-      go : (x : Words.Item) → placed i x ≡ item.Refused refusal → (item_then i x (λ k. words_after k (i + 1) (rest l i)) ≡ bad_at i) × (refusal ≡ refusals.Unreadable)
+      go : (x : Words.Item) → placed i x ≡ Err refusal → (item_then i x (λ k. words_after k (i + 1) (rest l i)) ≡ bad_at i) × (refusal ≡ refusals.Unreadable)
       go (gap k) f = let never : ◌≡◌ {A = ℕ} 0 1 = cc in absurd (omega arith)
       go (word w k) f = let never : ◌≡◌ {A = ℕ} 0 1 = cc in absurd (omega arith)
       go unreadable f = (refl, cc)
 
-  pub step_gap : (next : ℕ) → placed i (item_at i (here l i) (rest l i)) ≡ item.Gap next → (words_at l i ≡ words_at l next) × Gone l i next
+  pub step_gap : (next : ℕ) → placed i (item_at i (here l i) (rest l i)) ≡ Ok (item.Gap next) → (words_at l i ≡ words_at l next) × Gone l i next
   unfolding placed item_then
   step_gap next e = go (item_at i (here l i) (rest l i)) (item_fits i (here l i) (rest l i)) at_item e
     where
       go :
-          (x : Words.Item) → Fits x (rest l i) → words_at l i ≡ item_then i x (λ k. words_after k (i + 1) (rest l i)) → placed i x ≡ item.Gap next
+          (x : Words.Item) → Fits x (rest l i) → words_at l i ≡ item_then i x (λ k. words_after k (i + 1) (rest l i)) → placed i x ≡ Ok (item.Gap next)
           → (words_at l i ≡ words_at l next) × Gone l i next
       go (gap k) h f g = let is : i + 1 + k ≡ next = cc in (f ∙ pass k h ∙ ap (words_at l) is, rw is at (gone k h))
       go (word w k) h f g = let never : ◌≡◌ {A = ℕ} 0 1 = cc in absurd (omega arith)
       go unreadable h f g = let never : ◌≡◌ {A = ℕ} 0 1 = cc in absurd (omega arith)
 
   pub step_word :
-      (w : Word) (next : ℕ) → placed i (item_at i (here l i) (rest l i)) ≡ item.Says w next
+      (w : Word) (next : ℕ) → placed i (item_at i (here l i) (rest l i)) ≡ Ok (item.Says w next)
       → (words_at l i ≡ with_word w (words_at l next)) × Gone l i next × Written w.number × (is_capital w.letter ≡ true)
   unfolding placed item_then
   step_word w next e = go (item_at i (here l i) (rest l i)) (item_fits i (here l i) (rest l i)) at_item e
     where
       go :
-          (x : Words.Item) → Fits x (rest l i) → words_at l i ≡ item_then i x (λ k. words_after k (i + 1) (rest l i)) → placed i x ≡ item.Says w next
+          (x : Words.Item) → Fits x (rest l i) → words_at l i ≡ item_then i x (λ k. words_after k (i + 1) (rest l i)) → placed i x ≡ Ok (item.Says w next)
           → (words_at l i ≡ with_word w (words_at l next)) × Gone l i next × Written w.number × (is_capital w.letter ≡ true)
       go (gap k) h f g = let never : ◌≡◌ {A = ℕ} 0 1 = cc in absurd (omega arith)
       go (word v k) h f g =

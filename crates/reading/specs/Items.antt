@@ -1,18 +1,18 @@
 -- What begins at a place of the data, and the words from there to the end of its block.
-use Rattle.std.specs.Prelude.{◌+◌}
+use Rattle.std.specs.Prelude.{◌+◌, Result, Ok, Err}
 use Rattle.terms.specs.Common.{ℕ, List, drop}
 use Rattle.lines.specs.Blocks.{text_from}
-use Rattle.refusals.specs.declared.Refusal.TheVariants.{CannotExecute, Unreadable}
+use Rattle.refusals.specs.declared.Refusal.{Refusal, TheVariants.CannotExecute, TheVariants.Unreadable}
 use Rattle.words.specs.Words.{gap, word, unreadable, these, bad_at, words_of}
-use Rattle.reading.specs.declared.{Item.Item, Item.TheVariants.Gap, Item.TheVariants.Says, Item.TheVariants.Refused, Status.Status}
+use Rattle.reading.specs.declared.{Item.Item, Item.TheVariants.Gap, Item.TheVariants.Says, Status.Status}
 use Rattle.words.specs.Words as Words
 use Rattle.reading.specs.declared.Status.TheVariants as status
 
--- an item that begins at a place, with the place after it
-unfoldable pub placed : ℕ → Words.Item → Item
-placed i (gap k) = Gap (i + 1 + k)
-placed i (word w k) = Says w (i + 1 + k)
-placed i unreadable = Refused Unreadable
+-- an item that begins at a place, with the place after it, or the refusal of what cannot be read there
+unfoldable pub placed : ℕ → Words.Item → Result Item Refusal
+placed i (gap k) = Ok (Gap (i + 1 + k))
+placed i (word w k) = Ok (Says w (i + 1 + k))
+placed i unreadable = Err Unreadable
 
 -- the words from a place to the end of its block
 abbrev pub words_at : List ℕ → ℕ → Words.Words

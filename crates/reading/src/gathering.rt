@@ -34,11 +34,14 @@ pub fn read_words(
     let mut status = Status::Fine;
     let mut i = from;
     while !lines::text_ends(s, i) {
-        match crate::item_at(s, i) {
-            Item::Refused(refusal) => {
+        let item = match crate::item_at(s, i) {
+            Ok(item) => item,
+            Err(refusal) => {
                 status = Status::Refused(refusal, i);
                 break;
             }
+        };
+        match item {
             Item::Gap(next) => {
                 i = next;
             }

@@ -12,18 +12,15 @@ ghost use Rattle.reading.specs.{Items.placed, Seen.letter_place, Seen.Tells, See
 
 use codes::{Code, Misc};
 pub use gathering::read_words;
-use lines::Comment;
 use refusals::Refusal;
 use settings::Modes;
-use words::{Numbered, Word};
+use words::{Numeral, Word};
 
-// What begins at a place of a block: a blank or a comment, or a word, each with the place after it; or what is refused,
-// being unreadable.
+// What begins at a place of a block: a blank or a comment, or a word, each with the place after it.
 #[derive(Clone, Copy)]
 pub enum Item {
     Gap(usize),
     Says(Word, usize),
-    Refused(Refusal),
 }
 
 // How the reading of a block ends: as words that may all stand, or with a refusal, 15 or 4, and the byte that it names.
@@ -62,39 +59,31 @@ pub struct Reading {
     pub end: usize,
 }
 
-pub fn item_at(s: &[u8], i: usize) -> Item
+// The item at a place, or the refusal of what cannot be read there.
+pub fn item_at(s: &[u8], i: usize) -> Result<Item, Refusal>
     requires { i < length s.now }
     ensures { result ≡ placed i (item_at i (get_or s.now i 0) (text_from (drop (i + 1) s.now))) }
 {
-    let b = s[i];
     let next = i + 1;
-    if b == b' ' {
-        return Item::Gap(next);
+    match s[i] {
+        b' ' | b'\t' => Ok(Item::Gap(next)),
+        b'(' => {
+            let after = lines::comment_end(s, next).ok_or(Refusal::Unreadable)?;
+            Ok(Item::Gap(after))
+        }
+        letter @ b'A'..=b'Z' => {
+            let Some(numeral) = words::read_number(s, next, s.len()) else {
+                return Err(Refusal::Unreadable);
+            };
+            let word = Word {
+                at: i,
+                number: numeral.number,
+                letter,
+            };
+            Ok(Item::Says(word, next + numeral.length))
+        }
+        _ => Err(Refusal::Unreadable),
     }
-    if b == b'\t' {
-        return Item::Gap(next);
-    }
-    if b == b'(' {
-        let Comment::Closed(after) = lines::comment_end(s, next) else {
-            return Item::Refused(Refusal::Unreadable);
-        };
-        return Item::Gap(after);
-    }
-    if b < b'A' {
-        return Item::Refused(Refusal::Unreadable);
-    }
-    if b'Z' < b {
-        return Item::Refused(Refusal::Unreadable);
-    }
-    let Numbered::Is(number, taken) = words::read_number(s, next, s.len()) else {
-        return Item::Refused(Refusal::Unreadable);
-    };
-    let word = Word {
-        letter: b,
-        number,
-        at: i,
-    };
-    Item::Says(word, next + taken)
 }
 
 fn is_known(b: u8) -> bool

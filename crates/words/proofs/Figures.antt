@@ -1,19 +1,19 @@
 -- The figures of a number, byte by byte: those that were passed, by the reader's variables, make the number together with
 -- those that are left. Assumes nothing.
-use Rattle.terms.proofs.Common.{ℕ, ◌+◌, ◌-◌, ◌*◌, ◌^◌, ◌≤◌, ◌<◌, ◌≡◌, refl, sym, ap, ◌∙◌, Bool, true, false, and-false, List, [], ◌∷◌, add-one, arith, leb, eqb, length, take, drop, get_or, slice, slice-cons, slice_empty, drop-drop, le-leb, lt-leb, ne_eqb}
+use Rattle.terms.proofs.Common.{ℕ, ◌+◌, ◌-◌, ◌*◌, ◌^◌, ◌≤◌, ◌<◌, ◌≡◌, refl, sym, ap, ◌∙◌, Bool, true, false, and-false, Option, None, Some, List, [], ◌∷◌, add-one, arith, leb, eqb, length, take, drop, get_or, slice, slice-cons, slice_empty, drop-drop, le-leb, lt-leb, ne_eqb}
 use Rattle.terms.specs.Terms.{byte}
-use Rattle.words.specs.declared.{Sign.Sign, Numbered.Numbered, Numbered.TheVariants.Is, Numbered.TheVariants.Unreadable}
+use Rattle.words.specs.declared.{Sign.Sign, Numeral.Numeral}
 use Rattle.words.specs.Numbers.{is_digit, is_point, is_figure, sign_of, sign_length, run, count, digits_after, decimals_of, is_numeral, number_by, number_in}
 use Rattle.words.proofs.Numbers.{sign_first, made, number_made, too_many_digits, too_many_points, ten_more}
 
 -- ---- the sign
 
-pub no_byte : (s : List ℕ) (at end : ℕ) → at ≡ end → Unreadable ≡ number_in (slice at end s)
+pub no_byte : (s : List ℕ) (at end : ℕ) → at ≡ end → None ≡ number_in (slice at end s)
 unfolding number_in sign_of sign_length run number_by is_numeral count
 no_byte s at end e = rw (e, slice_empty end s)
 
 pub by_sign :
-    (s : List ℕ) (at end : ℕ) (sign : Sign) (r : Numbered) → at < end → end ≤ length s → sign ≡ sign_of (get_or s at 0 ∷ [])
+    (s : List ℕ) (at end : ℕ) (sign : Sign) (r : Option Numeral) → at < end → end ≤ length s → sign ≡ sign_of (get_or s at 0 ∷ [])
     → r ≡ number_by sign (run is_figure (drop (sign_length sign) (slice at end s))) → r ≡ number_in (slice at end s)
 unfolding number_in
 by_sign s at end sign r h k e f = rw (f, e, sign_first s at end h k)
@@ -74,7 +74,7 @@ made_same sign f g h j k = rw (f, g, h, j, k)
 
 -- the number of figures that take `used` bytes with their sign, and of further ones: of the first are known the value of
 -- their digits, their decimals, how many digits they are, and whether a point is among them
-unfoldable pub number_after : Sign → (used value decimals many : ℕ) → Bool → List ℕ → Numbered
+unfoldable pub number_after : Sign → (used value decimals many : ℕ) → Bool → List ℕ → Option Numeral
 number_after sign used value decimals many point figures =
     made sign (many + count is_digit figures) (one point + count is_point figures) (digits_after value figures)
     (decimals + decimals_after point figures)
@@ -92,7 +92,7 @@ module _ (sign : Sign) where
     unfolding number_after count digits_after decimals_of
     after_point figures = made_same sign (omega arith) (omega arith) refl refl (omega arith)
 
-    after_two_points : (figures : List ℕ) → number_after sign used value decimals many true (byte "." ∷ figures) ≡ Unreadable
+    after_two_points : (figures : List ℕ) → number_after sign used value decimals many true (byte "." ∷ figures) ≡ None
     unfolding number_after count
     after_two_points figures = too_many_points sign _ _ _ _ _ (omega arith)
 
@@ -116,7 +116,7 @@ module _ (sign : Sign) where
             (omega (arith, decimals_digit point b figures is no))
             (omega arith)
 
-        after_ten_digits : 9 ≤ many → number_after sign used value decimals many point (b ∷ figures) ≡ Unreadable
+        after_ten_digits : 9 ≤ many → number_after sign used value decimals many point (b ∷ figures) ≡ None
         unfolding number_after count
         after_ten_digits e = too_many_digits sign _ _ _ _ _ (rw (digit_is b low high) (omega arith))
 
@@ -124,7 +124,7 @@ module _ (sign : Sign) where
 
 -- What is known of the number from `at` to `end` where the reader stands before the byte i. Its digits are few, so that
 -- nothing wraps.
-pub record Passed (whole : Numbered) (s : List ℕ) (at end : ℕ) (sign : Sign) (i value decimals many : ℕ) (point : Bool) : Type 0 where
+pub record Passed (whole : Option Numeral) (s : List ℕ) (at end : ℕ) (sign : Sign) (i value decimals many : ℕ) (point : Bool) : Type 0 where
   pub room : end ≤ length s
   pub after : at ≤ i
   pub inside : i ≤ end
@@ -153,7 +153,7 @@ none_passed s at end k sign e h room =
     rest = let used : at + k - at ≡ sign_length sign = omega arith in rw (used, e, drop-drop (sign_length sign) at (take end s))
 
 module _
-    {whole : Numbered} {s : List ℕ} {at end : ℕ} {sign : Sign} {i value decimals many : ℕ} {point : Bool}
+    {whole : Option Numeral} {s : List ℕ} {at end : ℕ} {sign : Sign} {i value decimals many : ℕ} {point : Bool}
     (p : Passed whole s at end sign i value decimals many point)
   where
     module _ (none : run is_figure (slice i end s) ≡ []) where
@@ -162,12 +162,12 @@ module _
           p.same ∙ ap (number_after sign (i - at) value decimals many point) none
           ∙ after_all sign (i - at) value decimals many point
 
-      pub no_number : many ≡ 0 → Unreadable ≡ whole
+      pub no_number : many ≡ 0 → None ≡ whole
       unfolding made
       no_number e = rw (all_passed, e)
 
       pub some_number :
-          (many ≡ 0 → ⊥) → Is (record { sign = sign; point = point; digits = value; decimals = decimals }) (i - at) ≡ whole
+          (many ≡ 0 → ⊥) → Some (record { number = record { sign = sign; point = point; digits = value; decimals = decimals }; length = i - at }) ≡ whole
       unfolding made
       some_number h =
           rw (all_passed, le-leb 1 many (omega arith), le-leb many 9 p.nine, one_few point, one_is point)
@@ -211,7 +211,7 @@ module _
                 let used : i + 1 - at ≡ i - at + 1 = omega arith in
                 rw (point_here, used) (after_point sign (i - at) value decimals many _)
 
-        pub second_point : point ≡ true → Unreadable ≡ whole
+        pub second_point : point ≡ true → None ≡ whole
         second_point e = sym (rw (e, point_here) at p.same ∙ after_two_points sign (i - at) value decimals many _)
 
       module _ (low : byte "0" ≤ get_or s i 0) (high : get_or s i 0 ≤ byte "9") where
@@ -240,6 +240,6 @@ module _
                 let used : i + 1 - at ≡ i - at + 1 = omega arith in
                 rw (digit_here, used, e) (after_digit sign (i - at) value decimals many point (get_or s i 0) low high _)
 
-        pub tenth_digit : 9 ≤ many → Unreadable ≡ whole
+        pub tenth_digit : 9 ≤ many → None ≡ whole
         tenth_digit e =
             sym (rw digit_here at p.same ∙ after_ten_digits sign (i - at) value decimals many point (get_or s i 0) low high _ e)

@@ -1,20 +1,20 @@
 -- Laws of the rule of a number: what is known of every number that is read, and what its figures have to do with the text.
 -- Assumes nothing.
 use Rattle.std.specs.Prelude.{if◌then◌else◌}
-use Rattle.terms.proofs.Common.{ℕ, ◌+◌, ◌-◌, ◌*◌, ◌^◌, ◌≤◌, ◌<◌, ◌≡◌, refl, sym, ◌∙◌, Bool, true, false, ◌&&◌, and-false, List, [], ◌∷◌, ◌++◌, add-zero, pow-suc, pow-le-pow_right, add-one, arith, leb, eqb, length, drop, get_or, length-drop, slice, slice-cons, lt-leb, leb-true, eqb-false}
+use Rattle.terms.proofs.Common.{ℕ, ◌+◌, ◌-◌, ◌*◌, ◌^◌, ◌≤◌, ◌<◌, ◌≡◌, refl, sym, ◌∙◌, Bool, true, false, ◌&&◌, and-false, Option, None, Some, List, [], ◌∷◌, ◌++◌, add-zero, pow-suc, pow-le-pow_right, add-one, arith, leb, eqb, length, drop, get_or, length-drop, slice, slice-cons, lt-leb, leb-true, eqb-false}
 use Rattle.terms.{specs.Terms.byte, specs.Terms.from_to, proofs.Laws.both_left, proofs.Laws.both_right}
-use Rattle.words.specs.{Serving.Written, declared.Sign.Sign, declared.Sign.TheVariants.Plain, declared.Sign.TheVariants.Plus, declared.Sign.TheVariants.Minus, declared.Number.Number}
-use Rattle.words.specs.declared.Numbered.{Numbered, TheVariants.Is, TheVariants.Unreadable}
+use Rattle.words.specs.{Serving.Written, declared.Sign.Sign, declared.Sign.TheVariants.Plain, declared.Sign.TheVariants.Plus, declared.Sign.TheVariants.Minus}
+use Rattle.words.specs.declared.Numeral.{Numeral}
 use Rattle.words.specs.Numbers.{is_digit, is_point, is_figure, sign_of, sign_length, run, count, digits_after, decimals_of, is_numeral, number_by, number_in}
 
 -- ---- what a number is made of
 
 -- a number by how many digits and points it has, the value of its digits, its decimals and its bytes
-unfoldable pub made : Sign → (digits points value decimals used : ℕ) → Numbered
+unfoldable pub made : Sign → (digits points value decimals used : ℕ) → Option Numeral
 made sign digits points value decimals used =
     if from_to 1 9 digits && leb points 1
-    then Is (record { sign = sign; point = eqb points 1; digits = value; decimals = decimals }) used
-    else Unreadable
+    then Some (record { number = record { sign = sign; point = eqb points 1; digits = value; decimals = decimals }; length = used })
+    else None
 
 pub number_made :
     (sign : Sign) (figures : List ℕ)
@@ -25,11 +25,11 @@ unfolding number_by is_numeral made
 number_made sign figures = refl
 
 -- the tenth digit, and the second point
-pub too_many_digits : (sign : Sign) (a b c d e : ℕ) → 9 < a → made sign a b c d e ≡ Unreadable
+pub too_many_digits : (sign : Sign) (a b c d e : ℕ) → 9 < a → made sign a b c d e ≡ None
 unfolding made
 too_many_digits sign a b c d e h = rw (lt-leb a 9 h, and-false (leb 1 a))
 
-pub too_many_points : (sign : Sign) (a b c d e : ℕ) → 1 < b → made sign a b c d e ≡ Unreadable
+pub too_many_points : (sign : Sign) (a b c d e : ℕ) → 1 < b → made sign a b c d e ≡ None
 unfolding made
 too_many_points sign a b c d e h = rw (lt-leb b 1 h, and-false (from_to 1 9 a))
 
@@ -81,7 +81,7 @@ count_append test (a ∷ as') bs = omega (arith, count_append test as' bs)
 
 -- ten digits are no number, whatever follows
 pub tenth_digit :
-    (sign : Sign) (figures more : List ℕ) → 10 ≤ count is_digit figures → number_by sign (figures ++ more) ≡ Unreadable
+    (sign : Sign) (figures more : List ℕ) → 10 ≤ count is_digit figures → number_by sign (figures ++ more) ≡ None
 tenth_digit sign figures more h =
     number_made sign (figures ++ more)
     ∙ too_many_digits sign _ _ _ _ _ (omega (arith, count_append is_digit figures more))
@@ -127,30 +127,30 @@ whole (b ∷ bs) e = by (is_point b) e (whole bs)
 
 -- ---- what is known of a number that is read
 
-record Made (sign : Sign) (a b c d e : ℕ) (n : Number) (k : ℕ) : Type 0 where
+record Made (sign : Sign) (a b c d e : ℕ) (n : Numeral) : Type 0 where
   nine : a ≤ 9
   points : b ≤ 1
-  is : n ≡ record { sign = sign; point = eqb b 1; digits = c; decimals = d }
-  used : k ≡ e
+  is : n ≡ record { number = record { sign = sign; point = eqb b 1; digits = c; decimals = d }; length = e }
 
-made_is : (sign : Sign) (a b c d e : ℕ) (n : Number) (k : ℕ) → made sign a b c d e ≡ Is n k → Made sign a b c d e n k
+made_is : (sign : Sign) (a b c d e : ℕ) (n : Numeral) → made sign a b c d e ≡ Some n → Made sign a b c d e n
 unfolding made
-made_is sign a b c d e n k = by (from_to 1 9 a && leb b 1) refl
+made_is sign a b c d e n = by (from_to 1 9 a && leb b 1) refl
   where
     by :
         (t : Bool) → (from_to 1 9 a && leb b 1) ≡ t
-        → (if t then Is (record { sign = sign; point = eqb b 1; digits = c; decimals = d }) e else Unreadable) ≡ Is n k
-        → Made sign a b c d e n k
+        → if◌then◌else◌ {A = Option Numeral} t
+        (Some (record { number = record { sign = sign; point = eqb b 1; digits = c; decimals = d }; length = e })) None
+        ≡ Some n
+        → Made sign a b c d e n
     by true p q =
         record {
           nine = leb-true a 9 (both_right (leb 1 a) (leb a 9) (both_left (from_to 1 9 a) (leb b 1) p));
           points = leb-true b 1 (both_right (from_to 1 9 a) (leb b 1) p);
           is = cc;
-          used = cc;
         }
     by false p q = let never : ◌≡◌ {A = ℕ} 0 1 = cc in absurd (omega arith)
 
-module _ (bs : List ℕ) (n : Number) (k : ℕ) (e : number_in bs ≡ Is n k) where
+module _ (bs : List ℕ) (n : Numeral) (e : number_in bs ≡ Some n) where
   abbrev sign : Sign
   sign = sign_of bs
 
@@ -159,11 +159,11 @@ module _ (bs : List ℕ) (n : Number) (k : ℕ) (e : number_in bs ≡ Is n k) wh
 
   parts :
       Made sign (count is_digit figures) (count is_point figures) (digits_after 0 figures) (decimals_of figures)
-      (sign_length sign + length figures) n k
+      (sign_length sign + length figures) n
   unfolding number_in
-  parts = made_is _ _ _ _ _ _ n k (sym (number_made sign figures) ∙ e)
+  parts = made_is _ _ _ _ _ _ n (sym (number_made sign figures) ∙ e)
 
-  pub number_in_written : Written n
+  pub number_in_written : Written n.number
   number_in_written =
       rw parts.is (record {
         digits = below_ten (0 + count is_digit figures) (omega (arith, parts.nine)) (digits_below 0 0 figures (omega arith));
@@ -171,6 +171,6 @@ module _ (bs : List ℕ) (n : Number) (k : ℕ) (e : number_in bs ≡ Is n k) wh
         whole = λ f. whole figures (omega (arith, parts.points, eqb-false (count is_point figures) 1 f));
       })
 
-  pub number_short : k ≤ length bs
+  pub number_short : n.length ≤ length bs
   number_short =
-      omega (arith, parts.used, run_short is_figure (drop (sign_length sign) bs), length-drop (sign_length sign) bs, sign_short bs)
+      rw parts.is (omega (arith, run_short is_figure (drop (sign_length sign) bs), length-drop (sign_length sign) bs, sign_short bs))

@@ -1,10 +1,10 @@
 -- Document 01, "Data set and blocks": a number as it is written.
 -- "a number: a sign or none, digits with at most one point, one to nine digits in all."
 use Rattle.std.specs.Prelude.{◌+◌, ◌-◌, ◌*◌, ◌&&◌, ◌||◌, ◌∷◌, if◌then◌else◌}
-use Rattle.terms.specs.Common.{ℕ, Bool, List, [], leb, eqb, length, drop}
+use Rattle.terms.specs.Common.{ℕ, Bool, Option, None, Some, List, [], leb, eqb, length, drop}
 use Rattle.terms.specs.Terms.{byte, from_to}
 use Rattle.words.specs.declared.Sign.{Sign, TheVariants.Plain, TheVariants.Plus, TheVariants.Minus}
-use Rattle.words.specs.declared.Numbered.{Numbered, TheVariants.Is, TheVariants.Unreadable}
+use Rattle.words.specs.declared.Numeral.{Numeral}
 
 abbrev pub is_digit : ℕ → Bool
 is_digit b = from_to (byte "0") (byte "9") b
@@ -47,20 +47,23 @@ decimals_of (b ∷ bs) = if is_point b then count is_digit bs else decimals_of b
 unfoldable pub is_numeral : List ℕ → Bool
 is_numeral figures = from_to 1 9 (count is_digit figures) && leb (count is_point figures) 1
 
-unfoldable pub number_by : Sign → List ℕ → Numbered
+unfoldable pub number_by : Sign → List ℕ → Option Numeral
 number_by sign figures =
     if is_numeral figures
     then
-    Is
+    Some
     (record {
-      sign = sign;
-      point = eqb (count is_point figures) 1;
-      digits = digits_after 0 figures;
-      decimals = decimals_of figures;
+      number =
+          record {
+            sign = sign;
+            point = eqb (count is_point figures) 1;
+            digits = digits_after 0 figures;
+            decimals = decimals_of figures;
+          };
+      length = sign_length sign + length figures;
     })
-    (sign_length sign + length figures)
-    else Unreadable
+    else None
 
 -- the number that the bytes begin with. "no digit, a tenth digit or a second point is 15."
-unfoldable pub number_in : List ℕ → Numbered
+unfoldable pub number_in : List ℕ → Option Numeral
 number_in bs = number_by (sign_of bs) (run is_figure (drop (sign_length (sign_of bs)) bs))

@@ -2,7 +2,7 @@
 use Rattle.std.specs.Prelude.{◌+◌, ◌||◌, ◌∷◌, if◌then◌else◌}
 use Rattle.terms.specs.Common.{ℕ, zero, suc, Bool, Option, None, Some, List, [], eqb}
 use Rattle.terms.specs.Terms.{byte, from_to}
-use Rattle.words.specs.{Numbers.number_in, declared.Numbered.Numbered, declared.Numbered.TheVariants.Is, declared.Numbered.TheVariants.Unreadable, declared.Word.Word}
+use Rattle.words.specs.{Numbers.number_in, declared.Numeral.Numeral, declared.Word.Word}
 
 -- "Blanks (space, tab)"
 abbrev pub is_blank : ℕ → Bool
@@ -33,9 +33,9 @@ comment_item None = unreadable
 comment_item (Some k) = gap k
 
 -- "A word is a capital letter and, directly after, a number"
-unfoldable pub word_item : ℕ → ℕ → Numbered → Item
-word_item at letter (Is n k) = word (record { letter = letter; number = n; at = at }) k
-word_item at letter Unreadable = unreadable
+unfoldable pub word_item : ℕ → ℕ → Option Numeral → Item
+word_item at letter (Some n) = word (record { letter = letter; number = n.number; at = at }) n.length
+word_item at letter None = unreadable
 
 unfoldable pub item_at : ℕ → ℕ → List ℕ → Item
 item_at at b bs =

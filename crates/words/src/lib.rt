@@ -32,11 +32,11 @@ pub struct Number {
     pub point: bool,
 }
 
-// What the number reader finds: a number and how many bytes it takes, or nothing that is a number.
+// What the number reader finds: a number, and how many bytes it takes.
 #[derive(Clone, Copy)]
-pub enum Numbered {
-    Is(Number, usize),
-    Unreadable,
+pub struct Numeral {
+    pub number: Number,
+    pub length: usize,
 }
 
 // A word and the place of its letter, a byte of the data.

@@ -1,87 +1,46 @@
-use Rattle.terms.proofs.Common.{◌+◌, ◌≡◌, refl, sym, ◌∙◌, arith, drop, true, false}
+use Rattle.terms.proofs.Common.{◌+◌, ◌≡◌, sym, ◌∙◌, arith, drop, false}
 use Rattle.lines.specs.{Blocks.no_text}
-use Rattle.lines.proofs.Laws.{gaps_end, text_inside, gaps_at_blank, gaps_at_other, gaps_at_open, gaps_at_comment, comment_way, Way, blank_space, blank_tab, blank_not}
+use Rattle.lines.proofs.Laws.{gaps_end, text_inside, gaps_at_blank, gaps_at_other, gaps_at_open, gaps_at_comment, comment_way, blank_is, blank_not}
 use Rattle.lines.proofs.gaps.only_gaps.Goals as goal
 
-pub loop-at-init : goal.loop-at-init
-loop-at-init c = (omega arith, refl)
-
-pub returns-then-text_ends : goal.returns-then-text_ends
-returns-then-text_ends c =
-    sym (c.loop-at.invariant.1 ∙ gaps_end c.args.s.now c.loop-at.i (sym c.text_ends.ensures ∙ c.if-text_ends.true))
-
 pub bounds-s-i : goal.bounds-s-i
-bounds-s-i c =
-    let going : no_text (drop c.loop-at.i c.args.s.now) ≡ false = sym c.text_ends.ensures ∙ c.if-text_ends.false in
-    text_inside c.args.s.now c.loop-at.i going
+bounds-s-i c = text_inside c.args.s.now c.loop-i.i (sym c.text_ends.ensures ∙ c.loop-i-test.true)
 
-pub overflow_add-i : goal.overflow_add-i
-overflow_add-i c =
-    let going : no_text (drop c.loop-at.i c.args.s.now) ≡ false = sym c.text_ends.ensures ∙ c.if-text_ends.false in
-    omega (arith, text_inside c.args.s.now c.loop-at.i going)
+pub loop-i-preserved-in-32 : goal.loop-i-preserved-in-32
+loop-i-preserved-in-32 c =
+    let going : no_text (drop c.loop-i.i c.args.s.now) ≡ false = sym c.text_ends.ensures ∙ c.loop-i-test.true in (
+      omega (arith, text_inside c.args.s.now c.loop-i.i going),
+      c.loop-i.invariant.1 ∙ gaps_at_blank c.args.s.now c.loop-i.i going (blank_is _ c.in-32.is),
+    )
 
-pub comment_end-requires : goal.comment_end-requires
-comment_end-requires c =
-    let going : no_text (drop c.loop-at.i c.args.s.now) ≡ false = sym c.text_ends.ensures ∙ c.if-text_ends.false in
-    omega (arith, text_inside c.args.s.now c.loop-at.i going)
+pub returns-in_default-comment_end : goal.returns-in_default-comment_end
+returns-in_default-comment_end c =
+    let going : no_text (drop c.loop-i.i c.args.s.now) ≡ false = sym c.text_ends.ensures ∙ c.loop-i-test.true in
+    sym
+    (c.loop-i.invariant.1
+    ∙ gaps_at_open c.args.s.now c.loop-i.i going c.in-40.is
+    (sym c.comment_end.ensures ∙ c.in_default-comment_end.is))
+
+pub loop-i-smaller : goal.loop-i-smaller
+loop-i-smaller c =
+    let inside = text_inside c.args.s.now c.loop-i.i (sym c.text_ends.ensures ∙ c.loop-i-test.true) in
+    let w = comment_way c.args.s.now (c.loop-i.i + 1) c.in-Some.next (omega arith) (sym c.comment_end.ensures ∙ c.in-Some.is) in
+    omega (arith, w.is, w.within)
+
+pub loop-i-preserved : goal.loop-i-preserved
+loop-i-preserved c =
+    let going : no_text (drop c.loop-i.i c.args.s.now) ≡ false = sym c.text_ends.ensures ∙ c.loop-i-test.true in
+    let inside = text_inside c.args.s.now c.loop-i.i going in
+    let passed = sym c.comment_end.ensures ∙ c.in-Some.is in (
+      (comment_way c.args.s.now (c.loop-i.i + 1) c.in-Some.next (omega arith) passed).within,
+      c.loop-i.invariant.1 ∙ gaps_at_comment c.args.s.now c.loop-i.i c.in-Some.next going c.in-40.is passed,
+    )
 
 pub returns-in_default : goal.returns-in_default
 returns-in_default c =
-    let going : no_text (drop c.loop-at.i c.args.s.now) ≡ false = sym c.text_ends.ensures ∙ c.if-text_ends.false in
-    sym
-    (c.loop-at.invariant.1
-    ∙ gaps_at_open c.args.s.now c.loop-at.i going c.if-b-eq40.true
-    (sym c.comment_end.ensures ∙ c.in_default.is))
+    let other = c.in_default.in_default-own.rest in
+    let going : no_text (drop c.loop-i.i c.args.s.now) ≡ false = sym c.text_ends.ensures ∙ c.loop-i-test.true in
+    sym (c.loop-i.invariant.1 ∙ gaps_at_other c.args.s.now c.loop-i.i going (blank_not _ other.0.1) other.1)
 
-pub loop-at-smaller-then-b-eq40 : goal.loop-at-smaller-then-b-eq40
-loop-at-smaller-then-b-eq40 c =
-    let going : no_text (drop c.loop-at.i c.args.s.now) ≡ false = sym c.text_ends.ensures ∙ c.if-text_ends.false in
-    let passed : Way c.args.s.now (c.loop-at.i + 1) c.in-Closed.next = let inside = text_inside c.args.s.now c.loop-at.i going in
-    comment_way c.args.s.now (c.loop-at.i + 1) c.in-Closed.next (omega arith)
-    (sym c.comment_end.ensures ∙ c.in-Closed.is) in
-    let w = passed in omega (arith, w.is, w.within)
-
-pub loop-at-preserved-then-b-eq40 : goal.loop-at-preserved-then-b-eq40
-loop-at-preserved-then-b-eq40 c =
-    let going : no_text (drop c.loop-at.i c.args.s.now) ≡ false = sym c.text_ends.ensures ∙ c.if-text_ends.false in
-    let passed : Way c.args.s.now (c.loop-at.i + 1) c.in-Closed.next = let inside = text_inside c.args.s.now c.loop-at.i going in
-    comment_way c.args.s.now (c.loop-at.i + 1) c.in-Closed.next (omega arith)
-    (sym c.comment_end.ensures ∙ c.in-Closed.is) in (
-      passed.within,
-      c.loop-at.invariant.1
-          ∙ gaps_at_comment c.args.s.now c.loop-at.i c.in-Closed.next going
-          c.if-b-eq40.true
-          (sym c.comment_end.ensures ∙ c.in-Closed.is),
-    )
-
-pub returns-then-b-ne9 : goal.returns-then-b-ne9
-returns-then-b-ne9 c =
-    let going : no_text (drop c.loop-at.i c.args.s.now) ≡ false = sym c.text_ends.ensures ∙ c.if-text_ends.false in
-    sym
-    (c.loop-at.invariant.1
-    ∙ gaps_at_other c.args.s.now c.loop-at.i going
-    (blank_not _ c.if-b-ne32.true c.if-b-ne9.true) c.if-b-eq40.false)
-
-pub loop-at-smaller-else-b-ne9 : goal.loop-at-smaller-else-b-ne9
-loop-at-smaller-else-b-ne9 c =
-    let going : no_text (drop c.loop-at.i c.args.s.now) ≡ false = sym c.text_ends.ensures ∙ c.if-text_ends.false in
-    omega (arith, text_inside c.args.s.now c.loop-at.i going)
-
-pub loop-at-preserved-else-b-ne9 : goal.loop-at-preserved-else-b-ne9
-loop-at-preserved-else-b-ne9 c =
-    let going : no_text (drop c.loop-at.i c.args.s.now) ≡ false = sym c.text_ends.ensures ∙ c.if-text_ends.false in (
-      omega (arith, text_inside c.args.s.now c.loop-at.i going),
-      c.loop-at.invariant.1 ∙ gaps_at_blank c.args.s.now c.loop-at.i going (blank_tab _ c.if-b-ne9.false),
-    )
-
-pub loop-at-smaller : goal.loop-at-smaller
-loop-at-smaller c =
-    let going : no_text (drop c.loop-at.i c.args.s.now) ≡ false = sym c.text_ends.ensures ∙ c.if-text_ends.false in
-    omega (arith, text_inside c.args.s.now c.loop-at.i going)
-
-pub loop-at-preserved : goal.loop-at-preserved
-loop-at-preserved c =
-    let going : no_text (drop c.loop-at.i c.args.s.now) ≡ false = sym c.text_ends.ensures ∙ c.if-text_ends.false in (
-      omega (arith, text_inside c.args.s.now c.loop-at.i going),
-      c.loop-at.invariant.1 ∙ gaps_at_blank c.args.s.now c.loop-at.i going (blank_space _ c.if-b-ne32.false),
-    )
+pub returns : goal.returns
+returns c = sym (c.loop-i.invariant.1 ∙ gaps_end c.args.s.now c.loop-i.i (sym c.text_ends.ensures ∙ c.loop-i-test.false))

@@ -1,7 +1,7 @@
 -- `words::numerals::read_figures` meets its contract. What is left gives the same: the figures passed, by the variables, and the bytes
 -- from i on make the number.
 use Rattle.terms.proofs.Common.{[], ◌≡◌, add-zero, arith, slice}
-use Rattle.words.specs.Numbers.{is_figure, sign_length, run}
+use Rattle.words.specs.Numbers.{is_figure, run}
 use Rattle.words.proofs.{Numbers.below_ten}
 use Rattle.words.proofs.Figures.{none_passed, point_passed, second_point, digit_passed, tenth_digit, none_left, none_here, low_byte, high_byte, no_number, some_number}
 use Rattle.words.proofs.numerals.read_figures.Goals as goal
