@@ -1,6 +1,8 @@
 -- What becomes of a name, test by test. Assumes nothing.
-use Rattle.terms.proofs.Common.{ℕ, ◌/◌, ◌%◌, ◌≡◌, Bool, true, false, ◌||◌, eq-eqb, ne_eqb}
-use Rattle.files.specs.{Names.same_file, Names.missing_fate, Names.kind_fate, Names.fate_of, declared.Named.Named}
+use Rattle.std.specs.Prelude.{Result, Ok, Err}
+use Rattle.terms.proofs.Common.{ℕ, ℤ, ◌/◌, ◌%◌, ◌≡◌, Bool, true, false, eq-eqb, ne_eqb}
+use Rattle.files.specs.{Names.same_file, Names.kind_fate, Names.found_fate, Names.fate_of, declared.Named.Named, declared.Filed.Filed}
+use Rattle.files.specs.declared.Unfound.{Unfound, TheVariants.Missing, TheVariants.Failed}
 use Rattle.files.specs.declared.Fate.TheVariants.{New, Old, Read, Link, Folder, Special, Locked, Unknown}
 
 module _ (kind : ℕ) (locked : Bool) where
@@ -21,24 +23,33 @@ module _ (kind : ℕ) (locked : Bool) where
   kind_special n k = rw (ne_eqb kind 8 n, ne_eqb kind 4 k)
 
 module _ (out first second : Named) where
-  pub is_read : (same_file out first || same_file out second) ≡ true → Read ≡ fate_of out first second
+  pub is_first : same_file out first ≡ true → Read ≡ fate_of out first second
   unfolding fate_of
-  is_read e = rw e
+  is_first e = rw e
 
-  module _ (n : (same_file out first || same_file out second) ≡ false) where
-    pub is_link : out.link ≡ true → Link ≡ fate_of out first second
+  module _ (n : same_file out first ≡ false) where
+    pub is_second : same_file out second ≡ true → Read ≡ fate_of out first second
     unfolding fate_of
-    is_link e = rw (n, e)
+    is_second e = rw (n, e)
 
-    module _ (l : out.link ≡ false) where
-      pub is_there : out.there ≡ true → kind_fate (out.mode / 4096 % 16) out.locked ≡ fate_of out first second
+    module _ (m : same_file out second ≡ false) where
+      pub is_link : out.link ≡ true → Link ≡ fate_of out first second
       unfolding fate_of
-      is_there e = rw (n, l, e)
+      is_link e = rw (n, m, e)
 
-      pub is_new : out.there ≡ false → out.missing ≡ true → New ≡ fate_of out first second
-      unfolding fate_of missing_fate
-      is_new e m = rw (n, l, e, m)
+      pub is_found : out.link ≡ false → found_fate out.file out.locked ≡ fate_of out first second
+      unfolding fate_of
+      is_found e = rw (n, m, e)
 
-      pub is_unknown : out.there ≡ false → out.missing ≡ false → Unknown ≡ fate_of out first second
-      unfolding fate_of missing_fate
-      is_unknown e m = rw (n, l, e, m)
+module _ (locked : Bool) {file : Result Filed Unfound} where
+  pub is_there : {x : Filed} → file ≡ Ok x → kind_fate (x.mode / 4096 % 16) locked ≡ found_fate file locked
+  unfolding found_fate
+  is_there e = rw e
+
+  pub is_new : {why : Unfound} → file ≡ Err why → why ≡ Missing → New ≡ found_fate file locked
+  unfolding found_fate
+  is_new e m = rw (e, m)
+
+  pub is_unknown : {why : Unfound} {error : ℤ} → file ≡ Err why → why ≡ Failed error → Unknown ≡ found_fate file locked
+  unfolding found_fate
+  is_unknown e m = rw (e, m)

@@ -1,4 +1,2 @@
 pub mod Fates
 pub mod Naming
-pub mod Zeros
-pub mod Missing

@@ -1,16 +1,16 @@
 -- The file beside a path, which has the bytes until all of them are there. A number's six figures take the place of the X's, so
 -- that no other file has the name.
-use Rattle.std.specs.Prelude.{◌+◌, ◌-◌, ◌/◌, ◌%◌, ◌≡◌, ◌≤◌, ◌∷◌, ◌++◌, if◌then◌else◌}
-use Rattle.terms.specs.Common.{ℕ, List, [], ltb, length, take, paste}
+use Rattle.std.specs.Prelude.{◌+◌, ◌-◌, ◌/◌, ◌%◌, ◌≡◌, ◌≤◌, ◌∷◌, ◌++◌, if◌then◌else◌, option_map, IfSome}
+use Rattle.terms.specs.Common.{ℕ, Option, None, Some, List, [], ltb, length, take, paste}
 use Rattle.io.specs.Counts.{IsPrefixLen}
 use Rattle.terms.specs.Terms.{bytes}
 
 unfoldable pub part_of : List ℕ → List ℕ
 part_of path = path ++ bytes ".part-XXXXXX"
 
--- its name in a buffer of so many bytes, which has to hold a 0 after it; no byte where the name is too long
-unfoldable pub part_in : ℕ → List ℕ → List ℕ
-part_in room path = if ltb (length path + 12) room then part_of path else []
+-- its name in a buffer of so many bytes, which has to hold a 0 after it; none where the name is too long
+unfoldable pub part_in : ℕ → List ℕ → Option (List ℕ)
+part_in room path = if ltb (length path + 12) room then Some (part_of path) else None
 
 -- a text written over a buffer from a place on, and the place after it
 pub record Puts (was : List ℕ) (at : ℕ) (text is : List ℕ) (next : ℕ) : Type 0 where
@@ -18,9 +18,9 @@ pub record Puts (was : List ℕ) (at : ℕ) (text is : List ℕ) (next : ℕ) : 
   pub bytes : is ≡ paste was at text (length text)
 
 -- the name from the buffer's first byte on, and how many bytes it has
-pub record Names (path was is : List ℕ) (n : ℕ) : Type 0 where
-  pub counts : IsPrefixLen n is
-  pub name : take n is ≡ part_in (length was) path
+pub record Names (path was is : List ℕ) (n : Option ℕ) : Type 0 where
+  pub counts : IfSome n (λ k. IsPrefixLen k is)
+  pub name : option_map (λ k. take k is) n ≡ part_in (length was) path
 
 -- a number's last figure, as a byte
 abbrev pub figure : ℕ → ℕ

@@ -1,16 +1,15 @@
-// Room for lists and pictures. A call hands an array over as an unknown of a known length, so that no proof writes a million
-// zeros out.
+// Room for lists, pictures and the like. A call hands an array over as an unknown of a known length, so that no proof writes a
+// million zeros out.
 ghost use Rattle.std.specs.Prelude.{◌≡◌};
 ghost use Rattle.terms.specs.Common.{length};
 
-pub fn list_room() -> [u8; 1048576]
-    ensures { 1048576 ≡ length result }
-{
-    [0; 1048576]
-}
+// The bytes that a list takes where a command does not say how many, and at most.
+pub const LIST_ROOM: usize = 1_048_576;
 
-pub fn picture_room() -> [u8; 4194304]
-    ensures { 4194304 ≡ length result }
+pub const PICTURE_ROOM: usize = 4_194_304;
+
+pub fn room<const N: usize>() -> [u8; N]
+    ensures { N ≡ length result }
 {
-    [0; 4194304]
+    [0; N]
 }

@@ -11,24 +11,33 @@ mod status;
 mod system;
 mod write_files;
 
-pub use buffers::{list_room, picture_room};
+pub use buffers::{LIST_ROOM, PICTURE_ROOM, room};
 pub use messages::{begin_line, complain, complain_record, complain_why, show_text, write_line};
 pub use placing::{Spot, spot_for};
-pub use read_files::{Got, read_start, read_whole};
+pub use read_files::{read_start, read_whole};
 pub use system::{STDERR_FILENO, STDIN_FILENO, STDOUT_FILENO};
 pub use write_files::write_whole;
 
-// What the system says of a name. Device, number and mode are those of the file that the name leads to, links followed, and
-// mean something only where one is there.
+// What the system says of a file. Its numbers are the system's own, and its kind is four bits of the mode.
 #[derive(Clone, Copy)]
-pub struct Named {
+pub struct Filed {
     pub device: u64,
     pub number: u64,
     pub mode: u32,
-    pub error: i32,
-    pub there: bool,
-    // Where no file is there: just because nothing has this name, and not for another error.
-    pub missing: bool,
+}
+
+// Why a name leads to no file: nothing has it, or the system tells another error, by the system's own number.
+#[derive(Clone, Copy)]
+pub enum Unfound {
+    Missing,
+    Failed(i32),
+}
+
+// What the system says of a name.
+#[derive(Clone, Copy)]
+pub struct Named {
+    // The file that the name leads to, links followed.
+    pub file: Result<Filed, Unfound>,
     // The name itself is a symbolic link.
     pub link: bool,
     // This user may not write the file, which is not asked of one that is only read, nor behind a link.
@@ -36,7 +45,7 @@ pub struct Named {
 }
 
 // What becomes of a name under which a command wants to write.
-#[derive(Clone, Copy)]
+#[derive(Clone, Copy, PartialEq, Eq)]
 pub enum Fate {
     New,
     Old,

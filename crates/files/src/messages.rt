@@ -35,26 +35,13 @@ pub fn complain_why(err: i32, name: &[u8], what: &[u8], why: Error) {
 pub fn complain_error(err: i32, name: &[u8], what: &[u8], error: i32) {
     begin_line(err, name);
     io::write_all(err, what);
-    let reason = reason_of(error);
-    if reason == 0 {
-        io::write_all(err, b": the system's error ");
-        io::print_decimal(err, number_of(error));
-        io::write_all(err, b"\n");
+    if let Some(reason) = reason_of(error) {
+        io::write_all(err, reason);
         return;
     }
-    write_line(
-        err,
-        b": no such file or folder\n\
-          : a file stands where a folder should\n\
-          : it is a folder\n\
-          : not allowed\n\
-          : no space left\n\
-          : the file would be too large\n\
-          : the name is too long\n\
-          : links lead in a circle\n\
-          : the name is no text in UTF-8\n",
-        reason,
-    );
+    io::write_all(err, b": the system's error ");
+    io::print_decimal(err, u64::try_from(error).unwrap_or(0));
+    io::write_all(err, b"\n");
 }
 
 // A list that breaks off, or is none, by the place where no record can be read.
@@ -65,56 +52,30 @@ pub fn complain_record(err: i32, name: &[u8], place: usize) {
     io::write_all(err, b"\n");
 }
 
-// The line above that tells a reason, or 0.
-fn reason_of(error: i32) -> u64 {
-    if error == ENOENT {
-        return 1;
+// What tells a reason, to the line's end. Errors are the system's own numbers.
+fn reason_of(error: i32) -> Option<&'static [u8]> {
+    match error {
+        ENOENT => Some(b": no such file or folder\n"),
+        ENOTDIR => Some(b": a file stands where a folder should\n"),
+        EISDIR => Some(b": it is a folder\n"),
+        EACCES | EPERM | EROFS => Some(b": not allowed\n"),
+        ENOSPC => Some(b": no space left\n"),
+        EFBIG => Some(b": the file would be too large\n"),
+        ENAMETOOLONG => Some(b": the name is too long\n"),
+        ELOOP => Some(b": links lead in a circle\n"),
+        EILSEQ => Some(b": the name is no text in UTF-8\n"),
+        _ => None,
     }
-    if error == ENOTDIR {
-        return 2;
-    }
-    if error == EISDIR {
-        return 3;
-    }
-    if (error == EACCES) | (error == EPERM) | (error == EROFS) {
-        return 4;
-    }
-    if error == ENOSPC {
-        return 5;
-    }
-    if error == EFBIG {
-        return 6;
-    }
-    if error == ENAMETOOLONG {
-        return 7;
-    }
-    if error == ELOOP {
-        return 8;
-    }
-    if error == EILSEQ {
-        return 9;
-    }
-    0
 }
 
 // A line of a text by its number, the first being 1; whether all of it was written.
 pub fn write_line(fd: i32, text: &[u8], number: u64) -> bool {
     let mut at: usize = 0;
-    let mut left = number;
-    while 1 < left {
+    for _ in 1..number {
         at = lines::next_block(text, at);
-        left -= 1;
     }
     let end = lines::next_block(text, at);
     io::write_all(fd, &text[at..end])
-}
-
-// The number of an error, which is none below 0.
-fn number_of(error: i32) -> u64 {
-    if error < 0 {
-        return 0;
-    }
-    error as u64
 }
 
 // A line's bytes so that they stay on one line and each takes one place: a tab as a blank, other bytes below the blank and
@@ -138,15 +99,11 @@ fn shown(b: u8, last: u8) -> u8
 fn put_shown(text: &[u8], last: u8, out: &mut [u8]) -> usize
     ensures { IsPrefixLen result out.new }
 {
-    let mut i = 0;
-    while i < text.len() {
-        if out.len() <= i {
-            return i;
-        }
+    let n = text.len().min(out.len());
+    for i in 0..n {
         out[i] = shown(text[i], last);
-        i += 1;
     }
-    i
+    n
 }
 
 // Text of somebody else's, of 65,536 bytes at most; bytes above the last are not shown as they are.

@@ -3,18 +3,15 @@ ghost use Rattle.std.specs.Prelude.{◌≡◌, ◌+◌, ◌≤◌};
 ghost use Rattle.terms.specs.Common.{length};
 ghost use Rattle.files.specs.Parts.{Puts, Names, Numbered, figures, figure};
 
-// The path with `.part-XXXXXX` after it, or no byte where there is no room for that and a 0.
-pub fn part_name(path: &[u8], name: &mut [u8]) -> usize
+// The path with `.part-XXXXXX` after it, and how many bytes that are; none where there is no room for it and a 0.
+pub fn part_name(path: &[u8], name: &mut [u8]) -> Option<usize>
     ensures { Names path.now name.old name.new result }
 {
-    if name.len() <= path.len() {
-        return 0;
-    }
-    if name.len() - path.len() <= 12 {
-        return 0;
+    if name.len().saturating_sub(path.len()) <= 12 {
+        return None;
     }
     let n = put(name, 0, path);
-    put(name, n, b".part-XXXXXX")
+    Some(put(name, n, b".part-XXXXXX"))
 }
 
 // A text written over a buffer from a place on; answers the place after it.
@@ -22,12 +19,9 @@ pub fn put(name: &mut [u8], at: usize, text: &[u8]) -> usize
     requires { at + length text.now ≤ length name.old }
     ensures { Puts name.old at text.now name.new result }
 {
-    let mut i = 0;
-    while i < text.len() {
-        name[at + i] = text[i];
-        i += 1;
-    }
-    at + i
+    let next = at + text.len();
+    name[at..next].copy_from_slice(text);
+    next
 }
 
 // The six X's at a name's end replaced by the six figures of a number.

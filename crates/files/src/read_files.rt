@@ -1,7 +1,7 @@
 // A file's bytes. An error is told from the file's end, so that a folder, or a file that breaks off, is not taken for a short
 // file.
 ghost use Rattle.terms.specs.Common.{length};
-ghost use Rattle.std.specs.Prelude.{IfOk, ◌≡◌, ◌+◌, ◌≤◌};
+ghost use Rattle.std.specs.Prelude.{IfOk, IfSome, ◌+◌, ◌≤◌};
 ghost use Rattle.io.specs.Counts.{IsPrefixLen};
 
 use crate::messages::{begin_line, complain_why};
@@ -10,44 +10,33 @@ use std::fs;
 use std::io::{Read, Result};
 use std::rt::Files;
 
-// How many bytes were read to the start of the buffer, and whether all went well.
-#[derive(Clone, Copy)]
-pub struct Got {
-    pub fine: bool,
-    pub count: usize,
-}
-
-// The file's bytes from its start on, as many as the buffer takes. Where not all goes well, a line says what is wrong.
-pub fn read_start(rt: &impl Files, path: &[u8], buffer: &mut [u8], err: i32) -> Got
-    ensures { IsPrefixLen result.count buffer.new }
+// The file's bytes from its start on, as many as the buffer takes; how many they are. Where not all goes well, a line says what
+// is wrong.
+pub fn read_start(rt: &impl Files, path: &[u8], buffer: &mut [u8], err: i32) -> Option<usize>
+    ensures { IfSome result (λ count. IsPrefixLen count buffer.new) }
 {
-    read_file(rt, path, buffer, false, err)
+    let mut file = opened(rt, path, err)?;
+    filled(&mut file, path, buffer, err)
 }
 
 // All of the file's bytes: one that the buffer does not take is too long.
-pub fn read_whole(rt: &impl Files, path: &[u8], buffer: &mut [u8], err: i32) -> Got
-    ensures { IsPrefixLen result.count buffer.new }
+pub fn read_whole(rt: &impl Files, path: &[u8], buffer: &mut [u8], err: i32) -> Option<usize>
+    ensures { IfSome result (λ count. IsPrefixLen count buffer.new) }
 {
-    read_file(rt, path, buffer, true, err)
-}
-
-fn nothing() -> Got
-    ensures { result.count ≡ 0 }
-{
-    Got {
-        fine: false,
-        count: 0,
+    let mut file = opened(rt, path, err)?;
+    let count = filled(&mut file, path, buffer, err)?;
+    if count == buffer.len() && goes_on(&mut file, path, count, err) {
+        return None;
     }
+    Some(count)
 }
 
-fn read_file(rt: &impl Files, path: &[u8], buffer: &mut [u8], whole: bool, err: i32) -> Got
-    ensures { IsPrefixLen result.count buffer.new }
-{
+fn opened<R: Files>(rt: &R, path: &[u8], err: i32) -> Option<R::File> {
     match open_read(rt, path) {
-        Ok(mut file) => read_open(&mut file, path, buffer, whole, err),
+        Ok(file) => Some(file),
         Err(why) => {
             complain_why(err, path, b"cannot be opened", why);
-            nothing()
+            None
         }
     }
 }
@@ -56,21 +45,14 @@ fn open_read<R: Files>(rt: &R, path: &[u8]) -> Result<R::File> {
     fs::open(rt, spelt(path)?)
 }
 
-fn read_open(file: &mut impl Read, path: &[u8], buffer: &mut [u8], whole: bool, err: i32) -> Got
-    ensures { IsPrefixLen result.count buffer.new }
+fn filled(file: &mut impl Read, path: &[u8], buffer: &mut [u8], err: i32) -> Option<usize>
+    ensures { IfSome result (λ count. IsPrefixLen count buffer.new) }
 {
     match fill(file, buffer) {
-        Ok(count) => {
-            if whole & (count == buffer.len()) {
-                if goes_on(file, path, count, err) {
-                    return nothing();
-                }
-            }
-            Got { fine: true, count }
-        }
+        Ok(count) => Some(count),
         Err(why) => {
             complain_why(err, path, b"cannot be read", why);
-            nothing()
+            None
         }
     }
 }

@@ -13,11 +13,10 @@ use std::rt::Files;
 // Answers whether the bytes are there. Where not, a line says why, and nothing new stands at the path or beside it.
 pub fn write_whole(rt: &impl Files, path: &[u8], bytes: &[u8], spot: Spot, err: i32) -> bool {
     let mut name = io::buffer();
-    let n = part_name(path, &mut name);
-    if n == 0 {
+    let Some(n) = part_name(path, &mut name) else {
         complain(err, path, b"cannot be written: the name is too long");
         return false;
-    }
+    };
     match write_by(rt, &mut name[..n], path, bytes, spot) {
         Ok(()) => true,
         Err(why) => {
@@ -30,11 +29,7 @@ pub fn write_whole(rt: &impl Files, path: &[u8], bytes: &[u8], spot: Spot, err: 
 // The bytes by way of a new file, which is removed where not all goes well.
 fn write_by(rt: &impl Files, part: &mut [u8], path: &[u8], bytes: &[u8], spot: Spot) -> Result<()> {
     let file = create_own(rt, part)?;
-    let filled = fill_part(file, bytes, spot);
-    let placed = match filled {
-        Ok(()) => rename(rt, part, path),
-        Err(why) => Err(why),
-    };
+    let placed = fill_part(file, bytes, spot).and_then(|()| rename(rt, part, path));
     if placed.is_err() {
         let _ = remove(rt, part);
     }
@@ -68,8 +63,8 @@ fn create_new<R: Files>(rt: &R, name: &[u8]) -> Result<R::File> {
 // All bytes, and the rights of the file that is replaced, brought to the device. The new file is closed.
 fn fill_part<F: Write + OpenFile + Drop>(mut file: F, bytes: &[u8], spot: Spot) -> Result<()> {
     file.write_all(bytes)?;
-    if spot.old {
-        file.set_permissions(Permissions::from_mode(spot.mode))?;
+    if let Some(mode) = spot.mode {
+        file.set_permissions(Permissions::from_mode(mode))?;
     }
     file.sync_all()
 }

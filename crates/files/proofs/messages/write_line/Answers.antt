@@ -6,10 +6,10 @@ use Rattle.files.proofs.messages.write_line.Goals as goal
 inside : (l : List ℕ) (at : ℕ) {next : ℕ} → next ≡ at + length_from (drop at l) → at ≤ length l → next ≤ length l
 inside l at e h = omega (arith, length_bound (drop at l), length-drop at l)
 
-pub loop-left-preserved : goal.loop-left-preserved
-loop-left-preserved c =
-    inside c.args.text.now c.loop-left.at c.next_block-at.ensures c.loop-left.invariant
+pub loop-preserved : goal.loop-preserved
+loop-preserved c =
+    inside c.args.text.now c.loop.at c.next_block-at.ensures c.loop.invariant
 
 pub slice_bounds-write_all-end : goal.slice_bounds-write_all-end
 slice_bounds-write_all-end c =
-    inside c.args.text.now c.loop-left.at c.next_block-end.ensures c.loop-left.invariant
+    inside c.args.text.now c.loop.at c.next_block-end.ensures c.loop.invariant

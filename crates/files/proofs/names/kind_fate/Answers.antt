@@ -1,15 +1,16 @@
 -- `files::names::kind_fate` meets its contract.
+use Rattle.terms.proofs.Common.{rules}
 use Rattle.files.proofs.{Fates.kind_locked, Fates.kind_old, Fates.kind_folder, Fates.kind_special}
 use Rattle.files.proofs.names.kind_fate.Goals as goal
 
-pub returns-then-locked : goal.returns-then-locked
-returns-then-locked c = kind_locked _ _ c.if-kind-eq-REGULAR.true c.if-locked.true
+pub returns-in-8 : goal.returns-in-8
+returns-in-8 c = kind_locked _ _ c.in-8.is c.if-locked.true
 
-pub returns-then-kind-eq-REGULAR : goal.returns-then-kind-eq-REGULAR
-returns-then-kind-eq-REGULAR c = kind_old _ _ c.if-kind-eq-REGULAR.true c.if-locked.false
+pub returns-in-8-2 : goal.returns-in-8-2
+returns-in-8-2 c = kind_old _ _ c.in-8.is c.if-locked.false
 
-pub returns-then-kind-eq-FOLDER : goal.returns-then-kind-eq-FOLDER
-returns-then-kind-eq-FOLDER c = kind_folder _ _ c.if-kind-eq-REGULAR.false c.if-kind-eq-FOLDER.true
+pub returns-in-4 : goal.returns-in-4
+returns-in-4 c = kind_folder _ _ (search rules) c.in-4.is
 
-pub returns : goal.returns
-returns c = kind_special _ _ c.if-kind-eq-REGULAR.false c.if-kind-eq-FOLDER.false
+pub returns-in_default : goal.returns-in_default
+returns-in_default c = kind_special c.args.kind c.args.locked (search rules) (search rules)

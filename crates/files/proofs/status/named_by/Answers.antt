@@ -1,9 +1,7 @@
--- `files::status::named_by` meets its contract: a name that is too long, one that the system is asked about, and one that is no
--- text.
-use Rattle.terms.proofs.Common.{arith}
-use Rattle.files.proofs.Missing.{not_there}
+-- `files::status::named_by` meets its contract: a name that is too long is not asked about.
+use Rattle.files.specs.Names.{named_of}
 use Rattle.files.proofs.status.named_by.Goals as goal
 
-pub returns-in-Err : goal.returns-in-Err
-returns-in-Err g c =
-    record { long = λ h. absurd (omega (arith, h, c.if-path-ge-PATH_MAX.false)); missing = not_there _ _ _ _ _ _ c.named_of.ensures }
+pub returns-then-path-ge-PATH_MAX : goal.returns-then-path-ge-PATH_MAX
+unfolding named_of
+returns-then-path-ge-PATH_MAX g c = record { long = λ h. c.named_of.ensures }
