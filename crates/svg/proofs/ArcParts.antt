@@ -1,5 +1,5 @@
 -- An arc that is drawn: its quarters and its extremes one by one. Assumes nothing.
-use Rattle.terms.proofs.Common.{ℕ, zero, suc, ◌-◌, ◌≤◌, ◌<◌, ◌≡◌, true, false, List, arith}
+use Rattle.terms.proofs.Common.{ℕ, zero, suc, ◌+◌, ◌-◌, ◌≤◌, ◌<◌, ◌≡◌, true, false, List, arith}
 use Rattle.terms.specs.Terms.{bytes}
 use Rattle.lengths.specs.declared.Flat.{Flat}
 use Rattle.svg.specs.{Text.Fills, Text.filled, Turns.quarter_on, Turns.soon, declared.SeenArc.SeenArc}
@@ -17,16 +17,16 @@ module _ (s : SeenArc) (d : Flat) where
   quarters_done out next zero h = fills_none out next
   quarters_done out next (suc n) h = absurd (omega arith)
 
+  -- after i of m quarters, one more
   pub quarters_on :
-      {out mid is : List ℕ} {next k last : ℕ} (n : ℕ) → 0 < n → soon s.turn d s.end ≡ false
+      {out mid is : List ℕ} {next k last : ℕ} (m i : ℕ) → i < m → soon s.turn d s.end ≡ false
       → Fills out next (piece s (seen_on s (quarter_on s.turn d))) mid k
-      → Fills mid k (quarters s (n - 1) (quarter_on s.turn d)) is last
-      → Fills out next (quarters s n d) is last
+      → Fills mid k (quarters s (m - (i + 1)) (quarter_on s.turn d)) is last
+      → Fills out next (quarters s (m - i) d) is last
   unfolding quarters
-  quarters_on zero h e p q = absurd (omega arith)
-  quarters_on (suc n) h e p q =
-      let m : suc n - 1 ≡ n = omega arith in
-      rw e (fills_then p (rw m at q))
+  quarters_on m i h e p q =
+      let n : m - i ≡ suc (m - (i + 1)) = omega arith in
+      rw (n, e) (fills_then p q)
 
   pub extreme_not : (out : List ℕ) (next : ℕ) → passes s d ≡ false → Fills out next (extreme s d) out next
   unfolding extreme
@@ -43,13 +43,13 @@ module _ (s : SeenArc) (d : Flat) where
   extremes_done out next zero h = fills_none out next
   extremes_done out next (suc n) h = absurd (omega arith)
 
+  -- after i of m extremes, one more
   pub extremes_on :
-      {out mid is : List ℕ} {next k last : ℕ} (n : ℕ) → 0 < n
+      {out mid is : List ℕ} {next k last : ℕ} (m i : ℕ) → i < m
       → Fills out next (extreme s d) mid k
-      → Fills mid k (extremes s (n - 1) (quarter_on true d)) is last
-      → Fills out next (extremes s n d) is last
+      → Fills mid k (extremes s (m - (i + 1)) (quarter_on true d)) is last
+      → Fills out next (extremes s (m - i) d) is last
   unfolding extremes
-  extremes_on zero h p q = absurd (omega arith)
-  extremes_on (suc n) h p q =
-      let m : suc n - 1 ≡ n = omega arith in
-      fills_then p (rw m at q)
+  extremes_on m i h p q =
+      let n : m - i ≡ suc (m - (i + 1)) = omega arith in
+      rw n (fills_then p q)

@@ -16,18 +16,10 @@ use records::Arc;
 fn is_round(view: View, plane: Plane) -> bool
     ensures { result ≡ is_round view plane }
 {
-    match view {
-        View::Above => match plane {
-            Plane::G17 => true,
-            Plane::G18 => false,
-            Plane::G19 => false,
-        },
-        View::Side => match plane {
-            Plane::G17 => false,
-            Plane::G18 => true,
-            Plane::G19 => false,
-        },
-    }
+    matches!(
+        (view, plane),
+        (View::Above, Plane::G17) | (View::Side, Plane::G18)
+    )
 }
 
 fn turn_seen(view: View, turn: bool) -> bool
@@ -86,14 +78,12 @@ fn put_quarters(out: &mut [u8], at: usize, s: SeenArc) -> usize
 {
     let mut next = at;
     let mut d = s.start;
-    let mut left: u32 = 3;
-    while 0 < left {
+    for _ in 0..3u32 {
         if is_soon(s.turn, d, s.end) {
             return next;
         }
         d = quarter_on(s.turn, d);
         next = put_piece(out, next, s, seen_on(s, d));
-        left -= 1;
     }
     next
 }
@@ -119,11 +109,9 @@ fn put_extremes(out: &mut [u8], at: usize, s: SeenArc) -> usize
         first: radius,
         second: Len::zero(),
     };
-    let mut left: u32 = 4;
-    while 0 < left {
+    for _ in 0..4u32 {
         let here = e;
         e = quarter_on(true, e);
-        left -= 1;
         if !is_passed(s, here) {
             continue;
         }

@@ -20,10 +20,8 @@ pub fn put_text(out: &mut [u8], at: usize, text: &[u8]) -> usize
     ensures { Fills out.old at text.now out.new result }
 {
     let mut next = at;
-    let mut i = 0;
-    while i < text.len() {
-        next = put_byte(out, next, text[i]);
-        i += 1;
+    for &b in text {
+        next = put_byte(out, next, b);
     }
     next
 }
@@ -36,10 +34,10 @@ fn put_digits(out: &mut [u8], at: usize, most: u32, n: u64) -> usize
         return at;
     }
     if n < 10 {
-        return put_byte(out, at, 48 + n as u8);
+        return put_byte(out, at, b'0' + n as u8);
     }
     let last = put_digits(out, at, most - 1, n / 10);
-    put_byte(out, last, 48 + (n % 10) as u8)
+    put_byte(out, last, b'0' + (n % 10) as u8)
 }
 
 fn put_number(out: &mut [u8], at: usize, n: Len) -> usize
@@ -47,7 +45,7 @@ fn put_number(out: &mut [u8], at: usize, n: Len) -> usize
 {
     let size = n.apart(Len::zero());
     if n.below(Len::zero()) {
-        let next = put_byte(out, at, 45);
+        let next = put_byte(out, at, b'-');
         return put_digits(out, next, 20, size);
     }
     put_digits(out, at, 20, size)
@@ -66,13 +64,10 @@ pub fn put_form(out: &mut [u8], at: usize, form: &[u8], a: Flat, b: Flat) -> usi
     ensures { Fills out.old at (filled form.now a b) out.new result }
 {
     let mut next = at;
-    let mut i = 0;
     let mut one = a;
     let mut two = b;
-    while i < form.len() {
-        let c = form[i];
-        i += 1;
-        if c != 95 {
+    for &c in form {
+        if c != b'_' {
             next = put_byte(out, next, c);
             continue;
         }

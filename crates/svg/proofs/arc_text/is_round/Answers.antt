@@ -1,33 +1,31 @@
--- `svg::arc_text::is_round` meets its contract: view by view and plane by plane.
-use Rattle.svg.specs.ArcText.{is_round}
+-- `svg::arc_text::is_round` meets its contract: from each side one plane is seen round.
+use Rattle.terms.proofs.Common.{◌≡◌, refl, false}
+use Rattle.codes.specs.declared.Plane.{Plane, TheVariants.G17, TheVariants.G18, TheVariants.G19}
+use Rattle.svg.specs.{ArcText.is_round, declared.View.TheVariants.Above, declared.View.TheVariants.Side}
 use Rattle.svg.proofs.arc_text.is_round.Goals as goal
 
-pub returns-in-G17 : goal.returns-in-G17
+flat_above : (p : Plane) → (p ≡ G17 → ⊥) → false ≡ is_round Above p
 unfolding is_round
-returns-in-G17 c =
-    rw (c.in-G17.is, c.in-Above.is)
+flat_above G17 h = absurd (h refl)
+flat_above G18 h = refl
+flat_above G19 h = refl
 
-pub returns-in-G18 : goal.returns-in-G18
+flat_aside : (p : Plane) → (p ≡ G18 → ⊥) → false ≡ is_round Side p
 unfolding is_round
-returns-in-G18 c =
-    rw (c.in-G18.is, c.in-Above.is)
+flat_aside G17 h = refl
+flat_aside G18 h = absurd (h refl)
+flat_aside G19 h = refl
 
-pub returns-in-G19 : goal.returns-in-G19
+pub returns-in-Above-G17 : goal.returns-in-Above-G17
 unfolding is_round
-returns-in-G19 c =
-    rw (c.in-G19.is, c.in-Above.is)
+returns-in-Above-G17 c = rw (c.in-Above-G17.is-0, c.in-Above-G17.is-1)
 
-pub returns-in-G17-plane : goal.returns-in-G17-plane
+pub returns-in-Above-G17-2 : goal.returns-in-Above-G17-2
 unfolding is_round
-returns-in-G17-plane c =
-    rw (c.in-G17-plane.is, c.in-Side.is)
+returns-in-Above-G17-2 c = rw (c.in-Above-G17.is-0, c.in-Above-G17.is-1)
 
-pub returns-in-G18-plane : goal.returns-in-G18-plane
-unfolding is_round
-returns-in-G18-plane c =
-    rw (c.in-G18-plane.is, c.in-Side.is)
+pub returns-in_default : goal.returns-in_default
+returns-in_default c = rw c.in_default.is-0 (flat_above c.args.plane c.in_default.not-G17-1)
 
-pub returns-in-G19-plane : goal.returns-in-G19-plane
-unfolding is_round
-returns-in-G19-plane c =
-    rw (c.in-G19-plane.is, c.in-Side.is)
+pub returns-in_default-2 : goal.returns-in_default-2
+returns-in_default-2 c = rw c.in_default.is-0 (flat_aside c.args.plane c.in_default.not-G18-1)
