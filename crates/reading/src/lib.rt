@@ -72,7 +72,7 @@ pub fn item_at(s: &[u8], i: usize) -> Result<Item, Refusal>
             Ok(Item::Gap(after))
         }
         letter @ b'A'..=b'Z' => {
-            let Some(numeral) = words::read_number(s, next, s.len()) else {
+            let Some(numeral) = words::read_number(&s[next..]) else {
                 return Err(Refusal::Unreadable);
             };
             let word = Word {

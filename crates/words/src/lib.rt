@@ -15,7 +15,7 @@ use lengths::Len;
 pub use numerals::{read_number, sign_length, sign_of};
 
 // The sign that a number is written with.
-#[derive(Clone, Copy)]
+#[derive(Clone, Copy, PartialEq, Eq)]
 pub enum Sign {
     Plain,
     Plus,
@@ -192,8 +192,7 @@ fn signed(sign: Sign, n: u64) -> Len
 {
     let z = Len::of_count(n);
     match sign {
-        Sign::Plain => z,
-        Sign::Plus => z,
+        Sign::Plain | Sign::Plus => z,
         Sign::Minus => z.negated(),
     }
 }
@@ -209,12 +208,7 @@ fn checked(ok: bool, z: Len) -> Value
 pub fn is_plain(n: Number) -> bool
     ensures { result ≡ is_plain n }
 {
-    let sign = n.sign;
-    match sign {
-        Sign::Plain => !n.point,
-        Sign::Plus => false,
-        Sign::Minus => false,
-    }
+    n.sign == Sign::Plain && !n.point
 }
 
 // The size is tested without its sign. It fits: nine digits and four more are below 2 ^ 63 units, in inch too.

@@ -1,28 +1,19 @@
--- `words::is_plain` meets its contract, sign by sign.
-use Rattle.terms.proofs.Common.{rules}
-use Rattle.words.specs.Values.{unsigned, is_plain}
+-- `words::is_plain` meets its contract: the sign that is no sign, and no point.
+use denote.Enum.Bare.{sameb}
+use Rattle.terms.proofs.Common.{◌≡◌, refl, sym, ◌∙◌}
+use Rattle.words.specs.{Values.unsigned, Values.is_plain, declared.Sign.Sign, declared.Sign.TheVariants.Plain, declared.Sign.TheVariants.Plus, declared.Sign.TheVariants.Minus, contracts.Sign.the_type}
 use Rattle.words.proofs.is_plain.Goals as goal
 
-pub enum_told-1 : goal.enum_told-1
-unfolding unsigned is_plain
-enum_told-1 c = search rules
+same_plain : (sign : Sign) → sameb the_type sign Plain ≡ unsigned sign
+unfolding unsigned
+same_plain Plain = refl
+same_plain Plus = refl
+same_plain Minus = refl
 
-pub enum_told-in-Plus : goal.enum_told-in-Plus
-unfolding unsigned is_plain
-enum_told-in-Plus c = search rules
+pub returns-then-eq : goal.returns-then-eq
+unfolding is_plain
+returns-then-eq c = rw (sym (same_plain c.args.n.sign) ∙ sym c.if-eq.ensures)
 
-pub enum_told-in-Minus : goal.enum_told-in-Minus
-unfolding unsigned is_plain
-enum_told-in-Minus c = search rules
-
-pub returns-in-Plain : goal.returns-in-Plain
-unfolding unsigned is_plain
-returns-in-Plain c = rw c.in-Plain.is
-
-pub returns-in-Plus : goal.returns-in-Plus
-unfolding unsigned is_plain
-returns-in-Plus c = rw c.in-Plus.is
-
-pub returns-in-Minus : goal.returns-in-Minus
-unfolding unsigned is_plain
-returns-in-Minus c = rw c.in-Minus.is
+pub returns-else-eq : goal.returns-else-eq
+unfolding is_plain
+returns-else-eq c = c.if-eq.false ∙ rw (sym (same_plain c.args.n.sign) ∙ sym c.eq.ensures ∙ c.if-eq.false)
