@@ -1,7 +1,7 @@
 -- Laws of the rule of a number: what is known of every number that is read, and what its figures have to do with the text.
 -- Assumes nothing.
 use Rattle.std.specs.Prelude.{if◌then◌else◌}
-use Rattle.terms.proofs.Common.{ℕ, ◌+◌, ◌-◌, ◌*◌, ◌^◌, ◌≤◌, ◌<◌, ◌≡◌, refl, sym, ◌∙◌, Bool, true, false, ◌&&◌, and-false, Option, None, Some, List, [], ◌∷◌, ◌++◌, add-zero, pow-suc, pow-le-pow_right, add-one, arith, leb, eqb, length, drop, length-drop, lt-leb, leb-true, eqb-false}
+use Rattle.terms.proofs.Common.{ℕ, ◌+◌, ◌-◌, ◌*◌, ◌^◌, ◌≤◌, ◌<◌, ◌≡◌, refl, sym, ◌∙◌, Bool, true, false, ◌&&◌, and-false, Option, None, Some, List, [], ◌∷◌, ◌++◌, add-zero, pow-suc, pow-le-pow_right, add-one, arith, leb, eqb, length, drop, get_or, length-drop, slice, slice-cons, lt-leb, leb-true, eqb-false}
 use Rattle.terms.{specs.Terms.byte, specs.Terms.from_to, proofs.Laws.both_left, proofs.Laws.both_right}
 use Rattle.words.specs.{Serving.Written, declared.Sign.Sign, declared.Sign.TheVariants.Plain, declared.Sign.TheVariants.Plus, declared.Sign.TheVariants.Minus}
 use Rattle.words.specs.declared.Numeral.{Numeral}
@@ -62,6 +62,12 @@ unfolding sign_length
 sign_most Plain = omega arith
 sign_most Plus = omega arith
 sign_most Minus = omega arith
+
+-- the first byte tells the sign
+pub sign_first :
+    (s : List ℕ) (at end : ℕ) → at < end → end ≤ length s → sign_of (get_or s at 0 ∷ []) ≡ sign_of (slice at end s)
+unfolding sign_of
+sign_first s at end h k = rw (slice-cons at end s 0 h k)
 
 sign_short : (bs : List ℕ) → sign_length (sign_of bs) ≤ length bs
 unfolding sign_of sign_length
