@@ -52,6 +52,7 @@ pub fn near_end(s: &[u8], at: usize) -> usize
     ensures { (at ≤ result) × (result + length_from (drop result s.now) ≡ at + length_from (drop at s.now)) }
 {
     let mut i = at;
+    // Steps of eight, to where fewer bytes are left: a `for` would have to reckon its end first.
     while 8 <= s.len() - i {
         if ends_soon(s, i) {
             return i;
@@ -67,6 +68,7 @@ pub fn next_block(s: &[u8], at: usize) -> usize
     ensures { result ≡ at + length_from (drop at s.now) }
 {
     let mut i = near_end(s, at);
+    // By a `for` over the places the reading of a block took an eighth longer.
     while i < s.len() {
         let b = s[i];
         i += 1;

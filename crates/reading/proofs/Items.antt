@@ -1,6 +1,7 @@
 -- Items and words by their places.
 use Rattle.std.specs.Prelude.{if◌then◌else◌, Ok, Err}
-use Rattle.terms.proofs.Common.{ℕ, suc, ◌+◌, ◌≤◌, ◌<◌, ◌≡◌, refl, sym, ◌∙◌, ap, Bool, true, false, ◌||◌, Option, None, Some, List, [], ◌∷◌, arith, ℕ_discrete, ne_eqb, le-leb, lt-leb, eqb, length, drop, get_or, length-drop, drop-drop, take-length, slice}
+use Rattle.std.proofs.lemmas.List.{take_rest}
+use Rattle.terms.proofs.Common.{ℕ, suc, ◌+◌, ◌-◌, ◌≤◌, ◌<◌, ◌≡◌, refl, sym, ◌∙◌, ap, Bool, true, false, ◌||◌, Option, None, Some, List, [], ◌∷◌, arith, ℕ_discrete, ne_eqb, le-leb, lt-leb, eqb, length, take, drop, get_or, length-drop, drop-drop}
 use Rattle.lines.specs.{Blocks.begins_with, Blocks.text_from, Blocks.no_text, Blocks.length_from, Blocks.ends_at, Closing.comment_at}
 use Rattle.lines.proofs.Laws.{text_drop, text_none, text_inside, text_at, text_length, text_next, words_pass, open_by, comment_way, closing_within}
 use Rattle.refusals.specs.declared.Refusal.{Refusal}
@@ -135,8 +136,8 @@ module _ (l : List ℕ) (i : ℕ) where
       placed_word n e = by_number ∙ rw (number_text (drop (i + 1) l)) (rw e)
 
 -- the number reader reads to the end of the data
-pub from_place : (l : List ℕ) (i : ℕ) → number_in (drop (i + 1) l) ≡ number_in (slice (i + 1) (length l) l)
-from_place l i = ap (λ (x : List ℕ). number_in (drop (i + 1) x)) (sym (take-length l))
+pub from_place : (l : List ℕ) (i : ℕ) → number_in (drop (i + 1) l) ≡ number_in (take (length l - (i + 1)) (drop (i + 1) l))
+from_place l i = ap number_in (sym (take_rest l (i + 1)))
 
 pub taken_inside : (l : List ℕ) (i : ℕ) (n : Numeral) → i < length l → number_in (drop (i + 1) l) ≡ Some n → i + 1 + n.length ≤ length l
 taken_inside l i n h e = omega (arith, number_short (drop (i + 1) l) n e, length-drop (i + 1) l)

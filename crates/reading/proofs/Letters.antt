@@ -1,15 +1,26 @@
--- Letters that are known, and the places of letters in the alphabet.
-use Rattle.terms.proofs.Common.{ℕ, ◌+◌, ◌≤◌, ◌<◌, ◌≡◌, refl, sym, ◌∙◌, ap, Bool, true, false, List, [], ◌∷◌, arith, ne_eqb, leb-true, eqb, leb}
-use Rattle.terms.{specs.Terms.any, specs.Terms.all, proofs.Laws.both_left, proofs.Laws.both_right}
-use Rattle.codes.proofs.Tables.{Others, among, none_of, differ}
+-- Letters that are known, the places of letters in the alphabet, and M codes told apart.
+use denote.Enum.Bare.{sameb}
+use Rattle.terms.proofs.Common.{ℕ, ◌+◌, ◌≤◌, ◌<◌, ◌≡◌, refl, sym, ◌∙◌, ap, Bool, true, false, ◌||◌, List, [], ◌∷◌, arith, ℕ_discrete, ltb, le-ltb, ne_eqb, leb-true, eqb, leb}
+use Rattle.terms.{specs.Terms.any, specs.Terms.all, specs.Terms.lookup, proofs.Laws.both_left, proofs.Laws.both_right}
+use Rattle.codes.proofs.Tables.{differ}
+use Rattle.codes.specs.{Codes.misc_of, Codes.misc_number, Codes.is_m, Codes.is_no_m, declared.Misc.Misc, contracts.Misc.the_type}
+use Rattle.codes.specs.declared.Misc.TheVariants.{M00, M02, M03, M05, M30, M98, M99, Other}
 use Rattle.words.specs.Words.{is_capital}
 use Rattle.letters.specs.Letters.{known, is_known}
 use Rattle.reading.specs.Seen.{letter_place}
 
--- ---- the arms of a `match` on the known letters
+-- ---- the known letters, and the gaps between them
 
 pub known_at : (k : ℕ) {b : ℕ} → is_known k ≡ true → b ≡ k → true ≡ is_known b
 known_at k h e = sym (ap is_known e ∙ h)
+
+pub known_two : (k b : ℕ) → is_known k ≡ true → is_known (k + 1) ≡ true → k ≤ b → b ≤ k + 1 → true ≡ is_known b
+known_two k b h i low high = elim (ℕ_discrete b k) [ yes e ↦ known_at k h e | no f ↦ known_at (k + 1) i (omega (arith, f)) ]
+
+pub known_three :
+    (k b : ℕ) → is_known k ≡ true → is_known (k + 1) ≡ true → is_known (k + 2) ≡ true → k ≤ b → b ≤ k + 2 → true ≡ is_known b
+known_three k b h i j low high =
+    elim (ℕ_discrete b (k + 2)) [ yes e ↦ known_at (k + 2) j e | no f ↦ known_two k b h i low (omega (arith, f)) ]
 
 pub known_g : is_known 71 ≡ true
 unfolding is_known any
@@ -25,13 +36,52 @@ any_none test n [] e f = refl
 any_none test n (k ∷ ks) e f =
     rw (ne_eqb n k (differ test k n (both_left (test k) (all test ks) f) e)) (any_none test n ks e (both_right (test k) (all test ks) f))
 
--- the known letters as the arms have them, the last one first
-abbrev arms : List ℕ
-arms = 90 ∷ 89 ∷ 88 ∷ 83 ∷ 82 ∷ 80 ∷ 78 ∷ 77 ∷ 75 ∷ 74 ∷ 73 ∷ 71 ∷ 70 ∷ []
+-- no known letter is one of these bytes
+pub known_not : (low high b : ℕ) → all (λ k. ltb k low || ltb high k) known ≡ true → low ≤ b → b ≤ high → false ≡ is_known b
+unfolding is_known
+known_not low high b h i j =
+    sym (any_none (λ k. ltb k low || ltb high k) b known (rw (le-ltb b low i, le-ltb high b j)) h)
 
-pub known_none : (b : ℕ) → Others b arms → false ≡ is_known b
-unfolding any all is_known
-known_none b h = sym (any_none (among arms) b known (none_of b arms h) refl)
+-- ---- M codes
+
+misc_back : (m : Misc) → misc_of (misc_number m) ≡ m
+unfolding misc_of misc_number lookup
+misc_back M00 = refl
+misc_back M02 = refl
+misc_back M03 = refl
+misc_back M05 = refl
+misc_back M30 = refl
+misc_back M98 = refl
+misc_back M99 = refl
+misc_back Other = refl
+
+-- an M code that is not this one has not its number
+pub is_no : (x m : Misc) → (m ≡ x → ⊥) → is_m (misc_number x) m ≡ false
+unfolding is_m
+is_no x m h = ne_eqb (misc_number m) (misc_number x) (λ e. h (sym (misc_back m) ∙ ap misc_of e ∙ misc_back x))
+
+-- the code's own equality
+pub same_m99 : (m : Misc) → sameb the_type m M99 ≡ is_m 99 m
+unfolding is_m misc_number
+same_m99 M00 = refl
+same_m99 M02 = refl
+same_m99 M03 = refl
+same_m99 M05 = refl
+same_m99 M30 = refl
+same_m99 M98 = refl
+same_m99 M99 = refl
+same_m99 Other = refl
+
+pub same_other : (m : Misc) → sameb the_type m Other ≡ is_no_m m
+unfolding is_m misc_number
+same_other M00 = refl
+same_other M02 = refl
+same_other M03 = refl
+same_other M05 = refl
+same_other M30 = refl
+same_other M98 = refl
+same_other M99 = refl
+same_other Other = refl
 
 -- ---- capital letters
 

@@ -72,7 +72,7 @@ pub fn item_at(s: &[u8], i: usize) -> Result<Item, Refusal>
             Ok(Item::Gap(after))
         }
         letter @ b'A'..=b'Z' => {
-            let Some(numeral) = words::read_number(s, next, s.len()) else {
+            let Some(numeral) = words::read_number(&s[next..]) else {
                 return Err(Refusal::Unreadable);
             };
             let word = Word {
@@ -89,22 +89,10 @@ pub fn item_at(s: &[u8], i: usize) -> Result<Item, Refusal>
 fn is_known(b: u8) -> bool
     ensures { result ≡ is_known b }
 {
-    match b {
-        b'F' => true,
-        b'G' => true,
-        b'I' => true,
-        b'J' => true,
-        b'K' => true,
-        b'M' => true,
-        b'N' => true,
-        b'P' => true,
-        b'R' => true,
-        b'S' => true,
-        b'X' => true,
-        b'Y' => true,
-        b'Z' => true,
-        _ => false,
-    }
+    matches!(
+        b,
+        b'F' | b'G' | b'I' | b'J' | b'K' | b'M' | b'N' | b'P' | b'R' | b'S' | b'X' | b'Y' | b'Z'
+    )
 }
 
 // The place of a capital letter in the alphabet, from 0. It is reckoned and not looked up, so that the letters that stood
@@ -141,24 +129,25 @@ pub fn misc_in(w: Word) -> Misc
 fn stands_alone(m: Misc) -> bool
     ensures { result ≡ stands_alone m }
 {
-    let n = codes::misc_number(m);
-    (n == 98) | (n == 99)
+    matches!(m, Misc::M98 | Misc::M99)
 }
 
 // M99 has no place in the main program, and M02 and M30 have none in a subprogram.
 fn is_wrong_program(main: bool, m: Misc) -> bool
     ensures { result ≡ wrong_program main m }
 {
-    let n = codes::misc_number(m);
-    if main { n == 99 } else { (n == 2) | (n == 30) }
+    if main {
+        m == Misc::M99
+    } else {
+        matches!(m, Misc::M02 | Misc::M30)
+    }
 }
 
 // An M code that may not stand; `after` tells that a G code stands before it.
 fn is_bad_misc(main: bool, after: bool, m: Misc) -> bool
     ensures { result ≡ bad_misc main after m }
 {
-    let n = codes::misc_number(m);
-    (n == 100) | is_wrong_program(main, m) | (stands_alone(m) & after)
+    (m == Misc::Other) | is_wrong_program(main, m) | (stands_alone(m) & after)
 }
 
 // A G code that may not stand after the groups and the M code that were read.

@@ -15,7 +15,7 @@ use lengths::Len;
 pub use numerals::{read_number, sign_length, sign_of};
 
 // The sign that a number is written with.
-#[derive(Clone, Copy)]
+#[derive(Clone, Copy, PartialEq, Eq)]
 pub enum Sign {
     Plain,
     Plus,
@@ -200,7 +200,7 @@ fn checked(ok: bool, z: Len) -> Option<Len>
 pub fn is_plain(n: Number) -> bool
     ensures { result ≡ is_plain n }
 {
-    matches!(n.sign, Sign::Plain) && !n.point
+    n.sign == Sign::Plain && !n.point
 }
 
 // The size is tested without its sign. It fits: nine digits and four more are below 2 ^ 63 units, in inch too.

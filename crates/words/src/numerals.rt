@@ -23,26 +23,22 @@ pub fn sign_length(sign: Sign) -> usize
 {
     match sign {
         Sign::Plain => 0,
-        Sign::Plus => 1,
-        Sign::Minus => 1,
+        Sign::Plus | Sign::Minus => 1,
     }
 }
 
-// The number that begins at `at` with this sign. A second point makes it unreadable, whatever follows, and so does a tenth
-// digit: the reader stops there, so that the value always fits. What was passed is kept in plain variables, since a struct
-// that changes at each byte costs more.
-fn read_figures(s: &[u8], at: usize, end: usize, sign: Sign) -> Option<Numeral>
-    requires { (at + sign_length sign ≤ end) × (end ≤ length s.now) }
-    ensures { result ≡ number_by sign (run is_figure (drop (sign_length sign) (slice at end s.now))) }
+// The number with this sign that the figures after it make. A second point makes it unreadable, whatever follows, and so does
+// a tenth digit: the reader stops there, so that the value always fits. What was passed is kept in plain variables, since a
+// struct that changes at each byte costs more.
+fn read_figures(bytes: &[u8], sign: Sign) -> Option<Numeral>
+    ensures { result ≡ number_by sign (run is_figure bytes.now) }
 {
-    let mut i = at + sign_length(sign);
     let mut digits: u64 = 0;
     let mut decimals: u64 = 0;
     let mut count: u64 = 0;
     let mut point = false;
-    while i < end {
-        let b = s[i];
-        match b {
+    for b in bytes {
+        match *b {
             b'.' => {
                 if point {
                     return None;
@@ -53,7 +49,7 @@ fn read_figures(s: &[u8], at: usize, end: usize, sign: Sign) -> Option<Numeral>
                 if count == 9 {
                     return None;
                 }
-                digits = digits * 10 + (b - b'0') as u64;
+                digits = digits * 10 + (*b - b'0') as u64;
                 count += 1;
                 if point {
                     decimals += 1;
@@ -61,7 +57,6 @@ fn read_figures(s: &[u8], at: usize, end: usize, sign: Sign) -> Option<Numeral>
             }
             _ => break,
         }
-        i += 1;
     }
     if count == 0 {
         return None;
@@ -74,17 +69,15 @@ fn read_figures(s: &[u8], at: usize, end: usize, sign: Sign) -> Option<Numeral>
     };
     Some(Numeral {
         number,
-        length: i - at,
+        length: sign_length(sign) + count as usize + point as usize,
     })
 }
 
-// The number that the bytes from `at` to `end` begin with. Each byte is read once, up to the first that is not the number's.
-pub fn read_number(s: &[u8], at: usize, end: usize) -> Option<Numeral>
-    requires { (at ≤ end) × (end ≤ length s.now) }
-    ensures { result ≡ number_in (slice at end s.now) }
+// The number that the bytes begin with. Each byte is read once, up to the first that is not the number's.
+pub fn read_number(bytes: &[u8]) -> Option<Numeral>
+    ensures { result ≡ number_in bytes.now }
 {
-    if at == end {
-        return None;
-    }
-    read_figures(s, at, end, sign_of(s[at]))
+    let first = bytes.first()?;
+    let sign = sign_of(*first);
+    read_figures(&bytes[sign_length(sign)..], sign)
 }

@@ -49,7 +49,7 @@ pub returns-in_default : goal.returns-in_default
 returns-in_default c =
     let a = c.args in
     let other = c.in_default.in_default-own.rest in
-    sym (placed_other a.s.now a.i (blank_not _ other.0.1) other.1 (capital_low _ c.in_default.if-this-lt65-own.true))
+    sym (placed_other a.s.now a.i (blank_not _ other.0.1) other.1 (capital_low (get_or a.s.now a.i 0) (omega arith)))
 
 pub returns-in_default-2 : goal.returns-in_default-2
 returns-in_default-2 c =

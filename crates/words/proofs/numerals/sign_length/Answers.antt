@@ -1,19 +1,7 @@
 -- `words::numerals::sign_length` meets its contract, sign by sign.
-use Rattle.terms.proofs.Common.{rules}
+use Rattle.terms.proofs.Common.{inl, inr}
 use Rattle.words.specs.Numbers.{sign_length}
 use Rattle.words.proofs.numerals.sign_length.Goals as goal
-
-pub enum_told-1 : goal.enum_told-1
-unfolding sign_length
-enum_told-1 c = search rules
-
-pub enum_told-in-Plus : goal.enum_told-in-Plus
-unfolding sign_length
-enum_told-in-Plus c = search rules
-
-pub enum_told-in-Minus : goal.enum_told-in-Minus
-unfolding sign_length
-enum_told-in-Minus c = search rules
 
 pub returns-in-Plain : goal.returns-in-Plain
 unfolding sign_length
@@ -21,8 +9,4 @@ returns-in-Plain c = rw c.in-Plain.is
 
 pub returns-in-Plus : goal.returns-in-Plus
 unfolding sign_length
-returns-in-Plus c = rw c.in-Plus.is
-
-pub returns-in-Minus : goal.returns-in-Minus
-unfolding sign_length
-returns-in-Minus c = rw c.in-Minus.is
+returns-in-Plus c = elim c.in-Plus.is [ inl e ↦ rw e | inr e ↦ rw e ]
