@@ -32,7 +32,7 @@ fn put_point(list: &mut [u8], at: usize, p: Point) -> usize
     put_number(list, y, p.z)
 }
 
-fn plane_byte(plane: Plane) -> u8
+pub fn plane_byte(plane: Plane) -> u8
     ensures { result ≡ plane_byte plane }
 {
     match plane {
