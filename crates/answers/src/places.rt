@@ -5,21 +5,19 @@ ghost use Rattle.lines.specs.Blocks.{text_from};
 ghost use Rattle.answers.specs.Places.{Begins};
 
 use files::STDOUT_FILENO;
+use std::io::{ErrorKind, Print, Result};
 
-// Where the block begins that a place lies in.
+// Where the block begins that a place lies in: after the last LF before it.
 fn block_start(s: &[u8], at: usize) -> usize
     requires { at ≤ length s.now }
     ensures { Begins s.now at result }
 {
-    let mut from = at;
-    while 0 < from {
-        let before = from - 1;
-        if s[before] == b'\n' {
-            return from;
+    for i in (0..at).rev() {
+        if s[i] == b'\n' {
+            return i + 1;
         }
-        from = before;
     }
-    from
+    0
 }
 
 // Where the text ends of the block that begins at a place.
@@ -27,41 +25,22 @@ fn text_end(s: &[u8], from: usize) -> usize
     requires { from ≤ length s.now }
     ensures { (result ≡ from + length (text_from (drop from s.now))) × (result ≤ length s.now) }
 {
-    let mut i = from;
-    while !lines::text_ends(s, i) {
-        i += 1;
-    }
-    i
-}
-
-// A place that is not past the data's end.
-fn inside(s: &[u8], byte: usize) -> usize
-    ensures { result ≤ length s.now }
-{
-    if byte < s.len() {
-        return byte;
+    for i in from..s.len() {
+        if lines::text_ends(s, i) {
+            return i;
+        }
     }
     s.len()
 }
 
-// The text of the block that a byte of the data stands in, and a caret under the byte.
-pub fn show_place(s: &[u8], byte: usize) -> bool {
-    let at = inside(s, byte);
+// The text of the block that a byte of the data stands in, and a caret under the byte; after the data's end it stands at the end.
+pub fn show_place(rt: &impl Print, s: &[u8], byte: usize) -> Result<()> {
+    let at = byte.min(s.len());
     let from = block_start(s, at);
     let end = text_end(s, from);
-    files::show_text(STDOUT_FILENO, &s[from..end], 126)
-        && io::write_all(STDOUT_FILENO, b"\n")
-        && show_blanks(at - from)
-        && io::write_all(STDOUT_FILENO, b"^\n")
-}
-
-fn show_blanks(count: usize) -> bool {
-    let mut left = count;
-    while 0 < left {
-        if !io::write_all(STDOUT_FILENO, b" ") {
-            return false;
-        }
-        left -= 1;
+    // The data need not be text, so its bytes go out by the descriptor, whose answer is a bool.
+    if !files::show_text(STDOUT_FILENO, &s[from..end], 126) {
+        return Err(ErrorKind::Other.into());
     }
-    true
+    println!(rt; "\n{:>1$}", "^", at - from + 1)
 }

@@ -3,8 +3,9 @@
 // measured from outside, by two numbers of runs, so that all that is done once is taken off.
 #![tactic(auto)]
 
-use files::{STDERR_FILENO, STDIN_FILENO, STDOUT_FILENO};
+use files::STDIN_FILENO;
 use refusals::Answer;
+use std::io::Print;
 use std::rt::Env;
 use texts::Digits;
 
@@ -12,22 +13,19 @@ fn main(rt: HostRuntime) {
     let mut word = [0u8; 32];
     let n = rt.arg(1, &mut word).unwrap_or(0);
     let Digits::Are(times) = texts::digits_at(&word[..n], 0, n) else {
-        io::write_all(STDERR_FILENO, b"bench: wants a number of runs\n");
+        let _ = eprintln!(rt; "bench: wants a number of runs");
         return;
     };
     let mut data = io::large_buffer();
     let length = io::read_full(STDIN_FILENO, &mut data);
-    measure(times, &data[..length]);
+    measure(&rt, times, &data[..length]);
 }
 
-fn measure(times: u64, bytes: &[u8]) {
+fn measure(rt: &impl Print, times: u64, bytes: &[u8]) {
     let mut list = files::list_room();
     let records = run_times(times, bytes, &mut list);
     let blocks = least(enough(bytes, &mut list), bytes, &mut list);
-    io::print_decimal(STDOUT_FILENO, times);
-    answers::show_count(blocks);
-    answers::show_count(records as u64);
-    io::write_all(STDOUT_FILENO, b"\n");
+    let _ = println!(rt; "{times} {blocks} {records}");
 }
 
 // Answers the records of the last run.

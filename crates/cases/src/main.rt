@@ -10,9 +10,10 @@ ghost use Rattle.interpreter.specs.Owing.{Owes};
 ghost use Rattle.cases.specs.Budgets.{budget_by};
 
 use case_text::case_at;
-use files::{STDIN_FILENO, STDOUT_FILENO};
+use files::STDIN_FILENO;
 use runs::Report;
 use setup::Setup;
+use std::io::Print;
 use texts::Digits;
 
 // A word as a count, and the place after it.
@@ -33,31 +34,31 @@ pub struct Case {
     pub stands: bool,
 }
 
-fn main() {
+fn main(rt: HostRuntime) {
     let mut input = files::list_room();
     let n = io::read_full(STDIN_FILENO, &mut input);
     if n == 1048576 {
-        io::write_all(STDOUT_FILENO, b"too long\n");
+        let _ = rt.println("too long");
         return;
     }
     let mut list = io::large_buffer();
-    run_cases(&input[..n], &mut list);
+    run_cases(&rt, &input[..n], &mut list);
 }
 
-fn run_cases(input: &[u8], list: &mut [u8]) {
+fn run_cases(rt: &impl Print, input: &[u8], list: &mut [u8]) {
     let mut at: usize = 0;
     while at < input.len() {
         let case = case_at(input, at, list.len());
         if !case.stands {
-            io::write_all(STDOUT_FILENO, b"bad case\n");
+            let _ = rt.println("bad case");
             return;
         }
-        run_case(case, input, list);
+        run_case(rt, case, input, list);
         at = case.end + 1;
     }
 }
 
-fn run_case(case: Case, input: &[u8], list: &mut [u8])
+fn run_case(rt: &impl Print, case: Case, input: &[u8], list: &mut [u8])
     requires { (case.from ≤ case.end) × (case.end ≤ length input.now) × (case.room ≤ length list.old) }
 {
     let setup = case.setup;
@@ -67,7 +68,7 @@ fn run_case(case: Case, input: &[u8], list: &mut [u8])
     let room = case.room as usize;
     let report = report_to(setup, blocks, &input[from..end], &mut list[..room]);
     let answer = report.answer;
-    answers::show_run(list, answer);
+    let _ = answers::show_run(rt, list, answer);
 }
 
 fn report_to(setup: Setup, blocks: Digits, bytes: &[u8], list: &mut [u8]) -> Report

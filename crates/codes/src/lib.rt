@@ -1,6 +1,8 @@
 // The codes of document 01, "Codes": what a G or an M number means.
 #![tactic(auto)]
 
+mod printing;
+
 ghost use Rattle.std.specs.Prelude.{◌≡◌};
 ghost use Rattle.codes.specs.Codes.{code_of, misc_of, group_of, misc_number, cycle_number, plane_number, NumbersPlane};
 

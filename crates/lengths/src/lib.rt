@@ -3,6 +3,7 @@
 #![tactic(auto)]
 
 mod points;
+mod printing;
 
 ghost use Rattle.std.specs.Prelude.{◌≡◌, ◌+◌, ◌<◌, ◌^◌};
 ghost use Rattle.terms.specs.Common.{le_z, lt_z};

@@ -3,17 +3,18 @@
 #![tactic(auto)]
 
 use files::STDIN_FILENO;
+use std::io::Print;
 
 // The buffer holds one byte more than data may have, so that longer data is refused and not cut.
-fn main() {
+fn main(rt: HostRuntime) {
     let mut data = io::large_buffer();
     let n = io::read_full(STDIN_FILENO, &mut data);
-    list_run(&data[..n]);
+    list_run(&rt, &data[..n]);
 }
 
-fn list_run(data: &[u8]) {
+fn list_run(rt: &impl Print, data: &[u8]) {
     let mut list = io::buffer();
     let report = interpreter::run(setup::setup_t(), data, &mut list);
     let answer = report.answer;
-    answers::show_run(&list, answer);
+    let _ = answers::show_run(rt, &list, answer);
 }

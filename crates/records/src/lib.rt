@@ -5,6 +5,7 @@ mod displacing;
 mod kinds;
 mod leading;
 mod loading;
+mod printing;
 mod storing;
 
 use codes::Plane;

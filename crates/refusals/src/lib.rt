@@ -1,6 +1,8 @@
 // The sixteen refusals of document 01's table, in its order, the place that a refusal names, and what a run answers.
 #![tactic(auto)]
 
+mod printing;
+
 ghost use Rattle.std.specs.Prelude.{◌≡◌};
 ghost use Rattle.refusals.specs.{Numbers.number_of, Answers.count_of};
 

@@ -2,6 +2,7 @@
 #![tactic(auto)]
 
 mod cycle_words;
+mod printing;
 
 ghost use Rattle.std.specs.Prelude.{◌≡◌, ◌^◌};
 ghost use Rattle.lengths.specs.{View.Within, Near.Near};

@@ -9,7 +9,7 @@ mod setup_files;
 ghost use Rattle.std.specs.Prelude.{◌≡◌};
 ghost use Rattle.shop.specs.Asking.{asked_by};
 
-use answers::{Shown, show_list};
+use answers::{Unshown, show_list};
 use commands::{count_of, is, word};
 use files::{STDOUT_FILENO, complain, complain_record, complain_why};
 use limits::show_fault;
@@ -54,7 +54,7 @@ fn complain_unprinted(rt: &impl Print, err: i32) {
 }
 
 // Answers whether standard output took what there was to print.
-fn is_command_printed(rt: &impl Files, line: &[u8], err: i32) -> bool {
+fn is_command_printed(rt: &(impl Files + Print), line: &[u8], err: i32) -> bool {
     let count = count_of(line);
     if count == 0 {
         return help();
@@ -106,7 +106,7 @@ fn asked_by(given: &[u8]) -> Asked
 }
 
 // The records of a list that a file holds.
-fn show(rt: &impl Files, line: &[u8], count: usize, err: i32) -> bool {
+fn show(rt: &(impl Files + Print), line: &[u8], count: usize, err: i32) -> bool {
     if count != 2 {
         complain(err, b"show", b"wants LIST");
         return true;
@@ -117,11 +117,10 @@ fn show(rt: &impl Files, line: &[u8], count: usize, err: i32) -> bool {
         return true;
     }
     let n = got.count;
-    let shown = show_list(&list[..n]);
-    match shown {
-        Shown::Whole => true,
-        Shown::Faulty(place) => is_faulty(word(line, 1), place, err),
-        Shown::Unwritten => false,
+    match show_list(rt, &list[..n]) {
+        Ok(()) => true,
+        Err(Unshown::Faulty(place)) => is_faulty(word(line, 1), place, err),
+        Err(Unshown::Unwritten) => false,
     }
 }
 

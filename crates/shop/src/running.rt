@@ -8,10 +8,11 @@ use commands::{Options, options_of, word};
 use files::{STDOUT_FILENO, Spot, complain, list_room, show_text, spot_for};
 use list_files::{Made, is_written, make_list};
 use setup::Setup;
+use std::io::Print;
 use std::rt::Files;
 
 // Answers whether standard output took what there was to print.
-pub fn run(rt: &impl Files, line: &[u8], count: usize, err: i32) -> bool {
+pub fn run(rt: &(impl Files + Print), line: &[u8], count: usize, err: i32) -> bool {
     if count < 3 {
         complain(
             err,
@@ -44,7 +45,7 @@ fn spot_of(rt: &impl Files, line: &[u8], options: Options, err: i32) -> Spot {
 }
 
 // The buffer holds one byte more than data may have, so that longer data is refused and not cut.
-fn run_files(rt: &impl Files, line: &[u8], options: Options, spot: Spot, err: i32) -> bool
+fn run_files(rt: &(impl Files + Print), line: &[u8], options: Options, spot: Spot, err: i32) -> bool
     requires { options.room ≤ 1048576 }
 {
     let known = setup_in(rt, word(line, 1), err);
@@ -62,7 +63,7 @@ fn run_files(rt: &impl Files, line: &[u8], options: Options, spot: Spot, err: i3
 }
 
 fn run_data(
-    rt: &impl Files,
+    rt: &(impl Files + Print),
     setup: Setup,
     data: &[u8],
     path: &[u8],
@@ -77,20 +78,20 @@ fn run_data(
     let answer = made.answer;
     let end = made.end;
     if !is_written(answer, options) {
-        return show_made(data, made) && show_kept(path, options.listed);
+        return show_made(rt, data, made) && show_kept(path, options.listed);
     }
     if !files::write_whole(rt, path, &list[..end], spot, err) {
         return true;
     }
-    show_made(data, made)
+    show_made(rt, data, made)
 }
 
-fn show_made(data: &[u8], made: Made) -> bool {
+fn show_made(rt: &impl Print, data: &[u8], made: Made) -> bool {
     let answer = made.answer;
     let standing = made.standing;
     let state = standing.state;
     let next = standing.next;
-    show_answer(data, answer) && show_standing(answer, state, next)
+    show_answer(rt, data, answer).is_ok() && show_standing(rt, answer, state, next).is_ok()
 }
 
 // A refused run says what became of the list that it was to write.

@@ -3,14 +3,14 @@
 // shorter than 1 MiB.
 #![tactic(auto)]
 
-use files::{STDIN_FILENO, STDOUT_FILENO};
+use files::STDIN_FILENO;
 
-fn main() {
+fn main(rt: HostRuntime) {
     let mut buffer = files::list_room();
     let n = io::read_full(STDIN_FILENO, &mut buffer);
     if n == 1048576 {
-        io::write_all(STDOUT_FILENO, b"too long\n");
+        let _ = rt.println("too long");
         return;
     }
-    answers::show_list(&buffer[..n]);
+    let _ = answers::show_list(&rt, &buffer[..n]);
 }

@@ -4,9 +4,9 @@ use Rattle.records.proofs.Again.{read_on}
 use Rattle.answers.proofs.listings.show_list.Goals as goal
 
 pub loop-r-smaller : goal.loop-r-smaller
-loop-r-smaller c =
+loop-r-smaller g c =
     omega (arith, read_on c.args.list.now c.loop-r.at c.in-Next.r c.in-Next.next (sym c.read-found.ensures ∙ c.in-Next.is))
 
 pub loop-r-preserved : goal.loop-r-preserved
-loop-r-preserved c =
+loop-r-preserved g c =
     (read_on c.args.list.now c.loop-r.at c.in-Next.r c.in-Next.next (sym c.read-found.ensures ∙ c.in-Next.is)).1

@@ -1,9 +1,6 @@
-use Rattle.terms.proofs.Common.{◌≤◌, ◌-◌, ◌+◌, ◌≡◌, length, drop}
+use Rattle.terms.proofs.Common.{◌+◌, ◌≡◌, length, drop}
 use Rattle.lines.{specs.Blocks.text_from}
 use Rattle.answers.proofs.places.text_end.Given as goal
 
 abbrev pub invariant-loop-i : goal.invariant-loop-i
-invariant-loop-i l = (l.i ≤ length l.s) × (l.from + length (text_from (drop l.from l.s)) ≡ l.i + length (text_from (drop l.i l.s)))
-
-abbrev pub decreases-loop-i : goal.decreases-loop-i
-decreases-loop-i l = length l.s - l.i
+invariant-loop-i l = l.from + length (text_from (drop l.from l.s)) ≡ l.i + length (text_from (drop l.i l.s))

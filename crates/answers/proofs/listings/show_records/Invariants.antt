@@ -1,8 +1,0 @@
-use Rattle.terms.proofs.Common.{◌≤◌}
-use Rattle.answers.proofs.listings.show_records.Given as goal
-
-abbrev pub invariant-loop-left : goal.invariant-loop-left
-invariant-loop-left l = l.left ≤ l.count
-
-abbrev pub decreases-loop-left : goal.decreases-loop-left
-decreases-loop-left l = l.left
