@@ -1,6 +1,7 @@
 -- How blocks follow each other, byte by byte: what a walk over places needs.
 use Rattle.std.specs.Prelude.{if◌then◌else◌}
-use Rattle.terms.proofs.Common.{ℕ, zero, suc, ◌+◌, ◌-◌, ◌≤◌, ◌<◌, ◌≡◌, refl, sym, ◌∙◌, ap, Bool, true, false, ◌&&◌, ◌||◌, List, [], ◌∷◌, arith, add-one, ℕ_discrete, eq-eqb, ne_eqb, eqb-false, eqb, length, drop, get_or, drop_of_length-le, drop-cons, drop-drop}
+use Rattle.std.specs.List.{list_any}
+use Rattle.terms.proofs.Common.{ℕ, zero, suc, ◌+◌, ◌-◌, ◌≤◌, ◌<◌, ◌≡◌, refl, sym, ◌∙◌, ap, true, false, ◌&&◌, ◌||◌, List, [], ◌∷◌, arith, add-one, ℕ_discrete, eq-eqb, ne_eqb, eqb, length, take, drop, get_or, drop_of_length-le, drop-cons, drop-drop}
 use Rattle.terms.{proofs.Laws.either_left, proofs.Laws.either_right}
 use Rattle.lines.specs.{Blocks.begins_with, Blocks.text_from, Blocks.no_text, Blocks.length_from, Blocks.block_from, Blocks.blocks_after, Blocks.is_percent, Serving.blocks_from}
 
@@ -27,14 +28,14 @@ pub length_at_more :
     (l : List ℕ) (at : ℕ) → at < length l → (get_or l at 0 ≡ 10 → ⊥) → length_from (drop at l) ≡ suc (length_from (drop (at + 1) l))
 length_at_more l at h e = rw (at_place l at) (length_more (get_or l at 0) (drop (at + 1) l) e)
 
--- one byte more with no LF among those before it, as a test of several bytes tells it
-pub length_past :
-    (l : List ℕ) (at k : ℕ) (t : Bool) → at + k < length l → (t ≡ false → length_from (drop at l) ≡ k + length_from (drop (at + k) l))
-    → (t || eqb (get_or l (at + k) 0) 10) ≡ false → length_from (drop at l) ≡ k + 1 + length_from (drop (at + (k + 1)) l)
-length_past l at k t h f e =
-    let more = length_at_more l (at + k) h (eqb-false (get_or l (at + k) 0) 10 (either_right t _ e)) in
-    let same : at + k + 1 ≡ at + (k + 1) = omega arith in
-    omega (arith, f (either_left t _ e), more, ap (λ (n : ℕ). length_from (drop n l)) same)
+-- so many bytes have no LF among them
+pub none_soon : (k : ℕ) (bs : List ℕ) → k ≤ length bs → list_any (λ b. eqb b 10) (take k bs) ≡ false → length_from bs ≡ k + length_from (drop k bs)
+unfolding length_from
+none_soon zero bs h e = omega arith
+none_soon (suc k) [] h e = absurd (omega arith)
+none_soon (suc k) (b ∷ bs) h e =
+    let rest = none_soon k bs (omega arith) (either_right (eqb b 10) _ e) in
+    rw (either_left (eqb b 10) _ e) (omega (arith, rest))
 
 pub length_at_end : (l : List ℕ) (at : ℕ) → length l ≤ at → length_from (drop at l) ≡ 0
 unfolding length_from

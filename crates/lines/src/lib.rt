@@ -30,20 +30,12 @@ pub fn text_ends(s: &[u8], at: usize) -> bool
     s[next] == b'\n'
 }
 
-// Whether an LF stands among the eight bytes from a place on. All eight are asked about at once, so that the compiler reads them as one
-// number.
+// Whether an LF stands among the eight bytes from a place on.
 fn ends_soon(s: &[u8], at: usize) -> bool
     requires { at + 8 ≤ length s.now }
     ensures { result ≡ false → length_from (drop at s.now) ≡ 8 + length_from (drop (at + 8) s.now) }
 {
-    (s[at] == b'\n')
-        | (s[at + 1] == b'\n')
-        | (s[at + 2] == b'\n')
-        | (s[at + 3] == b'\n')
-        | (s[at + 4] == b'\n')
-        | (s[at + 5] == b'\n')
-        | (s[at + 6] == b'\n')
-        | (s[at + 7] == b'\n')
+    s[at..at + 8].contains(&b'\n')
 }
 
 // A place of the same block, this one or a later one, that is less than eight bytes from the LF that ends it, or from the data's end.
