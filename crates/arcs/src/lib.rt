@@ -21,9 +21,7 @@ pub fn root_of(q: u64) -> u64
 {
     let mut r: u64 = 0;
     let mut rest: u64 = 0;
-    let mut pairs: u32 = 32;
-    while 0 < pairs {
-        pairs -= 1;
+    for pairs in (0..32u32).rev() {
         rest = 4 * rest + (q >> (2 * pairs)) % 4;
         r = 2 * r;
         if 2 * r < rest {

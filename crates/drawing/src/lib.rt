@@ -8,6 +8,7 @@ use lengths::Point;
 pub use picture::draw;
 
 // The travel and the start in machine units, and the gap around and between the views.
+// Its bounds (`Fair`) are no invariant of the type: the definition `sheet_of` in specs/ makes a sheet of any setup.
 #[derive(Clone, Copy)]
 pub struct Sheet {
     pub low: Point,

@@ -62,7 +62,8 @@ pub enum Fault {
     OtherPlane,
 }
 
-// What reading at a place finds: a record and the place after it, the list's end, or a fault with its mark's place.
+// What reading at a place finds: a record and the place after it, the list's end, or a fault with its mark's place. These are
+// three outcomes, one more than an Option or a Result has.
 #[derive(Clone, Copy)]
 pub enum Listed {
     Next(Record, usize),

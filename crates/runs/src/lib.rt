@@ -11,7 +11,7 @@ use refusals::{Answer, Place, Refusal};
 use settings::State;
 use setup::Setup;
 
-// How much is run: the whole, or the first n executed blocks.
+// How much is run: the whole, or the first n executed blocks. No Option: the theorems of a run say by these two names what is run.
 #[derive(Clone, Copy)]
 pub enum Budget {
     Whole,
@@ -21,10 +21,7 @@ pub enum Budget {
 pub fn is_spent(b: Budget) -> bool
     ensures { result ≡ is_spent b }
 {
-    match b {
-        Budget::Whole => false,
-        Budget::First(n) => n == 0,
-    }
+    matches!(b, Budget::First(0))
 }
 
 // Every block reached takes one.

@@ -14,6 +14,7 @@ pub use views::{put_line, seen};
 
 // An arc as it is seen: from where, the point at which it begins, whether it turns left, the directions from its centre to its
 // start and to its end, and its radius.
+// What they leave room for (`Ready`) is no invariant of the type: the definition `seen_arc` in specs/ makes one of any numbers.
 #[derive(Clone, Copy)]
 pub struct SeenArc {
     pub view: View,

@@ -47,9 +47,7 @@ pub fn divided(w: Wide, by: u64) -> Division
 {
     let mut rest = w.high;
     let mut low = w.low;
-    let mut digits: u32 = 64;
-    while 0 < digits {
-        digits -= 1;
+    for _ in 0..64u32 {
         rest = 2 * rest + (low >> 63);
         low = low << 1;
         if by <= rest {

@@ -1,20 +1,20 @@
 -- `runs::is_spent` meets its contract, budget by budget.
-use Rattle.terms.proofs.Common.{sym, ap, rules}
+use Rattle.terms.proofs.Common.{sym, ◌∙◌, eq-eqb, ne_eqb}
 use Rattle.runs.specs.Walk.{is_spent}
 use Rattle.runs.proofs.is_spent.Goals as goal
 
-pub enum_told-1 : goal.enum_told-1
+pub returns-in-First-eq0 : goal.returns-in-First-eq0
 unfolding is_spent
-enum_told-1 c = search rules
+returns-in-First-eq0 c =
+    let f = c.in-First-eq0 in
+    rw f.is (sym (eq-eqb f.field-0 0 (sym f.field-0-is ∙ f.field-0-test)))
 
-pub enum_known-b : goal.enum_known-b
+pub returns-in_default : goal.returns-in_default
 unfolding is_spent
-enum_known-b c = search rules
+returns-in_default c =
+    let f = c.in_default in
+    rw f.is (sym (ne_eqb f.field-0 0 (λ e. f.field-0-test.1 (f.field-0-is ∙ e))))
 
-pub returns-in-Whole : goal.returns-in-Whole
+pub returns-in_default-2 : goal.returns-in_default-2
 unfolding is_spent
-returns-in-Whole c = sym (ap is_spent c.in-Whole.is)
-
-pub returns-in-First : goal.returns-in-First
-unfolding is_spent
-returns-in-First c = sym (ap is_spent c.in-First.is)
+returns-in_default-2 c = rw c.in_default.is
