@@ -1,7 +1,7 @@
 -- The run block by block (specs/Blockwise.antt) gives what the rules of the run give, for every budget: a data set's outcome is where
 -- the run block by block stands. Every run comes to its end or to a refusal after some number of blocks.
-use Rattle.std.specs.Prelude.{if◌then◌else◌}
-use Rattle.terms.proofs.Common.{ℕ, zero, suc, ◌+◌, ◌-◌, ◌≡◌, refl, sym, ◌∙◌, ap, ap₂, subst, Bool, true, false, false≢true, not, ◌||◌, or-true, List, [], ◌∷◌, ◌++◌, append_assoc, append-nil, arith, eqb, ltb, length, drop, ne_eqb}
+use Rattle.std.specs.Prelude.{Result, Ok, Err, if◌then◌else◌}
+use Rattle.terms.proofs.Common.{ℕ, zero, suc, ◌+◌, ◌-◌, ◌≡◌, refl, sym, ◌∙◌, ap, ap₂, subst, Bool, true, false, false≢true, not, ◌||◌, or-true, Option, None, Some, List, [], ◌∷◌, ◌++◌, append_assoc, append-nil, arith, eqb, ltb, length, drop, ne_eqb}
 use Rattle.terms.specs.Terms.{any}
 use Rattle.refusals.specs.{declared.Refusal.Refusal, declared.Place.Place, Numbers.number_of}
 use Rattle.refusals.specs.declared.Refusal.TheVariants.{NoEnd, FirstBlock, BadSetup, DataTooLong, BadParameter}
@@ -12,7 +12,7 @@ use Rattle.blocks.specs.{Machine.machine_of, Reach.Reachable, Keeping.Keeps, Exe
 use Rattle.blocks.proofs.Accepting.{accepted_kept}
 use Rattle.blocks.specs.declared.Control.TheVariants.{On, Call, Back, Stop}
 use Rattle.lines.specs.Blocks.{Block, blocks_of, closes, opens}
-use Rattle.programs.specs.declared.{Program.Program, Opening.Opening, Opening.TheVariants.Number, Opening.TheVariants.Bad, Entry.Entry, Entry.TheVariants.Refuses, Entry.TheVariants.Enters}
+use Rattle.programs.specs.declared.Program.{Program}
 use Rattle.programs.proofs.Entries.{entry_refusal}
 use Rattle.programs.specs.Openings.{Table, table, place_of, known, programs_from, blocks_at, opening_of, program_after, entry_of, entered, scan_block, scan, main_as}
 use Rattle.runs.specs.{declared.Budget.Budget, declared.Budget.TheVariants.Whole, declared.Budget.TheVariants.First, Run.first_of, Run.run_table, Run.run_blocks, Run.outcome}
@@ -329,15 +329,15 @@ no_refusal : (main : Program) (subs : List Program) → Early (table main subs)
 no_refusal main subs r place e = let z : ◌≡◌ {A = ℕ} 0 1 = cc in absurd (omega arith)
 
 entered_early :
-    (main : Program) (subs : List Program) (b : Block) (rest : List Program → Table) (e : Entry) → entry_of main subs (opening_of b) ≡ e
+    (main : Program) (subs : List Program) (b : Block) (rest : List Program → Table) (e : Result ℕ Refusal) → entry_of main subs (opening_of b) ≡ e
     → ((ps : List Program) → Early (rest ps)) → Early (entered e subs b rest)
 unfolding entered any
-entered_early main subs b rest (Refuses refusal) k on r place e =
+entered_early main subs b rest (Err refusal) k on r place e =
     let same : refusal ≡ r = cc in
     let n = number_of r in
     ap (λ (t : Bool). eqb n 13 || (eqb n 12 || (eqb n 11 || t))) (rw same at (entry_refusal main subs (opening_of b) refusal k))
     ∙ rw (or-true (eqb n 11), or-true (eqb n 12), or-true (eqb n 13))
-entered_early main subs b rest (Enters n) k on r place e = on (subs ++ program_after n b ∷ []) r place e
+entered_early main subs b rest (Ok n) k on r place e = on (subs ++ program_after n b ∷ []) r place e
 
 scan_early : (main : Program) (bs : List Block) (subs : List Program) → Early (scan main bs subs)
 unfolding scan scan_block
@@ -350,10 +350,10 @@ scan_early main (b ∷ bs) subs = go (closes b) (opens b) (scan_early main bs)
     go false true on = entered_early main subs b (scan main bs) (entry_of main subs (opening_of b)) refl on
     go false false on = on subs
 
-main_early : (o : Opening) (b : Block) (bs : List Block) → Early (main_as o b bs)
+main_early : (o : Option ℕ) (b : Block) (bs : List Block) → Early (main_as o b bs)
 unfolding main_as any
-main_early Bad b bs r place e = let same : BadParameter ≡ r = cc in rw (← same)
-main_early (Number n) b bs r place e = scan_early (program_after n b) bs [] r place e
+main_early None b bs r place e = let same : BadParameter ≡ r = cc in rw (← same)
+main_early (Some n) b bs r place e = scan_early (program_after n b) bs [] r place e
 
 programs_early : (percent : Block) (bs : List Block) → Early (programs_from percent bs)
 unfolding programs_from

@@ -1,25 +1,25 @@
 -- The loop from call to call: what a call of a number leads to, and the walk of the subprogram. Assumes nothing.
+use Rattle.std.specs.Prelude.{Result, Ok, Err}
 use Rattle.terms.proofs.Common.{ℕ, zero, suc, ◌+◌, ◌-◌, ◌≤◌, ◌<◌, ◌≡◌, refl, ◌∙◌, Bool, true, false, Option, None, Some, List, [], arith, ne_eqb, eqb, length}
 use Rattle.terms.specs.Terms.{first_of, stands}
 use Rattle.refusals.specs.declared.Refusal.{Refusal, TheVariants.NumberNotFound, TheVariants.NestOver}
 use Rattle.lines.specs.Serving.{blocks_from}
 use Rattle.records.specs.Layout.{room_of, list_bytes}
-use Rattle.programs.specs.{declared.Program.Program, declared.Callee.Callee, Answers.callee_by, Openings.known, Found.subs_of, Places.Placed}
+use Rattle.programs.specs.{declared.Program.Program, Answers.callee_by, Openings.known, Found.subs_of, Places.Placed}
 use Rattle.blocks.specs.{Exec.calls_in, Exec.call_to, Exec.unknown_call, Exec.too_deep, Exec.at_start, Exec.unless, Calling.called}
 use Rattle.runs.specs.declared.Progress.{Progress}
 use Rattle.runs.specs.Walk.{Going, refused_at, Outcome, just, going_on, after, then_rest, follow, obey, walk, blocks_for, callees}
 use Rattle.interpreter.specs.declared.{Task.Task, How.TheVariants.Returned, How.TheVariants.Refused, Ending.Ending, Leg.Leg}
 use Rattle.interpreter.specs.Progressing.{job_of, going_of, walk_from, call_from, how_by, next_by, outcome_by, Ran, Sound, Reaches}
 use Rattle.interpreter.proofs.{Endings.ran_still, Endings.ran_after, Endings.ran_length, Endings.ran_then, Endings.ran_stops, Rounds.Walking}
-use Rattle.programs.specs.declared.Callee.TheVariants as Callee
 
 -- a subprogram that a call leads to is the one of the number, and a level is left for it
-found_is : {program : Program} (o : Option Program) (left : ℕ) → Callee.Found program ≡ callee_by o left → (o ≡ Some program) × (1 ≤ left)
+found_is : {program : Program} (o : Option Program) (left : ℕ) → Ok program ≡ callee_by o left → (o ≡ Some program) × (1 ≤ left)
 unfolding callee_by
 found_is None left e = let z : ◌≡◌ {A = ℕ} 0 1 = cc in absurd (omega arith)
 found_is (Some q) zero e = let z : ◌≡◌ {A = ℕ} 0 1 = cc in absurd (omega arith)
 found_is {program} (Some q) (suc left) e =
-    let f : Callee.Found program ≡ Callee.Found q = rw (ne_eqb (suc left) 0 (λ h. omega arith)) at e in
+    let f : ◌≡◌ {A = Result Program Refusal} (Ok program) (Ok q) = rw (ne_eqb (suc left) 0 (λ h. omega arith)) at e in
     let g : q ≡ program = cc in
     (rw g, omega arith)
 
@@ -36,9 +36,9 @@ callee_is l task (suc left) room n program q h e b =
 
 module _ (l : List ℕ) (task : Task) (left number : ℕ) (leg : Leg) (room : ℕ) where
   -- the walk of the subprogram and what follows it, or the refusal of the call
-  abbrev follows : Callee → Outcome
-  follows (Callee.Refused refusal) = just (refused_at refusal leg.place) leg.before.state
-  follows (Callee.Found program) =
+  abbrev follows : Result Program Refusal → Outcome
+  follows (Err refusal) = just (refused_at refusal leg.place) leg.before.state
+  follows (Ok program) =
       let o = callees (job_of l task) left number (going_of room leg.after) in
       after []
       (after o.made
@@ -47,16 +47,16 @@ module _ (l : List ℕ) (task : Task) (left number : ℕ) (leg : Leg) (room : �
 
   -- "5; 6"
   call_is :
-      {callee : Callee} → callee ≡ callee_by (known (subs_of task.programs) number) left
+      {callee : Result Program Refusal} → callee ≡ callee_by (known (subs_of task.programs) number) left
       → going_of room leg.after ≡ going_on (going_of room leg.before) leg.after.state []
       → call_from l room task left number leg ≡ follows callee
   unfolding callee_by call_from called unless first_of at_start call_to unknown_call too_deep calls_in obey follow going_of stands
   call_is {callee} c going = go (known (subs_of task.programs) number) (eqb left 0) refl refl
     where
       go : (o : Option Program) (deep : Bool) → known (subs_of task.programs) number ≡ o → eqb left 0 ≡ deep → call_from l room task left number leg ≡ follows callee
-      go None deep e f = let h : callee ≡ Callee.Refused NumberNotFound = rw e at c in rw h (rw e)
-      go (Some q) true e f = let h : callee ≡ Callee.Refused NestOver = rw (e, f) at c in rw h (rw (e, f))
-      go (Some q) false e f = let h : callee ≡ Callee.Found q = rw (e, f) at c in rw h (rw (e, f, going))
+      go None deep e f = let h : callee ≡ Err NumberNotFound = rw e at c in rw h (rw e)
+      go (Some q) true e f = let h : callee ≡ Err NestOver = rw (e, f) at c in rw h (rw (e, f))
+      go (Some q) false e f = let h : callee ≡ Ok q = rw (e, f) at c in rw h (rw (e, f, going))
 
 -- a walk that comes to a call
 pub record Comes (l : List ℕ) (task : Task) (left : ℕ) (whole : Outcome) (p₀ : Progress) (was list : List ℕ) (n at : ℕ) (p : Progress)
@@ -81,20 +81,20 @@ module _ {l : List ℕ} {task : Task} {left : ℕ} {whole : Outcome} {p₀ : Pro
 
   -- what the walk from the call on leaves, the whole walk leaves
   on :
-      {callee : Callee} {last : List ℕ} {e : Ending} → callee ≡ callee_by (known (subs_of task.programs) number) left
+      {callee : Result Program Refusal} {last : List ℕ} {e : Ending} → callee ≡ callee_by (known (subs_of task.programs) number) left
       → Ran task.bed (follows l task left number leg (length is) callee) leg.before is last e → Ran task.bed whole p₀ was last e
   on {last = last} {e = e} f h =
       c.walking.same last e (c.reaches.same last e (rw (call_is l task left number leg (length is) f c.reaches.going) h))
 
   pub call_refused :
-      {refusal : Refusal} → Callee.Refused refusal ≡ callee_by (known (subs_of task.programs) number) left
+      {refusal : Refusal} → Err refusal ≡ callee_by (known (subs_of task.programs) number) left
       → Ran task.bed whole p₀ was is (record { how = Refused refusal; place = leg.place; progress = leg.before })
   unfolding outcome_by how_by next_by
   call_refused {refusal} f =
       on f (ran_still task.bed (record { how = Refused refusal; place = leg.place; progress = leg.before }) c.reaches.before)
 
   -- a call whose subprogram is found, with a level for it
-  module _ (sound : Sound l task) {program : Program} (f : Callee.Found program ≡ callee_by (known (subs_of task.programs) number) left) where
+  module _ (sound : Sound l task) {program : Program} (f : Ok program ≡ callee_by (known (subs_of task.programs) number) left) where
     pub call_level : 1 ≤ left
     call_level = (found_is (known (subs_of task.programs) number) left f).1
 

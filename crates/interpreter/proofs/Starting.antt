@@ -1,14 +1,16 @@
 -- What a run starts with, and what it answers. Assumes nothing.
+use Rattle.std.specs.Prelude.{Result, Ok, Err}
+use Rattle.std.proofs.lemmas.Result.{IfOk-at_ok}
 use Rattle.terms.proofs.Common.{ℕ, ◌+◌, ◌-◌, ◌≤◌, ◌<◌, ◌^◌, ◌≡◌, refl, sym, ◌∙◌, ap, Bool, true, false, Some, List, [], ◌∷◌, arith, dec_lt, lt-ltb, le-ltb, length, drop, sets-eq}
-use Rattle.refusals.specs.declared.{Refusal.Refusal, Refusal.TheVariants.FirstBlock, Refusal.TheVariants.BadSetup, Refusal.TheVariants.DataTooLong, Place.Place}
+use Rattle.refusals.specs.declared.{Refusal.Refusal, Refusal.TheVariants.FirstBlock, Refusal.TheVariants.BadSetup, Refusal.TheVariants.DataTooLong, Place.Place, Refused.Refused}
 use Rattle.lines.specs.Blocks.{Block, block_from, blocks_of, length_from, is_percent, text_from}
 use Rattle.lines.{specs.Serving.blocks_from, proofs.Lines.blocks_step, proofs.Lines.blocks_end, proofs.Lines.percent_end}
 use Rattle.lengths.specs.{View.Within, declared.Point.Point, Near.Near}
 use Rattle.setup.specs.{declared.Bed.Bed, declared.Setup.Setup, Limits.valid_setup, Frame.offset, Frame.bed_of, Frame.switch_on, Fair.Fair}
 use Rattle.records.specs.{declared.Record.Record, Layout.room_of, Layout.list_bytes, Writing.moved_bytes}
 use Rattle.settings.specs.declared.State.{State}
-use Rattle.programs.specs.declared.{Programs.Programs, Scanned.Scanned, Verdict.Verdict}
-use Rattle.programs.specs.{Openings.Table, Openings.table, Openings.refused_at, Openings.programs_from, Found.subs_of, Found.table_by, Found.table_of, Places.Placed, Places.TablePlaced}
+use Rattle.programs.specs.declared.Programs.{Programs}
+use Rattle.programs.specs.{Openings.Table, Openings.table, Openings.refused_at, Openings.programs_from, Found.subs_of, Found.table_of, Found.WellFound, Places.Placed, Places.TablePlaced}
 use Rattle.programs.proofs.Places.{found_placed, main_placed, subs_placed, known_placed}
 use Rattle.blocks.proofs.Nearness.{inside_sums}
 use Rattle.runs.specs.{Walk.How, Walk.Outcome, Walk.nowhere, Walk.just, Serving.report_by, declared.Budget.Budget, declared.Progress.Progress, declared.Report.Report}
@@ -16,7 +18,6 @@ use Rattle.runs.specs.Run.{first_of, run_table, run_blocks, outcome, records_of,
 use Rattle.interpreter.specs.{Owing.Owes, Serving.Opened, Serving.Gives, declared.Ending.Ending}
 use Rattle.interpreter.specs.Progressing.{job_of, going_of, walk_from, outcome_by, Ran, Sound, Fits}
 use Rattle.interpreter.proofs.Endings.{moved_length}
-use Rattle.programs.specs.declared.Verdict.TheVariants as Verdict
 use Rattle.programs.specs.Answers as Answers
 use Rattle.runs.specs.Walk as Walk
 use Rattle.runs.proofs.Starting.{first_reached}
@@ -177,33 +178,28 @@ module _ (s : Setup) (l : List ℕ) (budget : Budget) (was : List ℕ) where
           {r : Report} → is_percent (text_from (drop 0 l)) ≡ false → Before r FirstBlock (record { block = 1; byte = 0 }) → Given r
       gives_first_block e f = gives_just was (not_closed s l (length was) budget short valid e) f
 
-      module _ (percent : is_percent (text_from (drop 0 l)) ≡ true) {found : Scanned} (scan : Answers.Gives (programs_from (block_from 1 0 l) (blocks_from l 2 (0 + length_from l))) found) where
-        pub gives_opening :
-            {r : Report} {refusal : Refusal} {place : Place} → found.verdict ≡ Verdict.Refused refusal place → Before r refusal place → Given r
-        unfolding table_by run_table
-        gives_opening {r} {refusal} {place} e f =
-            let t : table_of found ≡ refused_at refusal place = ap (λ (v : Verdict). table_by v found.programs) e in
-            gives_just was (by_table s l (length was) budget short valid percent (refused_at refusal place) (sym scan.table ∙ t)) f
+      module _ (percent : is_percent (text_from (drop 0 l)) ≡ true) {found : Result Programs Refused} (scan : Answers.Gives (programs_from (block_from 1 0 l) (blocks_from l 2 (0 + length_from l))) found) where
+        pub gives_opening : {r : Report} {x : Refused} → found ≡ Err x → Before r x.refusal x.place → Given r
+        unfolding table_of run_table
+        gives_opening {r} {x} e f =
+            gives_just was (by_table s l (length was) budget short valid percent (refused_at x.refusal x.place) (sym scan.table ∙ ap table_of e)) f
 
-        module _ (e : found.verdict ≡ Verdict.Fine) where
-          pub programs_opened : Opened l found.programs
-          unfolding table_by
+        module _ {t : Programs} (e : found ≡ Ok t) where
+          pub programs_opened : Opened l t
+          unfolding table_of
           programs_opened =
-              let t : table_of found ≡ table found.programs.main (subs_of found.programs) = ap (λ (v : Verdict). table_by v found.programs) e in
               record {
                 some = some_byte s l (length was) budget short valid percent;
-                ready = scan.ready;
-                table = sym scan.table ∙ t;
+                ready = IfOk-at_ok WellFound e scan.ready;
+                table = sym scan.table ∙ ap table_of e;
               }
 
           pub gives_main :
               {is : List ℕ} {r : Report}
-              → Gives (offset s) (run_table s l (blocks_of l) (length was) budget (table found.programs.main (subs_of found.programs))) was is r
+              → Gives (offset s) (run_table s l (blocks_of l) (length was) budget (table t.main (subs_of t))) was is r
               → Gives (offset s) (outcome s l (length was) budget) was is r
           gives_main h =
-              gives_as
-              (by_table s l (length was) budget short valid percent (table found.programs.main (subs_of found.programs))
-              programs_opened.table) h
+              gives_as (by_table s l (length was) budget short valid percent (table t.main (subs_of t)) programs_opened.table) h
 
 -- ---- the list buffer in full
 

@@ -13,7 +13,7 @@ ghost use Rattle.programs.specs.{Openings.table, Found.subs_of};
 ghost use Rattle.runs.specs.{declared.Budget.TheVariants.Whole, declared.Budget.TheVariants.First, Run.run_table, Run.outcome};
 ghost use Rattle.interpreter.specs.{Owing.Owes, Serving.Opened, Serving.Gives};
 
-use programs::{Program, Programs, Verdict};
+use programs::{Program, Programs};
 use records::Listed;
 use refusals::{Place, Refusal};
 use runs::{Budget, Progress, Report, Standing};
@@ -111,11 +111,9 @@ fn run_within(setup: Setup, bytes: &[u8], list: &mut [u8], budget: Budget) -> Re
     if !lines::is_percent(bytes, 0) {
         return runs::refused(setup, Refusal::FirstBlock, Place { block: 1, byte: 0 });
     }
-    let found = programs::find_programs(bytes);
-    let verdict = found.verdict;
-    match verdict {
-        Verdict::Refused(refusal, place) => runs::refused(setup, refusal, place),
-        Verdict::Fine => run_main(setup, bytes, list, found.programs, budget),
+    match programs::find_programs(bytes) {
+        Err(refused) => runs::refused(setup, refused.refusal, refused.place),
+        Ok(found) => run_main(setup, bytes, list, found, budget),
     }
 }
 

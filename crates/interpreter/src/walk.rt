@@ -11,7 +11,7 @@ ghost use Rattle.interpreter.specs.Progressing.{task_on, walk_from, program_ends
 use crate::{Ending, How, Leg, Task, Turn};
 use blocks::{Control, Done, Executed};
 use execution::{Ground, Spot};
-use programs::{Callee, Program, Programs};
+use programs::{Program, Programs};
 use refusals::{Place, Refusal};
 use runs::Progress;
 use settings::State;
@@ -169,7 +169,7 @@ pub fn run_program(
             Turn::Calls(number) => number,
         };
         match programs::find_callee(task.programs, left, number) {
-            Callee::Refused(refusal) => {
+            Err(refusal) => {
                 let place = leg.place;
                 let progress = leg.before;
                 return Ending {
@@ -178,7 +178,7 @@ pub fn run_program(
                     progress,
                 };
             }
-            Callee::Found(callee) => {
+            Ok(callee) => {
                 let ending = run_program(s, list, task, left - 1, callee, leg.after);
                 let how = ending.how;
                 let How::Returned = how else {

@@ -14,7 +14,7 @@ ghost use Rattle.letters.specs.{Letters.code_under, Letters.has_centre, Judging.
 use files::{STDIN_FILENO, STDOUT_FILENO};
 use lengths::{Len, Point};
 use letters::{Judged, Speeds};
-use programs::{Program, Programs, Verdict};
+use programs::{Program, Programs};
 use reading::{Reading, Status};
 use refusals::{Place, Refusal};
 use settings::Modes;
@@ -64,33 +64,20 @@ fn show_bad_opening(refusal: Refusal, place: Place) {
 fn show_openings(s: &[u8])
     requires { 0 < length s.now }
 {
-    let scanned = programs::find_programs(s);
-    let verdict = scanned.verdict;
-    match verdict {
-        Verdict::Refused(refusal, place) => show_bad_opening(refusal, place),
-        Verdict::Fine => {
-            let found = scanned.programs;
-            show_programs(found);
-        }
+    match programs::find_programs(s) {
+        Err(refused) => show_bad_opening(refused.refusal, refused.place),
+        Ok(found) => show_programs(found),
     }
 }
 
-// The table has ten places, of which the first `count` are in use.
+// The main program, and the subprograms that are in use.
 fn show_programs(t: Programs) {
-    let main = t.main;
     io::write_all(STDOUT_FILENO, b"openings main");
-    show_start(main);
-    let subs = t.subs;
-    let mut i: usize = 0;
-    while i < 10 {
-        if t.count <= i {
-            return;
-        }
-        let p = subs[i];
+    show_start(t.main);
+    for p in t.subs.iter().take(t.count) {
         io::write_all(STDOUT_FILENO, b"sub");
         show_count(p.number);
-        show_start(p);
-        i += 1;
+        show_start(*p);
     }
 }
 

@@ -1,12 +1,12 @@
 -- Data that differs only inside comments has the same programs.
-use Rattle.std.specs.Prelude.{if◌then◌else◌}
-use Rattle.terms.proofs.Common.{ℕ, ◌≡◌, refl, Bool, true, false, false≢true, List, [], ◌∷◌, ◌++◌, drop}
+use Rattle.std.specs.Prelude.{Result, Ok, Err, if◌then◌else◌}
+use Rattle.terms.proofs.Common.{ℕ, ◌≡◌, refl, Bool, true, false, false≢true, Option, None, Some, List, [], ◌∷◌, ◌++◌, drop}
 use Rattle.refusals.specs.declared.Refusal.{Refusal, TheVariants.BadParameter}
 use Rattle.lines.specs.Blocks.{begins_with, Block, closes, opens}
 use Rattle.lines.proofs.Comments.{run_alike, past_run, gaps_alike, begins_alike, percent_alike}
 use Rattle.lines.specs.Alike.{Alike, nothing, outside, begins, AlikeBlock, AlikeBlocks, none, more}
 use Rattle.words.specs.Numbers.{is_digit}
-use Rattle.programs.specs.declared.{Program.Program, Opening.Opening, Opening.TheVariants.Number, Opening.TheVariants.Bad, Entry.Entry, Entry.TheVariants.Refuses, Entry.TheVariants.Enters}
+use Rattle.programs.specs.declared.Program.{Program}
 use Rattle.programs.specs.Openings.{number_after_o, opening_of, place_of, program_after, Table, refused_at, entry_of, entered, scan_block, scan, main_as, programs_from}
 
 number_alike : {s t : List ℕ} → Alike false s t → number_after_o s ≡ number_after_o t
@@ -35,10 +35,10 @@ module _ {a b : Block} (same : AlikeBlock a b) where
   program_alike n = rw (same.number, same.next)
 
   module _ (f g : List Program → Table) (on : (subs : List Program) → f subs ≡ g subs) (subs : List Program) where
-    entered_alike : (e : Entry) → entered e subs a f ≡ entered e subs b g
+    entered_alike : (e : Result ℕ Refusal) → entered e subs a f ≡ entered e subs b g
     unfolding entered
-    entered_alike (Refuses refusal) = refused_alike refusal
-    entered_alike (Enters n) = rw (program_alike n) (on (subs ++ program_after n b ∷ []))
+    entered_alike (Err refusal) = refused_alike refusal
+    entered_alike (Ok n) = rw (program_alike n) (on (subs ++ program_after n b ∷ []))
 
     block_alike : (main : Program) → scan_block (closes a) (opens a) main subs a f ≡ scan_block (closes b) (opens b) main subs b g
     unfolding scan_block
@@ -54,10 +54,10 @@ unfolding scan
 scan_alike main none subs = refl
 scan_alike main (more {a} {b} {as'} {bs} same r) subs = block_alike same (scan main as') (scan main bs) (scan_alike main r) subs main
 
-main_alike : {a b : Block} {as' bs : List Block} (o : Opening) → AlikeBlock a b → AlikeBlocks as' bs → main_as o a as' ≡ main_as o b bs
+main_alike : {a b : Block} {as' bs : List Block} (o : Option ℕ) → AlikeBlock a b → AlikeBlocks as' bs → main_as o a as' ≡ main_as o b bs
 unfolding main_as
-main_alike Bad same r = refused_alike same BadParameter
-main_alike {b = b} (Number n) same r = rw (program_alike same n) (scan_alike (program_after n b) r [])
+main_alike None same r = refused_alike same BadParameter
+main_alike {b = b} (Some n) same r = rw (program_alike same n) (scan_alike (program_after n b) r [])
 
 -- the table of programs, or the first opening's refusal, does not hang on what stands inside comments
 pub programs_alike : {p q : Block} {as' bs : List Block} → AlikeBlock p q → AlikeBlocks as' bs → programs_from p as' ≡ programs_from q bs

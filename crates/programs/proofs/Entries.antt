@@ -1,11 +1,11 @@
 -- The table of subprograms: searched by number, and with one more.
-use Rattle.std.specs.Prelude.{if◌then◌else◌}
-use Rattle.terms.proofs.Common.{ℕ, ◌+◌, ◌≤◌, ◌<◌, ◌≡◌, refl, ◌∙◌, ap, Bool, true, false, List, [], ◌∷◌, arith, add-one, eq-eqb, ne_eqb, le-leb, lt-leb, leb-false, eqb, leb, length, take, drop, get_or, set, length-set, length-take-le, get_or-take, take-suc-set}
-use Rattle.terms.{specs.Terms.any, proofs.Laws.any_end, proofs.Laws.any_here, proofs.Laws.any_past}
+use Rattle.std.specs.Prelude.{Ok, Err, if◌then◌else◌}
+use Rattle.terms.proofs.Common.{ℕ, ◌+◌, ◌≤◌, ◌<◌, ◌≡◌, refl, ◌∙◌, ap, Bool, true, false, ◌||◌, Option, None, Some, List, [], ◌∷◌, arith, add-one, eq-eqb, ne_eqb, le-leb, lt-leb, leb-false, eqb, leb, length, set, length-set, length-take-le, take-suc-set}
+use Rattle.std.specs.List.{list_any}
+use Rattle.terms.specs.Terms.{any}
 use Rattle.refusals.specs.declared.Refusal.{Refusal, TheVariants.BadParameter, TheVariants.DuplicateNumber, TheVariants.TableOver}
 use Rattle.refusals.specs.Numbers.{number_of}
-use Rattle.programs.specs.{Openings.is_taken, Openings.entry_of, Found.WellFound, Found.Entered, Found.subs_of, declared.Program.Program}
-use Rattle.programs.specs.declared.{Opening.Opening, Opening.TheVariants.Number, Opening.TheVariants.Bad, Entry.TheVariants.Refuses, Entry.TheVariants.Enters, Programs.Programs}
+use Rattle.programs.specs.{Openings.is_taken, Openings.entry_of, Found.WellFound, Found.Entered, Found.subs_of, declared.Program.Program, declared.Programs.Programs}
 
 pub taken_main : (main : Program) (subs : List Program) (n : ℕ) → n ≡ main.number → is_taken main subs n ≡ true
 unfolding is_taken
@@ -18,35 +18,11 @@ pub taken_rest : (main : Program) (subs : List Program) (n : ℕ) → (n ≡ mai
 unfolding is_taken
 taken_rest main subs n e = rw (ne_eqb n main.number e)
 
--- a search that has passed i of the subprograms in use
-pub record Search (n : ℕ) (subs : List Program) (count i : ℕ) : Type 0 where
-  pub few : count ≤ length subs
-  pub left : any (has n) (take count subs) ≡ any (has n) (drop i (take count subs))
-
-pub search_start : (n : ℕ) (subs : List Program) (count : ℕ) → count ≤ length subs → Search n subs count 0
-search_start n subs count h = record { few = h; left = refl }
-
-module _ (n : ℕ) (subs : List Program) (count i : ℕ) (d : Program) (s : Search n subs count i) where
-  used : length (take count subs) ≡ count
-  used = length-take-le count subs s.few
-
-  pub search_done : count ≤ i → any (has n) (take count subs) ≡ false
-  search_done h = s.left ∙ any_end (has n) (take count subs) i d (omega (arith, used))
-
-  module _ (h : i < count) where
-    here : get_or (take count subs) i d ≡ get_or subs i d
-    here = get_or-take count subs i d h
-
-    pub search_found : n ≡ (get_or subs i d).number → any (has n) (take count subs) ≡ true
-    search_found e =
-        s.left ∙ any_here (has n) (take count subs) i d (omega (arith, used)) (ap (has n) here ∙ eq-eqb n (get_or subs i d).number e)
-
-    pub search_past : (n ≡ (get_or subs i d).number → ⊥) → Search n subs count (i + 1)
-    search_past e =
-        record {
-          few = s.few;
-          left = s.left ∙ any_past (has n) (take count subs) i d (omega (arith, used)) (ap (has n) here ∙ ne_eqb n (get_or subs i d).number e);
-        }
+-- the kit's search is that of the rules
+pub any_is : (n : ℕ) (subs : List Program) → list_any (has n) subs ≡ any (has n) subs
+unfolding any
+any_is n [] = refl
+any_is n (p ∷ ps) = ap (has n p ||◌) (any_is n ps)
 
 -- one subprogram more
 pub entered_is : (t : Programs) (p : Program) → WellFound t → t.count < 10 → Entered t p (record { main = t.main; count = t.count + 1; subs = set t.subs t.count p })
@@ -59,44 +35,44 @@ entered_is t p r h =
 
 -- what an opening of a subprogram leads to
 module _ (t : Programs) (ready : WellFound t) (n : ℕ) where
-  pub entry_taken : is_taken t.main (subs_of t) n ≡ true → entry_of t.main (subs_of t) (Number n) ≡ Refuses DuplicateNumber
+  pub entry_taken : is_taken t.main (subs_of t) n ≡ true → entry_of t.main (subs_of t) (Some n) ≡ Err DuplicateNumber
   unfolding entry_of
   entry_taken e = rw e
 
   in_use : length (subs_of t) ≡ t.count
   in_use = length-take-le t.count t.subs (omega (arith, ready.places, ready.used))
 
-  pub entry_full : is_taken t.main (subs_of t) n ≡ false → 10 ≤ t.count → entry_of t.main (subs_of t) (Number n) ≡ Refuses TableOver
+  pub entry_full : is_taken t.main (subs_of t) n ≡ false → 10 ≤ t.count → entry_of t.main (subs_of t) (Some n) ≡ Err TableOver
   unfolding entry_of
   entry_full e h = rw (e, le-leb 10 (length (subs_of t)) (omega (arith, in_use)))
 
-  pub entry_new : is_taken t.main (subs_of t) n ≡ false → t.count < 10 → entry_of t.main (subs_of t) (Number n) ≡ Enters n
+  pub entry_new : is_taken t.main (subs_of t) n ≡ false → t.count < 10 → entry_of t.main (subs_of t) (Some n) ≡ Ok n
   unfolding entry_of
   entry_new e h = rw (e, lt-leb 10 (length (subs_of t)) (omega (arith, in_use)))
 
 -- an opening that enters finds room
-pub entry_room : (t : Programs) → WellFound t → (o : Opening) (n : ℕ) → entry_of t.main (subs_of t) o ≡ Enters n → t.count < 10
+pub entry_room : (t : Programs) → WellFound t → (o : Option ℕ) (n : ℕ) → entry_of t.main (subs_of t) o ≡ Ok n → t.count < 10
 unfolding entry_of
-entry_room t ready Bad n e = let never : ◌≡◌ {A = ℕ} 0 1 = cc in absurd (omega arith)
-entry_room t ready (Number m) n e = go (is_taken t.main (subs_of t) m) (leb 10 (length (subs_of t))) refl e
+entry_room t ready None n e = let never : ◌≡◌ {A = ℕ} 0 1 = cc in absurd (omega arith)
+entry_room t ready (Some m) n e = go (is_taken t.main (subs_of t) m) (leb 10 (length (subs_of t))) refl e
   where
     go :
         (taken full : Bool) → leb 10 (length (subs_of t)) ≡ full
-        → (if taken then Refuses DuplicateNumber else (if full then Refuses TableOver else Enters m)) ≡ Enters n → t.count < 10
+        → (if taken then Err DuplicateNumber else (if full then Err TableOver else Ok m)) ≡ Ok n → t.count < 10
     go true full f g = let never : ◌≡◌ {A = ℕ} 0 1 = cc in absurd (omega arith)
     go false true f g = let never : ◌≡◌ {A = ℕ} 0 1 = cc in absurd (omega arith)
     go false false f g = omega (arith, leb-false, f, in_use t ready m)
 
 -- "per opening 1, 8, 7"
 pub entry_refusal :
-    (main : Program) (subs : List Program) (o : Opening) (refusal : Refusal) → entry_of main subs o ≡ Refuses refusal
+    (main : Program) (subs : List Program) (o : Option ℕ) (refusal : Refusal) → entry_of main subs o ≡ Err refusal
     → any (eqb (number_of refusal)) (1 ∷ 8 ∷ 7 ∷ []) ≡ true
 unfolding entry_of any
-entry_refusal main subs Bad refusal e = let is : refusal ≡ BadParameter = cc in rw is
-entry_refusal main subs (Number n) refusal e = go (is_taken main subs n) (leb 10 (length subs)) e
+entry_refusal main subs None refusal e = let is : refusal ≡ BadParameter = cc in rw is
+entry_refusal main subs (Some n) refusal e = go (is_taken main subs n) (leb 10 (length subs)) e
   where
     go :
-        (taken full : Bool) → (if taken then Refuses DuplicateNumber else (if full then Refuses TableOver else Enters n)) ≡ Refuses refusal
+        (taken full : Bool) → (if taken then Err DuplicateNumber else (if full then Err TableOver else Ok n)) ≡ Err refusal
         → any (eqb (number_of refusal)) (1 ∷ 8 ∷ 7 ∷ []) ≡ true
     go true full f = let is : refusal ≡ DuplicateNumber = cc in rw is
     go false true f = let is : refusal ≡ TableOver = cc in rw is

@@ -1,15 +1,9 @@
 -- The digits of an opening, byte by byte.
 use Rattle.std.specs.Prelude.{if◌then◌else◌}
-use Rattle.terms.proofs.Common.{ℕ, suc, ◌+◌, ◌-◌, ◌*◌, ◌^◌, ◌≤◌, ◌<◌, ◌≡◌, refl, ◌∙◌, ap, true, false, ◌&&◌, ◌||◌, List, [], ◌∷◌, arith, pow-le-pow_right, ne_eqb, le-leb, lt-leb, eqb, lit≤, lit<, length, drop, get_or, drop_of_length-le}
+use Rattle.terms.proofs.Common.{ℕ, suc, ◌+◌, ◌-◌, ◌*◌, ◌^◌, ◌≤◌, ◌<◌, ◌≡◌, refl, ◌∙◌, ap, true, false, ◌&&◌, ◌||◌, List, [], ◌∷◌, arith, pow-le-pow_right, ne_eqb, le-leb, eqb, lit≤, lit<, length, take, drop, get_or, drop_of_length-le, length-drop, length-take-le, get_or-take, get_or-drop}
 use Rattle.lines.{specs.Blocks.begins_with, specs.Blocks.text_from, proofs.Lines.at_place}
 use Rattle.words.{specs.Numbers.is_digit, specs.Numbers.run, specs.Numbers.digits_after, proofs.Numbers.ten_more}
 use Rattle.programs.specs.{Found.IsDigits, Openings.figures_of}
-
-pub digit_low : (b : ℕ) → b < 48 → is_digit b ≡ false
-digit_low b h = rw (lt-leb 48 b h)
-
-pub digit_high : (b : ℕ) → 57 < b → is_digit b ≡ false
-digit_high b h = let low : 48 ≤ b = omega arith in rw (le-leb 48 b low, lt-leb b 57 h)
 
 figures_none : (b : ℕ) (bs : List ℕ) → is_digit b ≡ false → figures_of (text_from (b ∷ bs)) ≡ []
 unfolding run text_from
@@ -30,6 +24,14 @@ digits_more n b bs h k = rw (le-leb 48 b h, le-leb b 57 k)
 
 pub at_most_eight : {m : ℕ} (k : ℕ) → k ≤ 8 → m < 10 ^ k → m < 10 ^ 8
 at_most_eight k h g = omega (arith, pow-le-pow_right {n = 10} (lit≤ tt) h)
+
+-- the byte that stands so far from a place
+pub there :
+    (l : List ℕ) (at count : ℕ) → count < length (take (length l - at) (drop at l))
+    → (at + count < length l) × (get_or (take (length l - at) (drop at l)) count 0 ≡ get_or l (at + count) 0)
+there l at count h =
+    let n = length-take-le (length l - at) (drop at l) (omega (arith, length-drop at l)) in
+    (omega (arith, n), get_or-take (length l - at) (drop at l) count 0 (omega (arith, n)) ∙ get_or-drop at l count 0)
 
 -- So many digits passed from a place: what they are worth, and what is left gives the rest.
 pub record Passed (l : List ℕ) (at count value i : ℕ) : Type 0 where
@@ -78,7 +80,7 @@ module _ {l : List ℕ} {at count value i : ℕ} (p : Passed l at count value i)
   unfolding digits_after
   all_passed e =
       record {
-        few = λ h. p.left ∙ ap (λ (xs : List ℕ). count + length xs) e ∙ omega arith;
-        many = λ h. absurd (omega (arith, p.few));
-        value = λ h. p.worth ∙ ap (digits_after value) e;
+        few = p.few;
+        count = p.left ∙ ap (λ (xs : List ℕ). count + length xs) e ∙ omega arith;
+        value = p.worth ∙ ap (digits_after value) e;
       }

@@ -1,9 +1,9 @@
 -- The number of an opening, from its digits and what follows them.
-use Rattle.terms.proofs.Common.{ℕ, ◌+◌, ◌≤◌, ◌<◌, ◌≡◌, ◌∙◌, ap, Bool, true, false, ◌&&◌, List, arith, le-leb, lt-leb, length, drop, length-drop, drop-drop}
+use Rattle.terms.proofs.Common.{ℕ, ◌+◌, ◌≤◌, ◌<◌, ◌≡◌, ◌∙◌, ap, Bool, true, false, None, Some, ◌&&◌, List, arith, le-leb, lt-leb, length, drop, length-drop, drop-drop}
 use Rattle.terms.specs.Terms.{from_to}
 use Rattle.lines.{specs.Blocks.text_from, specs.Gaps.only_gaps, proofs.Laws.text_drop, proofs.Laws.text_length}
 use Rattle.words.{specs.Numbers.digits_after, proofs.Numbers.run_short}
-use Rattle.programs.specs.{Openings.number_after_o, Openings.figures_of, Found.IsDigits, declared.Digits.Digits, declared.Opening.TheVariants.Number, declared.Opening.TheVariants.Bad}
+use Rattle.programs.specs.{Openings.number_after_o, Openings.figures_of, Found.IsDigits, declared.Digits.Digits}
 
 -- the test of an opening's number: n digits of the value v, and what follows them
 abbrev test : ℕ → ℕ → Bool → Bool
@@ -36,47 +36,47 @@ worth text = digits_after 0 (figures_of text)
 abbrev rest : List ℕ → Bool
 rest text = only_gaps (drop (digits text) text)
 
-refused : (text : List ℕ) → test (digits text) (worth text) (rest text) ≡ false → number_after_o text ≡ Bad
+refused : (text : List ℕ) → test (digits text) (worth text) (rest text) ≡ false → number_after_o text ≡ None
 unfolding number_after_o
 refused text e = rw e
 
+pub opening_many : (text : List ℕ) → 8 < length (figures_of text) → number_after_o text ≡ None
+opening_many text h = refused text (too_many (digits text) (worth text) (rest text) h)
+
 module _ {text : List ℕ} {d : Digits} (is : IsDigits text d) where
-  pub opening_few : d.count ≡ 0 → number_after_o text ≡ Bad
-  opening_few e = refused text (too_few (digits text) (worth text) (rest text) (omega (arith, is.few (omega arith))))
+  pub opening_few : d.count ≡ 0 → number_after_o text ≡ None
+  opening_few e = refused text (too_few (digits text) (worth text) (rest text) (omega (arith, is.count)))
 
-  pub opening_many : 8 < d.count → number_after_o text ≡ Bad
-  opening_many h = refused text (too_many (digits text) (worth text) (rest text) (is.many h))
-
-  module _ (some : d.count ≡ 0 → ⊥) (few : d.count ≤ 8) where
+  module _ (some : d.count ≡ 0 → ⊥) where
     low : 1 ≤ length (figures_of text)
-    low = omega (arith, is.few few)
+    low = omega (arith, is.count)
 
     high : length (figures_of text) ≤ 8
-    high = omega (arith, is.few few)
+    high = omega (arith, is.few, is.count)
 
-    pub opening_zero : d.value ≡ 0 → number_after_o text ≡ Bad
-    opening_zero e = refused text (too_low (digits text) (worth text) (rest text) low high (omega (arith, is.value few)))
+    pub opening_zero : d.value ≡ 0 → number_after_o text ≡ None
+    opening_zero e = refused text (too_low (digits text) (worth text) (rest text) low high (omega (arith, is.value)))
 
-    pub opening_large : 9999 < d.value → number_after_o text ≡ Bad
-    opening_large h = refused text (too_high (digits text) (worth text) (rest text) low high (omega (arith, is.value few)))
+    pub opening_large : 9999 < d.value → number_after_o text ≡ None
+    opening_large h = refused text (too_high (digits text) (worth text) (rest text) low high (omega (arith, is.value)))
 
     module _ (one : d.value ≡ 0 → ⊥) (fits : d.value ≤ 9999) where
       as_gaps : test (digits text) (worth text) (rest text) ≡ only_gaps (drop d.count text)
       as_gaps =
-          as_rest (digits text) (worth text) (rest text) low high (omega (arith, is.value few)) (omega (arith, is.value few))
-          ∙ ap (λ (k : ℕ). only_gaps (drop k text)) (is.few few)
+          as_rest (digits text) (worth text) (rest text) low high (omega (arith, is.value)) (omega (arith, is.value))
+          ∙ ap (λ (k : ℕ). only_gaps (drop k text)) is.count
 
-      pub opening_more : only_gaps (drop d.count text) ≡ false → number_after_o text ≡ Bad
+      pub opening_more : only_gaps (drop d.count text) ≡ false → number_after_o text ≡ None
       opening_more e = refused text (as_gaps ∙ e)
 
-      pub opening_number : only_gaps (drop d.count text) ≡ true → number_after_o text ≡ Number d.value
+      pub opening_number : only_gaps (drop d.count text) ≡ true → number_after_o text ≡ Some d.value
       unfolding number_after_o
-      opening_number e = rw (as_gaps ∙ e) (ap Number (is.value few))
+      opening_number e = rw (as_gaps ∙ e) (ap Some (is.value))
 
 -- the digits lie inside the data, and the text after them is the text from there
-module _ (l : List ℕ) (at : ℕ) (d : Digits) (inside : at ≤ length l) (is : IsDigits (text_from (drop at l)) d) (few : d.count ≤ 8) where
+module _ (l : List ℕ) (at : ℕ) (d : Digits) (inside : at ≤ length l) (is : IsDigits (text_from (drop at l)) d) where
   in_text : d.count ≤ length (text_from (drop at l))
-  in_text = omega (arith, is.few few, run_short (λ b. from_to 48 57 b) (text_from (drop at l)))
+  in_text = omega (arith, is.count, run_short (λ b. from_to 48 57 b) (text_from (drop at l)))
 
   pub digits_inside : at + d.count ≤ length l
   digits_inside = omega (arith, in_text, text_length (drop at l), length-drop at l)

@@ -1,10 +1,11 @@
 -- Every program of the table begins at a place of the data, and its blocks are those from that place on. Assumes nothing.
-use Rattle.std.specs.Prelude.{if◌then◌else◌}
-use Rattle.terms.proofs.Common.{ℕ, ◌+◌, ◌-◌, ◌≤◌, ◌<◌, ◌≡◌, refl, sym, ◌∙◌, ap, Bool, true, false, Some, List, [], ◌∷◌, ◌++◌, arith, dec_lt, eqb, length, drop, length-drop, drop-drop}
+use Rattle.std.specs.Prelude.{Result, Ok, Err, if◌then◌else◌}
+use Rattle.terms.proofs.Common.{ℕ, ◌+◌, ◌-◌, ◌≤◌, ◌<◌, ◌≡◌, refl, sym, ◌∙◌, ap, Bool, true, false, Option, None, Some, List, [], ◌∷◌, ◌++◌, arith, dec_lt, eqb, length, drop, length-drop, drop-drop}
 use Rattle.terms.specs.Terms.{first}
 use Rattle.lines.specs.Blocks.{length_from, Block, block_from, blocks_of, closes, opens}
 use Rattle.lines.{specs.Serving.blocks_from, proofs.Lines.blocks_step, proofs.Lines.blocks_end, proofs.Lines.length_some}
-use Rattle.programs.specs.declared.{Program.Program, Opening.Opening, Opening.TheVariants.Number, Opening.TheVariants.Bad, Entry.Entry, Entry.TheVariants.Refuses, Entry.TheVariants.Enters}
+use Rattle.programs.specs.declared.Program.{Program}
+use Rattle.refusals.specs.declared.Refusal.{Refusal}
 use Rattle.programs.specs.Openings.{Table, table, opening_of, program_after, entry_of, entered, scan_block, scan, main_as, programs_from, known}
 use Rattle.programs.specs.Places.{Begins, Placed, Places, none, more, TablePlaced, found, refused}
 use Rattle.programs.proofs.Scanning.{next_inside}
@@ -70,10 +71,10 @@ one_more (more p ps) q = more p (one_more ps q)
 
 -- one block, where the rest of the table is placed
 module _ {l : List ℕ} {main : Program} (b : Block) (rest : List Program → Table) (m : Placed l main) (here : (k : ℕ) → Placed l (program_after k b)) (on : (subs : List Program) → Places l subs → TablePlaced l (rest subs)) where
-  entered_placed : {subs : List Program} (e : Entry) → Places l subs → TablePlaced l (entered e subs b rest)
+  entered_placed : {subs : List Program} (e : Result ℕ Refusal) → Places l subs → TablePlaced l (entered e subs b rest)
   unfolding entered
-  entered_placed (Refuses refusal) s = refused
-  entered_placed {subs} (Enters k) s = on (subs ++ program_after k b ∷ []) (one_more s (here k))
+  entered_placed (Err refusal) s = refused
+  entered_placed {subs} (Ok k) s = on (subs ++ program_after k b ∷ []) (one_more s (here k))
 
   block_placed : {subs : List Program} (end opening : Bool) → Places l subs → TablePlaced l (scan_block end opening main subs b rest)
   unfolding scan_block
@@ -98,9 +99,9 @@ programs_placed l percent (b ∷ bs) e = go (opens b)
     f : From l 1 0 (percent ∷ b ∷ bs)
     f = start l (percent ∷ b ∷ bs) e
 
-    under : (o : Opening) → TablePlaced l (main_as o b bs)
-    under Bad = refused
-    under (Number m) = scan_placed bs (next (next f)) (after (next f) m) [] none
+    under : (o : Option ℕ) → TablePlaced l (main_as o b bs)
+    under None = refused
+    under (Some m) = scan_placed bs (next (next f)) (after (next f) m) [] none
 
     go : (opening : Bool) → TablePlaced l (if opening then main_as (opening_of b) b bs else scan (program_after 0 percent) (b ∷ bs) [])
     go true = under (opening_of b)

@@ -1,11 +1,12 @@
 -- The scan of the openings, block by block of the data.
-use Rattle.terms.proofs.Common.{ℕ, ◌+◌, ◌≤◌, ◌<◌, ◌≡◌, refl, sym, ◌∙◌, ap, ap₂, true, false, false≢true, List, [], arith, dec_lt, eq-eqb, ne_eqb, eqb-true, length, drop, get_or, length-drop}
+use Rattle.std.specs.Prelude.{Result, Ok, Err}
+use Rattle.terms.proofs.Common.{ℕ, ◌+◌, ◌≤◌, ◌<◌, ◌≡◌, refl, sym, ◌∙◌, ap, ap₂, true, false, false≢true, None, Some, List, [], arith, dec_lt, eq-eqb, ne_eqb, eqb-true, length, drop, get_or, length-drop}
 use Rattle.lines.{specs.Serving.blocks_from, proofs.Laws.text_at}
 use Rattle.lines.specs.Blocks.{begins_with, text_from, length_from, Block, block_from, is_percent}
 use Rattle.lines.proofs.Lines.{blocks_step, blocks_end, text_begins_end, text_begins_at, no_text_other, percent_not, length_bound, length_at_lf, length_at_more}
 use Rattle.refusals.specs.declared.Refusal.{Refusal, TheVariants.BadParameter}
 use Rattle.programs.specs.Found.{WellFound, subs_of, Entered, Empty}
-use Rattle.programs.specs.declared.{Program.Program, Entry.Entry, Entry.TheVariants.Refuses, Entry.TheVariants.Enters, Opening.TheVariants.Number, Opening.TheVariants.Bad, Programs.Programs}
+use Rattle.programs.specs.declared.{Program.Program, Programs.Programs}
 use Rattle.programs.specs.Openings.{table, refused_at, number_after_o, opening_of, entry_of, entered, scan_block, scan, main_as, programs_from, program_after}
 
 -- what follows an `O`
@@ -116,24 +117,24 @@ module _ {l : List ℕ} {from number : ℕ} {first now : Programs} {at block : �
     stopped_percent e = stopped (scan_closed first.main l block at (subs_of now) h e)
 
     module _ (e : is_percent (text_from (drop at l)) ≡ false) where
-      module _ (f : get_or l at 0 ≡ 79) (entry : Entry) (was : entry_of now.main (subs_of now) (number_after_o (text_from (drop (at + 1) l))) ≡ entry) where
+      module _ (f : get_or l at 0 ≡ 79) (entry : Result ℕ Refusal) (was : entry_of now.main (subs_of now) (number_after_o (text_from (drop (at + 1) l))) ≡ entry) where
         at_opening :
             scan first.main (blocks_from l number from) (subs_of first)
             ≡ entered entry (subs_of now) (block_from block at (drop at l)) (scan first.main (blocks_from l (block + 1) (at + length_from (drop at l))))
         at_opening =
             s.left ∙ scan_opening first.main l block at (subs_of now) h e f
             ∙ ap
-            (λ (x : Entry). entered x (subs_of now) (block_from block at (drop at l)) (scan first.main (blocks_from l (block + 1) (at + length_from (drop at l)))))
+            (λ (x : Result ℕ Refusal). entered x (subs_of now) (block_from block at (drop at l)) (scan first.main (blocks_from l (block + 1) (at + length_from (drop at l)))))
             (ap (λ (p : Program). entry_of p (subs_of now) (number_after_o (text_from (drop (at + 1) l)))) (sym s.main) ∙ was)
 
       pub refused_opening :
-          (refusal : Refusal) → get_or l at 0 ≡ 79 → entry_of now.main (subs_of now) (number_after_o (text_from (drop (at + 1) l))) ≡ Refuses refusal
+          (refusal : Refusal) → get_or l at 0 ≡ 79 → entry_of now.main (subs_of now) (number_after_o (text_from (drop (at + 1) l))) ≡ Err refusal
           → refused_at refusal (record { block = block; byte = at }) ≡ scan first.main (blocks_from l number from) (subs_of first)
       unfolding entered
-      refused_opening refusal f was = sym (at_opening f (Refuses refusal) was)
+      refused_opening refusal f was = sym (at_opening f (Err refusal) was)
 
       pub passed_opening :
-          (n next : ℕ) (with' : Programs) → get_or l at 0 ≡ 79 → entry_of now.main (subs_of now) (number_after_o (text_from (drop (at + 1) l))) ≡ Enters n
+          (n next : ℕ) (with' : Programs) → get_or l at 0 ≡ 79 → entry_of now.main (subs_of now) (number_after_o (text_from (drop (at + 1) l))) ≡ Ok n
           → next ≡ at + length_from (drop at l) → Entered now (record { number = n; block = block + 1; byte = next }) with' → Scan l from number first with' next (block + 1)
       unfolding entered
       passed_opening n next with' f was g d =
@@ -141,7 +142,7 @@ module _ {l : List ℕ} {from number : ℕ} {first now : Programs} {at block : �
             counted = omega (arith, s.counted, length_at_more l at h (λ e. omega arith));
             ready = d.ready;
             main = d.main ∙ s.main;
-            left = at_opening f (Enters n) was ∙ rw (d.subs, ← g);
+            left = at_opening f (Ok n) was ∙ rw (d.subs, ← g);
           }
 
 -- the main program: without an opening, or under one in the second block
@@ -176,12 +177,12 @@ module _ (l : List ℕ) (at : ℕ) where
         let o = opens_at e in
         rw (blocks_step l 2 at o.0) (rw e (rw (text_after_o l at o.0 o.1)))
 
-    pub programs_bad : number_after_o (text_from (drop (at + 1) l)) ≡ Bad → programs_from percent (blocks_from l 2 at) ≡ refused_at BadParameter (record { block = 2; byte = at })
+    pub programs_bad : number_after_o (text_from (drop (at + 1) l)) ≡ None → programs_from percent (blocks_from l 2 at) ≡ refused_at BadParameter (record { block = 2; byte = at })
     unfolding main_as
     programs_bad f = under_opening ∙ rw f
 
     pub programs_number :
-        (n : ℕ) → number_after_o (text_from (drop (at + 1) l)) ≡ Number n
+        (n : ℕ) → number_after_o (text_from (drop (at + 1) l)) ≡ Some n
         → programs_from percent (blocks_from l 2 at)
         ≡ scan (record { number = n; block = 3; byte = at + length_from (drop at l) }) (blocks_from l 3 (at + length_from (drop at l))) []
     unfolding main_as
@@ -204,12 +205,12 @@ module _ (l : List ℕ) (at : ℕ) (second : at ≡ 0 + length_from l) where
 
   module _ (e : begins_with 79 (text_from (drop at l)) ≡ true) where
     pub found_bad :
-        number_after_o (text_from (drop (at + 1) l)) ≡ Bad
+        number_after_o (text_from (drop (at + 1) l)) ≡ None
         → refused_at BadParameter (record { block = 2; byte = at }) ≡ programs_from (block_from 1 0 l) (blocks_from l 2 (0 + length_from l))
     found_bad f = sym (programs_bad l at (block_from 1 0 l) e f) ∙ from_second
 
     pub found_number :
-        (n next : ℕ) (t : Programs) → number_after_o (text_from (drop (at + 1) l)) ≡ Number n → next ≡ at + length_from (drop at l)
+        (n next : ℕ) (t : Programs) → number_after_o (text_from (drop (at + 1) l)) ≡ Some n → next ≡ at + length_from (drop at l)
         → Empty (record { number = n; block = 3; byte = next }) t
         → scan t.main (blocks_from l 3 next) (subs_of t) ≡ programs_from (block_from 1 0 l) (blocks_from l 2 (0 + length_from l))
     found_number n next t f g d =

@@ -1,24 +1,24 @@
 -- Document 01, "Data set and blocks": the openings, the main program and the subprograms.
-use Rattle.std.specs.Prelude.{◌+◌, ◌-◌, ◌&&◌, ◌||◌, ◌∷◌, ◌++◌, if◌then◌else◌}
-use Rattle.terms.specs.Common.{ℕ, Bool, true, false, Option, List, [], eqb, leb, length, drop}
+use Rattle.std.specs.Prelude.{Result, Ok, Err, ◌+◌, ◌-◌, ◌&&◌, ◌||◌, ◌∷◌, ◌++◌, if◌then◌else◌}
+use Rattle.terms.specs.Common.{ℕ, Bool, true, false, Option, None, Some, List, [], eqb, leb, length, drop}
 use Rattle.terms.specs.Terms.{any, first, from_to}
 use Rattle.refusals.specs.declared.{Refusal.Refusal, Refusal.TheVariants.BadParameter, Refusal.TheVariants.DuplicateNumber, Refusal.TheVariants.TableOver, Place.Place}
 use Rattle.words.specs.Numbers.{is_digit, run, digits_after}
 use Rattle.lines.specs.{Gaps.only_gaps, Blocks.Block, Blocks.closes, Blocks.opens}
-use Rattle.programs.specs.declared.{Program.Program, Opening.Opening, Opening.TheVariants.Number, Opening.TheVariants.Bad, Entry.Entry, Entry.TheVariants.Refuses, Entry.TheVariants.Enters}
+use Rattle.programs.specs.declared.Program.{Program}
 
 -- the digits that a text begins with, as far as an opening may have them: a ninth makes the count 9, whatever follows
 abbrev pub figures_of : List ℕ → List ℕ
 figures_of text = run is_digit text
 
 -- "`O`, one to eight digits, value 1 to 9999, then only blanks and comments; else 1.": what follows the `O`
-unfoldable pub number_after_o : List ℕ → Opening
+unfoldable pub number_after_o : List ℕ → Option ℕ
 number_after_o bs =
     let figures = run is_digit bs in
     let value = digits_after 0 figures in
-    if from_to 1 8 (length figures) && from_to 1 9_999 value && only_gaps (drop (length figures) bs) then Number value else Bad
+    if from_to 1 8 (length figures) && from_to 1 9_999 value && only_gaps (drop (length figures) bs) then Some value else None
 
-unfoldable pub opening_of : Block → Opening
+unfoldable pub opening_of : Block → Option ℕ
 opening_of b = number_after_o (drop 1 b.text)
 
 abbrev pub place_of : Block → Place
@@ -43,16 +43,16 @@ unfoldable pub is_taken : Program → List Program → ℕ → Bool
 is_taken main subs n = eqb n main.number || any (λ p. eqb n p.number) subs
 
 -- "per opening 1, 8, 7": a subprogram's opening is refused, or enters its number
-unfoldable pub entry_of : Program → List Program → Opening → Entry
-entry_of main subs Bad = Refuses BadParameter
-entry_of main subs (Number n) =
-    if is_taken main subs n then Refuses DuplicateNumber
-    else (if leb most (length subs) then Refuses TableOver
-    else Enters n)
+unfoldable pub entry_of : Program → List Program → Option ℕ → Result ℕ Refusal
+entry_of main subs None = Err BadParameter
+entry_of main subs (Some n) =
+    if is_taken main subs n then Err DuplicateNumber
+    else (if leb most (length subs) then Err TableOver
+    else Ok n)
 
-unfoldable pub entered : Entry → List Program → Block → (List Program → Table) → Table
-entered (Refuses refusal) subs b rest = refused_at refusal (place_of b)
-entered (Enters n) subs b rest = rest (subs ++ program_after n b ∷ [])
+unfoldable pub entered : Result ℕ Refusal → List Program → Block → (List Program → Table) → Table
+entered (Err refusal) subs b rest = refused_at refusal (place_of b)
+entered (Ok n) subs b rest = rest (subs ++ program_after n b ∷ [])
 
 unfoldable pub scan_block : Bool → Bool → Program → List Program → Block → (List Program → Table) → Table
 scan_block true isOpening main subs b rest = table main subs
@@ -65,9 +65,9 @@ scan main [] subs = table main subs
 scan main (b ∷ bs) subs = scan_block (closes b) (opens b) main subs b (scan main bs)
 
 -- "Blocks before any `O`, or under the first `O` where that is the second block, are the main program."
-unfoldable pub main_as : Opening → Block → List Block → Table
-main_as Bad b bs = refused_at BadParameter (place_of b)
-main_as (Number n) b bs = scan (program_after n b) bs []
+unfoldable pub main_as : Option ℕ → Block → List Block → Table
+main_as None b bs = refused_at BadParameter (place_of b)
+main_as (Some n) b bs = scan (program_after n b) bs []
 
 unfoldable pub programs_from : Block → List Block → Table
 programs_from percent [] = table (program_after 0 percent) []

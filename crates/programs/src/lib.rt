@@ -3,13 +3,13 @@
 
 mod openings;
 
-ghost use Rattle.std.specs.Prelude.{◌≡◌, ◌+◌, ◌≤◌, ◌<◌};
+ghost use Rattle.std.specs.Prelude.{MatchOption, ◌≡◌, ◌≤◌, ◌<◌};
 ghost use Rattle.terms.specs.Common.{true, length, drop};
 ghost use Rattle.lines.specs.Blocks.{text_from};
-ghost use Rattle.programs.specs.{Openings.number_after_o, Openings.is_taken, Openings.entry_of, Found.IsDigits, Found.subs_of, Found.WellFound, Found.Empty};
+ghost use Rattle.programs.specs.{Openings.figures_of, Openings.number_after_o, Openings.is_taken, Openings.entry_of, Found.IsDigits, Found.subs_of, Found.WellFound, Found.Empty};
 
 pub use openings::{find_callee, find_programs};
-use refusals::{Place, Refusal};
+use refusals::Refusal;
 
 // A program of the data: its number, and the block and byte that follow its opening.
 #[derive(Clone, Copy)]
@@ -27,101 +27,51 @@ pub struct Programs {
     pub subs: [Program; 10],
 }
 
-#[derive(Clone, Copy)]
-pub enum Verdict {
-    Fine,
-    Refused(Refusal, Place),
-}
-
-// What the openings give; the programs are of use only where the verdict is fine.
-#[derive(Clone, Copy)]
-pub struct Scanned {
-    pub verdict: Verdict,
-    pub programs: Programs,
-}
-
-// The digits of an opening: how many there are, nine for more than eight, and their value.
+// The digits of an opening: how many there are, and their value.
 #[derive(Clone, Copy)]
 pub struct Digits {
     pub count: usize,
     pub value: u64,
 }
 
-// An opening's number, or a form that is none.
-#[derive(Clone, Copy)]
-pub enum Opening {
-    Number(u64),
-    Bad,
-}
-
-// What the opening of a subprogram leads to: its number enters the table, or it is refused.
-#[derive(Clone, Copy)]
-pub enum Entry {
-    Enters(u64),
-    Refuses(Refusal),
-}
-
-// What a call leads to: a subprogram, or a refusal.
-#[derive(Clone, Copy)]
-pub enum Callee {
-    Found(Program),
-    Refused(Refusal),
-}
-
-// What a call of a number finds.
-#[derive(Clone, Copy)]
-pub enum Found {
-    At(Program),
-    Missing,
-}
-
-fn read_digits(s: &[u8], at: usize) -> Digits
+// The digits from a place on, or none where there are more than eight.
+fn read_digits(s: &[u8], at: usize) -> Option<Digits>
     requires { at ≤ length s.now }
-    ensures { IsDigits (text_from (drop at s.now)) result }
+    ensures { MatchOption result (8 < length (figures_of (text_from (drop at s.now)))) (IsDigits (text_from (drop at s.now))) }
 {
-    let mut count: usize = 0;
     let mut value: u64 = 0;
-    let mut i = at;
-    while i < s.len() {
-        let b = s[i];
-        if b < b'0' {
-            break;
-        }
-        if b'9' < b {
-            break;
+    for (count, b) in s[at..].iter().enumerate() {
+        if !b.is_ascii_digit() {
+            return Some(Digits { count, value });
         }
         if count == 8 {
-            return Digits { count: 9, value };
+            return None;
         }
-        value = value * 10 + (b - b'0') as u64;
-        count += 1;
-        i += 1;
+        value = value * 10 + (*b - b'0') as u64;
     }
-    Digits { count, value }
+    let count = s.len() - at;
+    Some(Digits { count, value })
 }
 
-// The number of the opening whose `O` stands just before a place.
-pub fn read_opening(s: &[u8], at: usize) -> Opening
+// The number of the opening whose `O` stands just before a place, or none where its form is none.
+pub fn read_opening(s: &[u8], at: usize) -> Option<u64>
     requires { at ≤ length s.now }
     ensures { result ≡ number_after_o (text_from (drop at s.now)) }
 {
-    let d = read_digits(s, at);
+    let d = read_digits(s, at)?;
     if d.count == 0 {
-        return Opening::Bad;
-    }
-    if 8 < d.count {
-        return Opening::Bad;
+        return None;
     }
     if d.value == 0 {
-        return Opening::Bad;
+        return None;
     }
     if 9999 < d.value {
-        return Opening::Bad;
+        return None;
     }
     if lines::only_gaps(s, at + d.count) {
-        Opening::Number(d.value)
+        Some(d.value)
     } else {
-        Opening::Bad
+        None
     }
 }
 
@@ -130,37 +80,22 @@ fn is_taken(t: Programs, n: u64) -> bool
     requires { WellFound t }
     ensures { result ≡ is_taken t.main (subs_of t) n }
 {
-    let main = t.main;
-    if n == main.number {
-        return true;
-    }
-    let subs = t.subs;
-    let count = t.count;
-    let mut i = 0;
-    while i < count {
-        let p = subs[i];
-        if n == p.number {
-            return true;
-        }
-        i += 1;
-    }
-    false
+    n == t.main.number || t.subs[..t.count].iter().any(|p| n == p.number)
 }
 
-pub fn entry_of(t: Programs, o: Opening) -> Entry
+// The number of a subprogram's opening, which enters the table, or the refusal of the opening.
+pub fn entry_of(t: Programs, o: Option<u64>) -> Result<u64, Refusal>
     requires { WellFound t }
     ensures { result ≡ entry_of t.main (subs_of t) o }
 {
-    let Opening::Number(n) = o else {
-        return Entry::Refuses(Refusal::BadParameter);
-    };
+    let n = o.ok_or(Refusal::BadParameter)?;
     if is_taken(t, n) {
-        return Entry::Refuses(Refusal::DuplicateNumber);
+        return Err(Refusal::DuplicateNumber);
     }
     if 10 <= t.count {
-        return Entry::Refuses(Refusal::TableOver);
+        return Err(Refusal::TableOver);
     }
-    Entry::Enters(n)
+    Ok(n)
 }
 
 // A table with no subprogram yet.

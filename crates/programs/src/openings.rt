@@ -2,10 +2,10 @@
 ghost use Rattle.std.specs.Prelude.{◌≡◌, ◌+◌, ◌≤◌, ◌<◌};
 ghost use Rattle.terms.specs.Common.{length};
 ghost use Rattle.lines.specs.{Blocks.length_from, Blocks.block_from, Serving.blocks_from};
-ghost use Rattle.programs.specs.{Openings.scan, Openings.programs_from, Openings.known, Found.subs_of, Found.WellFound, Found.Entered, Answers.Gives, Answers.found_as, Answers.callee_by};
+ghost use Rattle.programs.specs.{Openings.scan, Openings.programs_from, Openings.known, Found.subs_of, Found.WellFound, Found.Entered, Answers.Gives, Answers.callee_by};
 
-use crate::{Callee, Entry, Found, Opening, Program, Programs, Scanned, Verdict};
-use refusals::{Place, Refusal};
+use crate::{Program, Programs};
+use refusals::{Place, Refusal, Refused};
 
 // The table with one subprogram more: its number, and the block and byte that follow its opening.
 fn with_program(t: Programs, number: u64, block: usize, byte: usize) -> Programs
@@ -25,7 +25,7 @@ fn with_program(t: Programs, number: u64, block: usize, byte: usize) -> Programs
 
 // The openings from a block on, whose number and place are given. A block's first byte is looked at, and then its bytes are passed up to its
 // LF; the scan is left from inside a block, at an opening that is refused or at the closing `%`.
-fn scan_openings(s: &[u8], from: usize, number: usize, found: Programs) -> Scanned
+fn scan_openings(s: &[u8], from: usize, number: usize, found: Programs) -> Result<Programs, Refused>
     requires number_bound { number ≤ from + 1 }
     requires well_found { WellFound found }
     ensures { Gives (scan found.main (blocks_from s.now number from) (subs_of found)) result }
@@ -50,11 +50,11 @@ fn scan_openings(s: &[u8], from: usize, number: usize, found: Programs) -> Scann
             }
             if s[at] == b'O' {
                 match crate::entry_of(programs, crate::read_opening(s, at + 1)) {
-                    Entry::Refuses(refusal) => {
-                        let verdict = Verdict::Refused(refusal, Place { block, byte: at });
-                        return Scanned { verdict, programs };
+                    Err(refusal) => {
+                        let place = Place { block, byte: at };
+                        return Err(Refused { refusal, place });
                     }
-                    Entry::Enters(n) => {
+                    Ok(n) => {
                         at = lines::next_block(s, at);
                         block += 1;
                         programs = with_program(programs, n, block, at);
@@ -66,13 +66,12 @@ fn scan_openings(s: &[u8], from: usize, number: usize, found: Programs) -> Scann
         }
         break;
     }
-    let verdict = Verdict::Fine;
-    Scanned { verdict, programs }
+    Ok(programs)
 }
 
 // The programs of data whose first block is `%` alone: the main program, under an opening in the second block or without
 // one, and the subprograms.
-pub fn find_programs(s: &[u8]) -> Scanned
+pub fn find_programs(s: &[u8]) -> Result<Programs, Refused>
     requires { 0 < length s.now }
     ensures { Gives (programs_from (block_from 1 0 s.now) (blocks_from s.now 2 (0 + length_from s.now))) result }
 {
@@ -85,55 +84,37 @@ pub fn find_programs(s: &[u8]) -> Scanned
         };
         return scan_openings(s, at, 2, crate::only_main(main));
     }
-    match crate::read_opening(s, at + 1) {
-        Opening::Bad => Scanned {
-            verdict: Verdict::Refused(Refusal::BadParameter, Place { block: 2, byte: at }),
-            programs: crate::only_main(Program {
-                number: 0,
-                block: 2,
-                byte: at,
-            }),
-        },
-        Opening::Number(number) => {
-            let next = lines::next_block(s, at);
-            let main = Program {
-                number,
-                block: 3,
-                byte: next,
-            };
-            scan_openings(s, next, 3, crate::only_main(main))
-        }
-    }
+    let Some(number) = crate::read_opening(s, at + 1) else {
+        return Err(Refused {
+            refusal: Refusal::BadParameter,
+            place: Place { block: 2, byte: at },
+        });
+    };
+    let next = lines::next_block(s, at);
+    let main = Program {
+        number,
+        block: 3,
+        byte: next,
+    };
+    scan_openings(s, next, 3, crate::only_main(main))
 }
 
 // The subprogram of a number. The main program is none.
-fn find(t: Programs, n: u64) -> Found
+fn find(t: Programs, n: u64) -> Option<Program>
     requires { WellFound t }
-    ensures { result ≡ found_as (known (subs_of t) n) }
+    ensures { result ≡ known (subs_of t) n }
 {
-    let subs = t.subs;
-    let count = t.count;
-    let mut i: usize = 0;
-    while i < count {
-        let p = subs[i];
-        if p.number == n {
-            return Found::At(p);
-        }
-        i += 1;
-    }
-    Found::Missing
+    t.subs[..t.count].iter().find(|p| p.number == n).copied()
 }
 
 // The subprogram of a number: 5 where there is none, and then 6 where no level is left for it.
-pub fn find_callee(programs: Programs, left: usize, number: u64) -> Callee
+pub fn find_callee(programs: Programs, left: usize, number: u64) -> Result<Program, Refusal>
     requires { WellFound programs }
     ensures { result ≡ callee_by (known (subs_of programs) number) left }
 {
-    let Found::At(program) = find(programs, number) else {
-        return Callee::Refused(Refusal::NumberNotFound);
-    };
+    let program = find(programs, number).ok_or(Refusal::NumberNotFound)?;
     if left == 0 {
-        return Callee::Refused(Refusal::NestOver);
+        return Err(Refusal::NestOver);
     }
-    Callee::Found(program)
+    Ok(program)
 }

@@ -1,15 +1,15 @@
--- The worst fault: "8: Duplicate Sub-Program Number". Data with two openings of one number, however they are written, is
+-- The worst fault: "8: Duplicate Sub-Program Some". Data with two openings of one number, however they are written, is
 -- refused, and gives no record, under every setup, room and budget.
 -- The table of programs goes by the openings alone: the blocks between them do not count.
-use Rattle.std.specs.Prelude.{if◌then◌else◌}
-use Rattle.terms.proofs.Common.{ℕ, ◌<◌, ◌+◌, ◌≤◌, ◌≡◌, refl, sym, ◌∙◌, ap, Bool, true, false, ◌&&◌, ◌||◌, or-true, or_assoc, false≢true, not, or-false, List, [], ◌∷◌, ◌++◌, map, append_assoc, arith, eqb-true, eq-eqb, ne_eqb, leb-true, lt-leb, le-ltb, not-true, eqb, leb, length, drop, length-append}
+use Rattle.std.specs.Prelude.{Result, Ok, Err, if◌then◌else◌}
+use Rattle.terms.proofs.Common.{ℕ, ◌<◌, ◌+◌, ◌≤◌, ◌≡◌, refl, sym, ◌∙◌, ap, Bool, true, false, ◌&&◌, ◌||◌, or-true, or_assoc, false≢true, not, or-false, Option, None, Some, List, [], ◌∷◌, ◌++◌, map, append_assoc, arith, eqb-true, eq-eqb, ne_eqb, leb-true, lt-leb, le-ltb, not-true, eqb, leb, length, drop, length-append}
 use Rattle.terms.specs.Terms.{any, from_to}
 use Rattle.terms.proofs.Laws.{any_snoc, both_left, both_right, either_left, either_right, any-neither}
 use Rattle.refusals.specs.{declared.Refusal.Refusal, declared.Place.Place, Numbers.number_of}
 use Rattle.refusals.specs.declared.Refusal.TheVariants.{BadParameter, DuplicateNumber, TableOver, FirstBlock, BadSetup, DataTooLong}
 use Rattle.words.specs.Numbers.{is_digit, run, digits_after}
 use Rattle.lines.specs.{Blocks.Block, Blocks.begins_with, Blocks.is_percent, Blocks.closes, Blocks.opens, Blocks.blocks_of, Gaps.only_gaps}
-use Rattle.programs.specs.declared.{Program.Program, Opening.Opening, Opening.TheVariants.Number, Opening.TheVariants.Bad, Entry.Entry, Entry.TheVariants.Refuses, Entry.TheVariants.Enters}
+use Rattle.programs.specs.declared.Program.{Program}
 use Rattle.programs.proofs.Entries.{taken_main, entry_refusal}
 use Rattle.programs.specs.Openings.{number_after_o, opening_of, place_of, program_after, Table, table, refused_at, is_taken, entry_of, entered, scan_block, scan, main_as, programs_from}
 use Rattle.setup.specs.{declared.Setup.Setup, Limits.valid_setup}
@@ -24,9 +24,9 @@ unfoldable scanned : Program → List Block → List Program → Table
 scanned main [] subs = table main subs
 scanned main (o ∷ os) subs = entered (entry_of main subs (opening_of o)) subs o (scanned main os)
 
-unfoldable main_by : Opening → Block → List Block → Table
-main_by Bad o os = refused_at BadParameter (place_of o)
-main_by (Number n) o os = scanned (program_after n o) os []
+unfoldable main_by : Option ℕ → Block → List Block → Table
+main_by None o os = refused_at BadParameter (place_of o)
+main_by (Some n) o os = scanned (program_after n o) os []
 
 -- the table of openings, of which the first is the main's or not
 unfoldable table_by : Bool → Block → List Block → Table
@@ -35,11 +35,11 @@ table_by true percent [] = table (program_after 0 percent) []
 table_by true percent (o ∷ os) = main_by (opening_of o) o os
 
 entered_same :
-    (e : Entry) (subs : List Program) (b : Block) (f g : List Program → Table) → ((ps : List Program) → f ps ≡ g ps)
+    (e : Result ℕ Refusal) (subs : List Program) (b : Block) (f g : List Program → Table) → ((ps : List Program) → f ps ≡ g ps)
     → entered e subs b f ≡ entered e subs b g
 unfolding entered
-entered_same (Refuses refusal) subs b f g h = refl
-entered_same (Enters n) subs b f g h = h (subs ++ program_after n b ∷ [])
+entered_same (Err refusal) subs b f g h = refl
+entered_same (Ok n) subs b f g h = h (subs ++ program_after n b ∷ [])
 
 scan_openings : (main : Program) (bs : List Block) (subs : List Program) → scan main bs subs ≡ scanned main (openings_in bs) subs
 unfolding scan scan_block with_block openings_in scanned
@@ -70,9 +70,9 @@ unfolding programs_from main_opens table_by with_block openings_in scanned main_
 programs_openings percent [] = refl
 programs_openings percent (b ∷ bs) = go (opens b) refl
   where
-    under : (o : Opening) → main_as o b bs ≡ main_by o b (openings_in bs)
-    under Bad = refl
-    under (Number n) = scan_openings (program_after n b) bs []
+    under : (o : Option ℕ) → main_as o b bs ≡ main_by o b (openings_in bs)
+    under None = refl
+    under (Some n) = scan_openings (program_after n b) bs []
 
     go :
         (isOpening : Bool) → opens b ≡ isOpening
@@ -97,27 +97,27 @@ module _ (main : Program) (subs : List Program) where
   unfolding is_taken
   taken_now p n e = taken_more p n ∙ rw (eq-eqb n p.number e) (or-true (is_taken main subs n))
 
-  entry_duplicate : (o : Opening) (n : ℕ) → o ≡ Number n → is_taken main subs n ≡ true → entry_of main subs o ≡ Refuses DuplicateNumber
+  entry_duplicate : (o : Option ℕ) (n : ℕ) → o ≡ Some n → is_taken main subs n ≡ true → entry_of main subs o ≡ Err DuplicateNumber
   unfolding entry_of
   entry_duplicate o n e f = rw e (rw f)
 
   entry_enters :
-      (o : Opening) (n : ℕ) → o ≡ Number n → is_taken main subs n ≡ false → length subs < 10 → entry_of main subs o ≡ Enters n
+      (o : Option ℕ) (n : ℕ) → o ≡ Some n → is_taken main subs n ≡ false → length subs < 10 → entry_of main subs o ≡ Ok n
   unfolding entry_of
   entry_enters o n e f h = rw e (rw (f, lt-leb 10 (length subs) h))
 
   -- an opening enters its own number
-  entry_own : (o : Opening) (n m : ℕ) → o ≡ Number n → entry_of main subs o ≡ Enters m → n ≡ m
+  entry_own : (o : Option ℕ) (n m : ℕ) → o ≡ Some n → entry_of main subs o ≡ Ok m → n ≡ m
   unfolding entry_of
   entry_own o n m e f = go (is_taken main subs n) (leb 10 (length subs)) (rw e at f)
     where
-      go : (taken full : Bool) → (if taken then Refuses DuplicateNumber else (if full then Refuses TableOver else Enters n)) ≡ Enters m → n ≡ m
+      go : (taken full : Bool) → (if taken then Err DuplicateNumber else (if full then Err TableOver else Ok n)) ≡ Ok m → n ≡ m
       go true full g = let never : ◌≡◌ {A = ℕ} 0 1 = cc in absurd (omega arith)
       go false true g = let never : ◌≡◌ {A = ℕ} 0 1 = cc in absurd (omega arith)
       go false false g = cc
 
 -- "value 1 to 9999": no opening has the number 0, which stands for a main program without an opening
-number_some : (b : Block) (n : ℕ) → opening_of b ≡ Number n → eqb n 0 ≡ false
+number_some : (b : Block) (n : ℕ) → opening_of b ≡ Some n → eqb n 0 ≡ false
 unfolding opening_of number_after_o
 number_some b n e =
     go (from_to 1 8 (length (run is_digit text))) (leb 1 value) (leb value 9_999) (only_gaps (drop (length (run is_digit text)) text)) refl e
@@ -130,7 +130,7 @@ number_some b n e =
 
     go :
         (count low high rest : Bool) → leb 1 value ≡ low
-        → (if count && (low && high) && rest then Number value else Bad) ≡ Number n → eqb n 0 ≡ false
+        → (if count && (low && high) && rest then Some value else None) ≡ Some n → eqb n 0 ≡ false
     go true true true true f g = let is : value ≡ n = cc in ne_eqb n 0 (λ z. omega (arith, leb-true 1 value f))
     go true true true false f g = let never : ◌≡◌ {A = ℕ} 0 1 = cc in absurd (omega arith)
     go true true false rest f g = let never : ◌≡◌ {A = ℕ} 0 1 = cc in absurd (omega arith)
@@ -140,26 +140,26 @@ number_some b n e =
 -- ---- numbers
 
 -- no opening has the number 0
-no_zero : (os : List Block) (ns : List ℕ) → map opening_of os ≡ map Number ns → any (λ k. eqb k 0) ns ≡ false
+no_zero : (os : List Block) (ns : List ℕ) → map opening_of os ≡ map Some ns → any (λ k. eqb k 0) ns ≡ false
 unfolding any
 no_zero [] [] e = refl
 no_zero [] (n ∷ ns) e = let never : ◌≡◌ {A = ℕ} 0 1 = cc in absurd (omega arith)
 no_zero (c ∷ os) [] e = let never : ◌≡◌ {A = ℕ} 0 1 = cc in absurd (omega arith)
 no_zero (c ∷ os) (n ∷ ns) e =
-    let is : opening_of c ≡ Number n = cc in
-    let rest : map opening_of os ≡ map Number ns = cc in
+    let is : opening_of c ≡ Some n = cc in
+    let rest : map opening_of os ≡ map Some ns = cc in
     rw (number_some c n is) (no_zero os ns rest)
 
 -- an opening's number is one of the numbers
 one_of :
-    (n : ℕ) (a : Block) (os rest : List Block) (ns : List ℕ) → opening_of a ≡ Number n → map opening_of (os ++ a ∷ rest) ≡ map Number ns
+    (n : ℕ) (a : Block) (os rest : List Block) (ns : List ℕ) → opening_of a ≡ Some n → map opening_of (os ++ a ∷ rest) ≡ map Some ns
     → any (eqb n) ns ≡ true
 unfolding any
 one_of n a [] rest [] e f = let never : ◌≡◌ {A = ℕ} 0 1 = cc in absurd (omega arith)
 one_of n a [] rest (m ∷ ns) e f = let is : n ≡ m = cc in rw (eq-eqb n m is)
 one_of n a (c ∷ os) rest [] e f = let never : ◌≡◌ {A = ℕ} 0 1 = cc in absurd (omega arith)
 one_of n a (c ∷ os) rest (m ∷ ns) e f =
-    let more : map opening_of (os ++ a ∷ rest) ≡ map Number ns = cc in
+    let more : map opening_of (os ++ a ∷ rest) ≡ map Some ns = cc in
     rw (one_of n a os rest ns e more) (or-true (eqb n m))
 
 -- ---- two openings of one number
@@ -179,30 +179,30 @@ refusing_later c r =
     let are = ap (c ∷◌) r.are in
     record { refusal = r.refusal; before = c ∷ r.before; at = r.at; after = r.after; are = are; reason = r.reason; is = r.is }
 
-module _ (main : Program) (b : Block) (n : ℕ) (number : opening_of b ≡ Number n) (later : List Block) where
+module _ (main : Program) (b : Block) (n : ℕ) (number : opening_of b ≡ Some n) (later : List Block) where
   -- an opening that is refused, or the table goes on with its number
   step :
-      (c : Block) (os : List Block) (subs : List Program) (e : Entry) → entry_of main subs (opening_of c) ≡ e
-      → ((m : ℕ) → e ≡ Enters m → Refusing os (scanned main (os ++ later) (subs ++ program_after m c ∷ [])))
+      (c : Block) (os : List Block) (subs : List Program) (e : Result ℕ Refusal) → entry_of main subs (opening_of c) ≡ e
+      → ((m : ℕ) → e ≡ Ok m → Refusing os (scanned main (os ++ later) (subs ++ program_after m c ∷ [])))
       → Refusing (c ∷ os) (scanned main (c ∷ os ++ later) subs)
   unfolding scanned entered
-  step c os subs (Refuses refusal) e on =
+  step c os subs (Err refusal) e on =
       let reason = entry_refusal main subs (opening_of c) refusal e in
       record { refusal = refusal; before = []; at = c; after = os; are = refl; reason = reason; is = rw e }
-  step c os subs (Enters m) e on = rw e (refusing_later c (on m refl))
+  step c os subs (Ok m) e on = rw e (refusing_later c (on m refl))
 
   -- a number that is taken is refused at its opening, where no opening before it is
   taken_refused :
       (os : List Block) (subs : List Program) → is_taken main subs n ≡ true
       → Refusing (os ++ b ∷ []) (scanned main ((os ++ b ∷ []) ++ later) subs)
   taken_refused [] subs e =
-      step b [] subs (Refuses DuplicateNumber) (entry_duplicate main subs (opening_of b) n number e)
+      step b [] subs (Err DuplicateNumber) (entry_duplicate main subs (opening_of b) n number e)
       (λ m f. let never : ◌≡◌ {A = ℕ} 0 1 = cc in absurd (omega arith))
   taken_refused (c ∷ os) subs e =
       step c (os ++ b ∷ []) subs (entry_of main subs (opening_of c)) refl
       (λ m f. taken_refused os (subs ++ program_after m c ∷ []) (taken_still main subs (program_after m c) n e))
 
-  module _ (a : Block) (same : opening_of a ≡ Number n) (between : List Block) where
+  module _ (a : Block) (same : opening_of a ≡ Some n) (between : List Block) where
     twice_refused :
         (os : List Block) (subs : List Program)
         → Refusing (os ++ a ∷ between ++ b ∷ []) (scanned main ((os ++ a ∷ between ++ b ∷ []) ++ later) subs)
@@ -217,14 +217,14 @@ module _ (main : Program) (b : Block) (n : ℕ) (number : opening_of b ≡ Numbe
 
 -- the main's opening is refused, or its number is taken from then on
 main_step :
-    (o : Opening) (c : Block) (os later : List Block)
-    → ((m : ℕ) → o ≡ Number m → Refusing os (scanned (program_after m c) (os ++ later) [])) → Refusing (c ∷ os) (main_by o c (os ++ later))
+    (o : Option ℕ) (c : Block) (os later : List Block)
+    → ((m : ℕ) → o ≡ Some m → Refusing os (scanned (program_after m c) (os ++ later) [])) → Refusing (c ∷ os) (main_by o c (os ++ later))
 unfolding main_by any
-main_step Bad c os later on =
+main_step None c os later on =
     record { refusal = BadParameter; before = []; at = c; after = os; are = refl; reason = refl; is = refl }
-main_step (Number m) c os later on = refusing_later c (on m refl)
+main_step (Some m) c os later on = refusing_later c (on m refl)
 
-module _ (b a : Block) (n : ℕ) (other : opening_of b ≡ Number n) (one : opening_of a ≡ Number n) (between later : List Block) where
+module _ (b a : Block) (n : ℕ) (other : opening_of b ≡ Some n) (one : opening_of a ≡ Some n) (between later : List Block) where
   under_main :
       (percent : Block) (os : List Block)
       → Refusing (os ++ a ∷ between ++ b ∷ []) (table_by true percent ((os ++ a ∷ between ++ b ∷ []) ++ later))
@@ -257,9 +257,9 @@ free_still :
 free_still main subs p ns =
     any-neither (is_taken main (subs ++ p ∷ [])) (is_taken main subs) (λ k. eqb k p.number) (λ k e. sym (taken_more main subs p k) ∙ e) ns
 
-module _ (b : Block) (n : ℕ) (number : opening_of b ≡ Number n) (later : List Block) where
+module _ (b : Block) (n : ℕ) (number : opening_of b ≡ Some n) (later : List Block) where
   first_refused :
-      (main : Program) (os : List Block) (ns : List ℕ) (subs : List Program) → map opening_of os ≡ map Number ns → all_different ns ≡ true
+      (main : Program) (os : List Block) (ns : List ℕ) (subs : List Program) → map opening_of os ≡ map Some ns → all_different ns ≡ true
       → any (is_taken main subs) ns ≡ false → length subs + length os ≤ 10 → (is_taken main subs n || any (eqb n) ns) ≡ true
       → scanned main (os ++ b ∷ later) subs ≡ refused_at DuplicateNumber (place_of b)
   unfolding scanned entered any all_different
@@ -269,8 +269,8 @@ module _ (b : Block) (n : ℕ) (number : opening_of b ≡ Number n) (later : Lis
   first_refused main (c ∷ os) [] subs g d f h e = let never : ◌≡◌ {A = ℕ} 0 1 = cc in absurd (omega arith)
   first_refused main (c ∷ os) (m ∷ ns) subs g d f h e =
       let p = program_after m c in
-      let is : opening_of c ≡ Number m = cc in
-      let rest : map opening_of os ≡ map Number ns = cc in
+      let is : opening_of c ≡ Some m = cc in
+      let rest : map opening_of os ≡ map Some ns = cc in
       let new : is_taken main subs m ≡ false = either_left (is_taken main subs m) (any (is_taken main subs) ns) f in
       let others : any (is_taken main subs) ns ≡ false = either_right (is_taken main subs m) (any (is_taken main subs) ns) f in
       let differ : any (λ k. eqb k m) ns ≡ false =
@@ -295,8 +295,8 @@ module _ (b : Block) (n : ℕ) (number : opening_of b ≡ Number n) (later : Lis
   first_table true percent (c ∷ os) [] h e = absurd (false≢true e)
   first_table true percent (c ∷ os) (m ∷ ns) h e =
       let g = h.good in
-      let is : opening_of c ≡ Number m = cc in
-      let rest : map opening_of os ≡ map Number ns = cc in
+      let is : opening_of c ≡ Some m = cc in
+      let rest : map opening_of os ≡ map Some ns = cc in
       let differ : any (λ k. eqb k m) ns ≡ false =
       not-true (any (λ k. eqb k m) ns) (both_left (not (any (λ k. eqb k m) ns)) (all_different ns) h.different) in
       rw is

@@ -1,11 +1,11 @@
 -- The openings of the data, and two of them with one number: the worst fault of the old box, that it ran one of two
 -- subprograms of one number.
 use Rattle.std.specs.Prelude.{◌+◌, ◌≤◌, ◌≡◌, ◌&&◌, ◌∷◌, ◌++◌, if◌then◌else◌}
-use Rattle.terms.specs.Common.{ℕ, Bool, true, false, not, List, [], map, eqb, length, drop}
+use Rattle.terms.specs.Common.{ℕ, Bool, true, false, Some, not, List, [], map, eqb, length, drop}
 use Rattle.terms.specs.Terms.{any}
 use Rattle.refusals.specs.{declared.Place.Place, Answers.refused_with, Answers.report_of}
 use Rattle.lines.specs.Blocks.{Block, blocks_of, closes, opens}
-use Rattle.programs.specs.{Openings.opening_of, Openings.place_of, Openings.most, declared.Opening.TheVariants.Number}
+use Rattle.programs.specs.{Openings.opening_of, Openings.place_of, Openings.most}
 use Rattle.setup.specs.declared.Setup.{Setup}
 use Rattle.runs.specs.{Walk.nowhere, Run.answer_of, Run.records_of, declared.Budget.Budget}
 
@@ -47,8 +47,8 @@ pub record Twice (os : List Block) (b : Block) : Type 0 where
   pub between : List Block
   pub number : ℕ
   pub are : os ≡ before ++ first ∷ between ++ b ∷ []
-  pub one : opening_of first ≡ Number number
-  pub other : opening_of b ≡ Number number
+  pub one : opening_of first ≡ Some number
+  pub other : opening_of b ≡ Some number
 
 -- the openings before the second of the two
 abbrev pub earlier : {os : List Block} {b : Block} → Twice os b → List Block
@@ -82,6 +82,6 @@ all_different (n ∷ ns) = not (any (λ k. eqb k n) ns) && all_different ns
 
 -- Openings of which none is refused: each has a number, no two the same, and they are not too many.
 pub record InOrder (os : List Block) (numbers : List ℕ) (limit : ℕ) : Type 0 where
-  pub good : map opening_of os ≡ map Number numbers
+  pub good : map opening_of os ≡ map Some numbers
   pub different : all_different numbers ≡ true
   pub few : length os ≤ limit

@@ -21,23 +21,23 @@ returns-then-not-is_percent c =
     (sym c.is_valid.ensures ∙ c.if-not-is_valid.false)
     (sym c.is_percent.ensures ∙ c.if-not-is_percent.true) c.refused-then-not-is_percent.ensures
 
-pub find_programs-found-requires : goal.find_programs-found-requires
-find_programs-found-requires c =
+pub find_programs-requires : goal.find_programs-requires
+find_programs-requires c =
     let a = c.args in
     some_byte a.setup a.bytes.now (length a.list.now) a.budget (omega arith) (sym c.is_valid.ensures ∙ c.if-not-is_valid.false) (sym c.is_percent.ensures ∙ c.if-not-is_percent.false)
 
 pub run_main-requires : goal.run_main-requires
 run_main-requires c =
     let a = c.args in
-    record { setup_value = sym c.is_valid.ensures ∙ c.if-not-is_valid.false; opened = programs_opened a.setup a.bytes.now a.budget a.list.now (omega arith) (sym c.is_valid.ensures ∙ c.if-not-is_valid.false) (sym c.is_percent.ensures ∙ c.if-not-is_percent.false) c.find_programs-found.ensures c.in-Fine.is }
+    record { setup_value = sym c.is_valid.ensures ∙ c.if-not-is_valid.false; opened = programs_opened a.setup a.bytes.now a.budget a.list.now (omega arith) (sym c.is_valid.ensures ∙ c.if-not-is_valid.false) (sym c.is_percent.ensures ∙ c.if-not-is_percent.false) c.find_programs.ensures c.in-Ok.is }
 
-pub returns-in-Refused : goal.returns-in-Refused
-returns-in-Refused c =
+pub returns-in-Err : goal.returns-in-Err
+returns-in-Err c =
     let a = c.args in
-    gives_opening a.setup a.bytes.now a.budget a.list.now (omega arith) (sym c.is_valid.ensures ∙ c.if-not-is_valid.false) (sym c.is_percent.ensures ∙ c.if-not-is_percent.false) c.find_programs-found.ensures c.in-Refused.is c.refused-in-Refused.ensures
+    gives_opening a.setup a.bytes.now a.budget a.list.now (omega arith) (sym c.is_valid.ensures ∙ c.if-not-is_valid.false) (sym c.is_percent.ensures ∙ c.if-not-is_percent.false) c.find_programs.ensures c.in-Err.is c.refused-in-Err.ensures
 
-pub returns-in-Fine : goal.returns-in-Fine
-returns-in-Fine c =
+pub returns-in-Ok : goal.returns-in-Ok
+returns-in-Ok c =
     let a = c.args in
-    gives_main a.setup a.bytes.now a.budget a.list.now (omega arith) (sym c.is_valid.ensures ∙ c.if-not-is_valid.false) (sym c.is_percent.ensures ∙ c.if-not-is_percent.false) c.find_programs-found.ensures c.in-Fine.is
+    gives_main a.setup a.bytes.now a.budget a.list.now (omega arith) (sym c.is_valid.ensures ∙ c.if-not-is_valid.false) (sym c.is_percent.ensures ∙ c.if-not-is_percent.false) c.find_programs.ensures c.in-Ok.is
     c.run_main.ensures

@@ -1,29 +1,20 @@
-use Rattle.terms.proofs.Common.{sym, ◌∙◌, arith}
+-- `programs::is_taken` meets its contract.
+use Rattle.std.proofs.Common.{rules, tests}
+use Rattle.std.proofs.lemmas.Iterator.{YieldsList-from_slice}
+use Rattle.std.proofs.lemmas.Iterator.Search.{any_from_yields_List}
+use Rattle.terms.proofs.Common.{sym, ◌∙◌, eq-eqb, eqb}
 use Rattle.programs.specs.Found.{subs_of}
-use Rattle.programs.proofs.Entries.{taken_main, taken_rest, search_start, search_done, search_found, search_past}
+use Rattle.programs.proofs.Entries.{taken_main, taken_rest, any_is}
 use Rattle.programs.proofs.is_taken.Goals as goal
 
-pub returns-then-n-main : goal.returns-then-n-main
-returns-then-n-main c = let a = c.args in sym (taken_main a.t.main (subs_of a.t) a.n c.if-n-main.true)
-
-pub loop-i-init : goal.loop-i-init
-loop-i-init c = (omega arith, c.requires.used, search_start c.args.n c.args.t.subs c.args.t.count (omega arith))
-
-pub returns-then-n-p : goal.returns-then-n-p
-returns-then-n-p c =
+pub returns-then-n-t : goal.returns-then-n-t
+returns-then-n-t c =
     let a = c.args in
-    sym
-    (taken_rest a.t.main (subs_of a.t) a.n c.if-n-main.false
-    ∙ search_found a.n a.t.subs a.t.count c.loop-i.i _ c.loop-i.invariant.2 (omega arith) c.if-n-p.true)
+    eq-eqb a.n a.t.main.number c.if-n-t.true ∙ sym (taken_main a.t.main (subs_of a.t) a.n c.if-n-t.true)
 
-pub loop-i-preserved : goal.loop-i-preserved
-loop-i-preserved c =
+pub returns-else-n-t : goal.returns-else-n-t
+returns-else-n-t c =
     let a = c.args in
-    (omega arith, c.loop-i.invariant.1, search_past a.n a.t.subs a.t.count c.loop-i.i _ c.loop-i.invariant.2 (omega arith) c.if-n-p.false)
-
-pub returns : goal.returns
-returns c =
-    let a = c.args in
-    sym
-    (taken_rest a.t.main (subs_of a.t) a.n c.if-n-main.false
-    ∙ search_done a.n a.t.subs a.t.count c.loop-i.i a.t.main c.loop-i.invariant.2 (omega arith))
+    any_from_yields_List (λ p. eqb a.n p.number) _ _ c.any.result c.any.ensures.ran
+    (YieldsList-from_slice (subs_of a.t) cc) (λ x b q k. search (rules, tests))
+    ∙ any_is a.n (subs_of a.t) ∙ sym (taken_rest a.t.main (subs_of a.t) a.n c.if-n-t.false)

@@ -27,20 +27,20 @@ run_leg-leg-requires-clause-fits t c = c.loop-how.invariant.fits
 pub returns-in-Over : goal.returns-in-Over
 returns-in-Over t c = c.loop-how.invariant.same _ _ (rw c.in-Over.is at (c.run_leg-leg.ensures c.args.task.programs))
 
-pub returns-in-Refused : goal.returns-in-Refused
-returns-in-Refused t c =
+pub returns-in-Err : goal.returns-in-Err
+returns-in-Err t c =
     call_refused (comes c.loop-how.invariant (rw c.in-Calls.is at (c.run_leg-leg.ensures c.args.task.programs)))
-    (sym c.in-Refused.is ∙ c.find_callee.ensures)
+    (sym c.in-Err.is ∙ c.find_callee.ensures)
 
 pub overflow_sub-left : goal.overflow_sub-left
 overflow_sub-left t c =
     call_level (comes c.loop-how.invariant (rw c.in-Calls.is at (c.run_leg-leg.ensures c.args.task.programs))) c.requires.sound
-    (sym c.in-Found.is ∙ c.find_callee.ensures)
+    (sym c.in-Ok.is ∙ c.find_callee.ensures)
 
 pub run_program-ending-requires : goal.run_program-ending-requires
 run_program-ending-requires t c =
     let call = comes c.loop-how.invariant (rw c.in-Calls.is at (c.run_leg-leg.ensures c.args.task.programs)) in
-    let found = sym c.in-Found.is ∙ c.find_callee.ensures in (
+    let found = sym c.in-Ok.is ∙ c.find_callee.ensures in (
       omega (arith, c.decreases, call_level call c.requires.sound found),
       (c.requires.sound, (call_placed call c.requires.sound found, call.reaches.after)),
     )
@@ -48,7 +48,7 @@ run_program-ending-requires t c =
 pub returns-in_default : goal.returns-in_default
 returns-in_default t c =
     walking_stops (comes c.loop-how.invariant (rw c.in-Calls.is at (c.run_leg-leg.ensures c.args.task.programs))) c.requires.sound
-    (sym c.in-Found.is ∙ c.find_callee.ensures) c.run_program-ending.ensures (no_return (opened c.in_default.in_default-own.keys2))
+    (sym c.in-Ok.is ∙ c.find_callee.ensures) c.run_program-ending.ensures (no_return (opened c.in_default.in_default-own.keys2))
 
 pub overflow_add-block : goal.overflow_add-block
 overflow_add-block t c =
@@ -61,4 +61,4 @@ loop-how-smaller t c = caller_less (comes c.loop-how.invariant (rw c.in-Calls.is
 pub loop-how-preserved : goal.loop-how-preserved
 loop-how-preserved t c =
     walking_back (comes c.loop-how.invariant (rw c.in-Calls.is at (c.run_leg-leg.ensures c.args.task.programs))) c.requires.sound
-    (sym c.in-Found.is ∙ c.find_callee.ensures) c.run_program-ending.ensures c.in-Returned.is
+    (sym c.in-Ok.is ∙ c.find_callee.ensures) c.run_program-ending.ensures c.in-Returned.is

@@ -1,6 +1,6 @@
 use Rattle.terms.proofs.Common.{◌<◌, ◌≡◌, sym, ◌∙◌, true, length, drop, get_or, arith}
 use Rattle.lines.{specs.Blocks.begins_with, specs.Blocks.text_from, proofs.Lines.length_some}
-use Rattle.programs.specs.Found.{table_by}
+use Rattle.programs.specs.Found.{table_of}
 use Rattle.programs.proofs.{Finding.gives_as}
 use Rattle.programs.proofs.Scanning.{next_inside, opens_at, found_plain, found_bad, found_number}
 use Rattle.programs.proofs.openings.find_programs.Goals as goal
@@ -36,30 +36,30 @@ next_block-next-requires c =
     let opened : (c.next_block-at.result < length c.args.s.now) × (get_or c.args.s.now c.next_block-at.result 0 ≡ 79) = opens_at c.args.s.now c.next_block-at.result begins in
     let o = opened in omega (arith, o.0)
 
-pub scan_openings-requires-in-Number : goal.scan_openings-requires-in-Number
-scan_openings-requires-in-Number c =
+pub scan_openings-requires-2 : goal.scan_openings-requires-2
+scan_openings-requires-2 c =
     let begins : begins_with 79 (text_from (drop c.next_block-at.result c.args.s.now)) ≡ true = sym c.begins_with.ensures ∙ c.if-not-begins_with.false in
     let opened : (c.next_block-at.result < length c.args.s.now) × (get_or c.args.s.now c.next_block-at.result 0 ≡ 79) = opens_at c.args.s.now c.next_block-at.result begins in
     let o = opened in
     let l = c.args.s.now in
     let at = c.next_block-at.result in
-    record { number_bound = omega (arith, c.next_block-next.ensures, length_some l at o.0, c.next_block-at.ensures, length_some l 0 (omega (arith, o.0))); well_found = c.only_main-in-Number.ensures.ready }
+    record { number_bound = omega (arith, c.next_block-next.ensures, length_some l at o.0, c.next_block-at.ensures, length_some l 0 (omega (arith, o.0))); well_found = c.only_main-2.ensures.ready }
 
-pub returns-in-Bad : goal.returns-in-Bad
-unfolding table_by
-returns-in-Bad c =
+pub returns-in_default : goal.returns-in_default
+unfolding table_of
+returns-in_default c =
     let begins : begins_with 79 (text_from (drop c.next_block-at.result c.args.s.now)) ≡ true = sym c.begins_with.ensures ∙ c.if-not-begins_with.false in
     record {
       table =
           found_bad c.args.s.now c.next_block-at.result c.next_block-at.ensures begins
-          (sym c.read_opening.ensures ∙ c.in-Bad.is);
-      ready = c.only_main-in-Bad.ensures.ready;
+          (sym c.read_opening.ensures ∙ c.in_default.is);
+      ready = tt;
     }
 
-pub returns-in-Number : goal.returns-in-Number
-returns-in-Number c =
+pub returns : goal.returns
+returns c =
     let begins : begins_with 79 (text_from (drop c.next_block-at.result c.args.s.now)) ≡ true = sym c.begins_with.ensures ∙ c.if-not-begins_with.false in
-    gives_as c.scan_openings-in-Number.ensures
+    gives_as c.scan_openings-2.ensures
     (found_number c.args.s.now c.next_block-at.result c.next_block-at.ensures begins
-    _ c.next_block-next.result c.only_main-in-Number.result (sym c.read_opening.ensures ∙ c.in-Number.is)
-    c.next_block-next.ensures c.only_main-in-Number.ensures)
+    _ c.next_block-next.result c.only_main-2.result (sym c.read_opening.ensures ∙ c.in-Some.is)
+    c.next_block-next.ensures c.only_main-2.ensures)

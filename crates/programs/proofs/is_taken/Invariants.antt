@@ -1,9 +1,0 @@
-use Rattle.terms.proofs.Common.{◌-◌, ◌≤◌}
-use Rattle.programs.proofs.Entries.{Search}
-use Rattle.programs.proofs.is_taken.Given as goal
-
-abbrev pub invariant-loop-i : goal.invariant-loop-i
-invariant-loop-i l = (l.i ≤ l.count) × (l.count ≤ 10) × Search l.n l.subs l.count l.i
-
-abbrev pub decreases-loop-i : goal.decreases-loop-i
-decreases-loop-i l = l.count - l.i
