@@ -3,7 +3,6 @@
 
 use codes::Misc;
 use letters::BlockCode;
-use refusals::Refusal;
 use settings::{Modes, State};
 use words::Values;
 
@@ -36,11 +35,4 @@ pub struct Done {
     pub next: usize,
     pub count: usize,
     pub after: usize,
-}
-
-// What a block comes to: a refusal with the byte that it names, or its acceptance.
-#[derive(Clone, Copy)]
-pub enum Executed {
-    Refused(Refusal, usize),
-    Accepted(Done),
 }

@@ -1,5 +1,6 @@
 -- What the test of a planned block counts on, and what it comes to. Assumes nothing.
-use Rattle.terms.proofs.Common.{ℕ, zero, suc, ◌*◌, ◌^◌, ◌≤◌, ◌≡◌, refl, sym, ◌∙◌, ap, Bool, true, not, ◌&&◌, List, ◌++◌, append_assoc, arith, not-true, length, length-append}
+use Rattle.std.specs.Prelude.{Ok, Err}
+use Rattle.terms.proofs.Common.{ℕ, zero, suc, ◌*◌, ◌^◌, ◌≤◌, ◌≡◌, refl, sym, ◌∙◌, ap, Bool, true, not, ◌&&◌, Option, None, Some, List, ◌++◌, append_assoc, arith, not-true, length, length-append}
 use Rattle.refusals.specs.declared.Refusal.TheVariants.{BadParameter, LeavesTravel}
 use Rattle.lengths.specs.{Units.fits_four, declared.Flat.Flat, declared.Point.Point, declared.Travel.Travel, Points.inside, Points.flat, Near.Near, Near.FlatNear}
 use Rattle.lengths.proofs.Near.{flat_near}
@@ -10,15 +11,14 @@ use Rattle.records.specs.declared.Record.TheVariants.{RP, LN, AR, AL, DW, SP, SO
 use Rattle.setup.specs.{declared.Bed.Bed, Frame.origin_at}
 use Rattle.settings.specs.{declared.State.State, Target.target}
 use Rattle.arcs.specs.{Arcs.centre_fits, Bounds.Reach, Bounds.PathBounds}
-use Rattle.work.specs.declared.{Pass.Pass, Pass.TheVariants.One, Pass.TheVariants.Drill, Extent.Extent, Way.Way, Way.TheVariants.Ends, Way.TheVariants.Leaves}
+use Rattle.work.specs.declared.{Pass.Pass, Pass.TheVariants.One, Pass.TheVariants.Drill, Extent.Extent}
 use Rattle.work.proofs.Extents.{way_on, way_stops, way_ends, way_leaves, rows_few}
 use Rattle.work.proofs.Briefs.{AllStill, brief_still, still_ends, still_stays, brief_few}
 use Rattle.work.specs.Work.{rows_of, passes_of, leads, work_records, brief_records, pass_fits, grown, way_of}
 use Rattle.work.specs.Needs.{Poised, Counted, ArcFrom, RecordFrom, PassFrom, PassLoose, PassReady, Once, Leading, Testable, Little}
 use Rattle.blocks.specs.{declared.Said.Said, Machine.machine_of, Motions.centre_words, Motions.centre_for, Motions.arc_to, Reach.Steady, Exec.working, Exec.moves_in, Exec.made_by}
 use Rattle.blocks.proofs.Nearness.{aims, kept_near, from_inside, target_sums, low_near, high_near, centre_close, bounds, both_fit, first_near, second_near}
-use Rattle.execution.specs.{declared.Planned.Planned, declared.Checked.Checked, Steps.planned_records, Steps.Plans, Steps.none_yet, Steps.checked_by}
-use Rattle.execution.specs.declared.Checked.TheVariants as Checked
+use Rattle.execution.specs.{declared.Planned.Planned, Steps.planned_records, Steps.Plans, Steps.none_yet, Steps.checked_by}
 
 -- ---- a pass whose record comes from the words of the block
 
@@ -105,15 +105,15 @@ module _ (bed : Bed) (s : State) (b : Said) (steady : Steady bed s b) where
 
 -- ---- what a test comes to
 
-checked_out : {sound : Bool} {way : Way} → sound ≡ true → way ≡ Leaves → Checked.Refused LeavesTravel ≡ checked_by sound way
+checked_out : {sound : Bool} {way : Option Extent} → sound ≡ true → way ≡ None → Err LeavesTravel ≡ checked_by sound way
 unfolding checked_by
 checked_out e f = rw (e, f)
 
-checked_in : {sound : Bool} {way : Way} {y : Extent} → sound ≡ true → way ≡ Ends y → Checked.Comes y ≡ checked_by sound way
+checked_in : {sound : Bool} {way : Option Extent} {y : Extent} → sound ≡ true → way ≡ Some y → Ok y ≡ checked_by sound way
 unfolding checked_by
 checked_in e f = rw (e, f)
 
-way_still : (t : Travel) (x : Extent) (rs : List Record) → AllStill rs → way_of t x rs ≡ Ends (grown x rs)
+way_still : (t : Travel) (x : Extent) (rs : List Record) → AllStill rs → way_of t x rs ≡ Some (grown x rs)
 unfolding way_of
 way_still t x rs h = rw (still_stays t x.end rs h)
 
@@ -202,24 +202,24 @@ module _ {bed : Bed} {s : State} {b : Said} {p : Planned} (h : Plans bed s b p) 
         ∙ ap (λ (x : Extent). way_of bed.travel x (work ++ after)) (sym is)
 
     pub block_leaves :
-        p.work.sound ≡ true → Leaves ≡ way_of bed.travel e (work_records p.work p.aim e.end)
-        → Checked.Refused LeavesTravel ≡ checked_by p.work.sound (way_of bed.travel (none_yet from) (planned_records p))
+        p.work.sound ≡ true → None ≡ way_of bed.travel e (work_records p.work p.aim e.end)
+        → Err LeavesTravel ≡ checked_by p.work.sound (way_of bed.travel (none_yet from) (planned_records p))
     block_leaves sound f =
         let out = way_leaves bed.travel e work (f ∙ ap (λ (x : Point). way_of bed.travel e (work_records p.work p.aim x)) here) in
         checked_out sound (on_way ∙ way_stops bed.travel e work after out)
 
     pub block_comes :
-        p.work.sound ≡ true → {x y : Extent} → Ends x ≡ way_of bed.travel e (work_records p.work p.aim e.end) → y ≡ grown x after
-        → Checked.Comes y ≡ checked_by p.work.sound (way_of bed.travel (none_yet from) (planned_records p))
+        p.work.sound ≡ true → {x y : Extent} → Some x ≡ way_of bed.travel e (work_records p.work p.aim e.end) → y ≡ grown x after
+        → Ok y ≡ checked_by p.work.sound (way_of bed.travel (none_yet from) (planned_records p))
     block_comes sound {x} f g =
         let c = way_ends bed.travel e work (f ∙ ap (λ (x : Point). way_of bed.travel e (work_records p.work p.aim x)) here) in
         checked_in sound
         (on_way ∙ way_on bed.travel e work after c.stays ∙ ap (λ (y : Extent). way_of bed.travel y after) (sym c.is)
-        ∙ way_still bed.travel x after (brief_still p.last) ∙ ap Ends (sym g))
+        ∙ way_still bed.travel x after (brief_still p.last) ∙ ap Some (sym g))
 
     -- and what comes after the work fits too
     pub work_little :
-        p.work.sound ≡ true → {x : Extent} → Ends x ≡ way_of bed.travel e (work_records p.work p.aim e.end) → Little x
+        p.work.sound ≡ true → {x : Extent} → Some x ≡ way_of bed.travel e (work_records p.work p.aim e.end) → Little x
     unfolding grown work_records
     work_little sound f =
         let test = testable sound in
@@ -231,7 +231,7 @@ module _ {bed : Bed} {s : State} {b : Said} {p : Planned} (h : Plans bed s b p) 
           count = omega (arith, test.count, test.few, few);
         })
 
-  pub block_unsound : not p.work.sound ≡ true → (way : Way) → Checked.Refused BadParameter ≡ checked_by p.work.sound way
+  pub block_unsound : not p.work.sound ≡ true → (way : Option Extent) → Err BadParameter ≡ checked_by p.work.sound way
   unfolding checked_by
   block_unsound e way = rw (not-true p.work.sound e)
 

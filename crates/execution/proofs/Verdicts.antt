@@ -1,4 +1,5 @@
 -- The order of refusals, step by step. Assumes nothing.
+use Rattle.std.specs.Prelude.{Result, Ok, Err}
 use Rattle.terms.proofs.Common.{ℕ, ◌+◌, ◌≡◌, refl, sym, ◌∙◌, ap, Bool, true, false, not, Option, None, Some, List, [], ◌∷◌, map, arith, ltb, length}
 use Rattle.terms.specs.Terms.{all, first_of}
 use Rattle.refusals.specs.declared.Refusal.{Refusal}
@@ -12,29 +13,27 @@ use Rattle.settings.specs.declared.State.{State}
 use Rattle.letters.specs.{Letters.first_that_may_not, Letters.has_centre, Letters.first_unused, Letters.first_bad_value, Letters.values_of, Judging.unused_or, Judging.bad_or, Judging.judged_by}
 use Rattle.letters.specs.declared.Judged.{Judged, TheVariants.Fine, TheVariants.Unused, TheVariants.Bad}
 use Rattle.reading.specs.Whole.{standing, status_of}
-use Rattle.blocks.specs.declared.{Said.Said, Control.Control, Executed.Executed, Executed.TheVariants.Refused, Executed.TheVariants.Accepted}
+use Rattle.blocks.specs.declared.{Said.Said, Control.Control, Done.Done}
 use Rattle.blocks.{specs.Machine.Machine, specs.Doing.made_of, specs.Doing.executed, specs.Doing.Does, proofs.Accepting.past_all}
 use Rattle.blocks.specs.Exec.{Calls, Verdict, refused, accepted, said_by, moves_in, made_by, settled, control_of, in_main, call_to, unknown_call, too_deep, lacks_parameter, cannot_drill, at_word, at_start, blames, unless, judged, exec_words}
 use Rattle.execution.specs.Steps.{judged_from}
-use Rattle.reading.specs.declared.Status.TheVariants as status
 
 -- ---- what a verdict leaves
 
 module _ {offset : Point} {v : Verdict} {was : List ℕ} {at after : ℕ} where
   pub does_refused :
-      (refusal : Refusal) (byte : ℕ) → v ≡ refused (record { refusal = refusal; byte = byte })
-      → Does offset v was at after was (Refused refusal byte)
+      (blame : Blame) → v ≡ refused blame → Does offset v was at after was (Err blame)
   unfolding executed made_of list_bytes
-  does_refused refusal byte e = record { answer = rw e; bytes = rw e (wrote_none was at).bytes }
+  does_refused blame e = record { answer = rw e; bytes = rw e (wrote_none was at).bytes }
 
-  pub does_as : {u : Verdict} {is : List ℕ} {r : Executed} → v ≡ u → Does offset u was at after is r → Does offset v was at after is r
+  pub does_as : {u : Verdict} {is : List ℕ} {r : Result Done Blame} → v ≡ u → Does offset u was at after is r → Does offset v was at after is r
   does_as e d = rw e d
 
   module _ {s' : State} {control : Control} {made : List _} (e : v ≡ accepted s' control made) where
     pub does_accepted :
         {st : State} {ct : Control} {is : List ℕ} {next count : ℕ}
         → st ≡ s' → ct ≡ control → Wrote was at (moved_bytes offset made) is next → count ≡ length made
-        → Does offset v was at after is (Accepted (record { state = st; control = ct; next = next; count = count; after = after }))
+        → Does offset v was at after is (Ok (record { state = st; control = ct; next = next; count = count; after = after }))
     unfolding executed made_of
     does_accepted f g w n =
         let place : _ ≡ at + room_of made = w.place ∙ ap (at +◌) (list_length (map (record_moved offset) made) ∙ moved_room offset made) in
@@ -197,35 +196,31 @@ module _ (machine : Machine) (calls : Calls) (room : ℕ) (s : State) (start : �
 
 -- ---- 15 and 4
 
-standing_fine : (o : Option Word) → status.Fine ≡ standing o → o ≡ None
+standing_fine : (o : Option Word) → None ≡ standing o → o ≡ None
 unfolding standing
 standing_fine None e = refl
 standing_fine (Some w) e = let no : ◌≡◌ {A = ℕ} 0 1 = cc in absurd (omega arith)
 
 standing_word :
-    (o : Option Word) (refusal : Refusal) (byte : ℕ) → status.Refused refusal byte ≡ standing o
-    → at_word CannotExecute o ≡ Some (record { refusal = refusal; byte = byte })
+    (o : Option Word) (blame : Blame) → Some blame ≡ standing o
+    → at_word CannotExecute o ≡ Some blame
 unfolding standing at_word
-standing_word None refusal byte e = let no : ◌≡◌ {A = ℕ} 0 1 = cc in absurd (omega arith)
-standing_word (Some w) refusal byte e =
-    let same : CannotExecute ≡ refusal = cc in
-    let here : w.at ≡ byte = cc in
-    rw (same, here)
+standing_word None blame e = let no : ◌≡◌ {A = ℕ} 0 1 = cc in absurd (omega arith)
+standing_word (Some w) blame e = sym e
 
 module _ (machine : Machine) (calls : Calls) (room : ℕ) (s : State) (start : ℕ) where
   abbrev verdict : Words → Verdict
   verdict words = exec_words machine calls room s start words
 
   pub reading_stops :
-      (words : Words) (refusal : Refusal) (byte : ℕ) → status.Refused refusal byte ≡ status_of (in_main calls) words
-      → verdict words ≡ refused (record { refusal = refusal; byte = byte })
+      (words : Words) (blame : Blame) → Some blame ≡ status_of (in_main calls) words
+      → verdict words ≡ refused blame
   unfolding status_of exec_words judged blames
-  reading_stops (bad_at at) refusal byte e =
-      let same : refusal ≡ Unreadable = cc in
-      let here : byte ≡ at = cc in
-      rw (same, here)
-  reading_stops (these ws) refusal byte e =
-      stop _ _ _ _ (standing_word (first_that_may_not (in_main calls) [] ws) refusal byte e)
+  reading_stops (bad_at at) blame e =
+      let same : blame ≡ record { refusal = Unreadable; byte = at } = cc in
+      rw same
+  reading_stops (these ws) blame e =
+      stop _ _ _ _ (standing_word (first_that_may_not (in_main calls) [] ws) blame e)
 
   -- a block that reads as words all of which may stand
   pub record Stands (words : Words) : Type 0 where
@@ -233,7 +228,7 @@ module _ (machine : Machine) (calls : Calls) (room : ℕ) (s : State) (start : �
     pub are : words ≡ these ws
     pub goes : verdict words ≡ judged_from 1 machine calls room s start ws (said_by machine s.modes ws)
 
-  pub stands : (words : Words) → status.Fine ≡ status_of (in_main calls) words → Stands words
+  pub stands : (words : Words) → None ≡ status_of (in_main calls) words → Stands words
   unfolding status_of exec_words judged blames judged_from
   stands (bad_at at) e = let no : ◌≡◌ {A = ℕ} 0 1 = cc in absurd (omega arith)
   stands (these ws) e =

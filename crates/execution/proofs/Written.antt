@@ -1,5 +1,6 @@
 -- A planned block that has been tested: refused, or written as the rules say. Assumes nothing.
-use Rattle.terms.proofs.Common.{ℕ, ◌+◌, ◌-◌, ◌≤◌, ◌<◌, ◌≡◌, refl, sym, ◌∙◌, Bool, true, false, List, ◌++◌, arith, lt-ltb, le-ltb, length}
+use Rattle.std.specs.Prelude.{Ok, Err}
+use Rattle.terms.proofs.Common.{ℕ, ◌+◌, ◌-◌, ◌≤◌, ◌<◌, ◌≡◌, refl, sym, ◌∙◌, Bool, true, false, Option, None, Some, List, ◌++◌, arith, lt-ltb, le-ltb, length}
 use Rattle.refusals.specs.declared.Refusal.{Refusal, TheVariants.BadParameter, TheVariants.LeavesTravel, TheVariants.NoRoom}
 use Rattle.codes.specs.declared.Misc.{Misc}
 use Rattle.words.specs.declared.Word.{Word}
@@ -9,14 +10,13 @@ use Rattle.records.proofs.Moved.{ready_left, ready_right, put_then}
 use Rattle.setup.specs.declared.Bed.{Bed}
 use Rattle.settings.specs.declared.State.{State}
 use Rattle.arcs.{specs.Staying.stays_in, proofs.Paths.stays_both}
-use Rattle.work.specs.{declared.Extent.Extent, declared.Way.Way, declared.Way.TheVariants.Ends, declared.Way.TheVariants.Leaves, Work.work_records, Work.brief_records, Work.grown, Work.way_of}
+use Rattle.work.specs.{declared.Extent.Extent, Work.work_records, Work.brief_records, Work.grown, Work.way_of}
 use Rattle.work.{specs.Needs.Writable, proofs.Extents.way_ends, proofs.Extents.way_leaves, proofs.Briefs.brief_still, proofs.Briefs.still_ends}
-use Rattle.blocks.{specs.declared.Said.Said, specs.declared.Executed.TheVariants.Refused, specs.Machine.machine_of, specs.Calling.freely, proofs.Making.made_fits, proofs.Making.made_short}
+use Rattle.blocks.{specs.declared.Said.Said, specs.Machine.machine_of, specs.Calling.freely, proofs.Making.made_fits, proofs.Making.made_short}
 use Rattle.blocks.specs.Exec.{Verdict, refused, accepted, working, settled, control_of, made_by}
-use Rattle.execution.specs.{declared.Planned.Planned, declared.Checked.Checked, Steps.judged_from, Steps.settled_at, Steps.planned_records, Steps.Plans, Steps.none_yet, Steps.checked_by}
+use Rattle.execution.specs.{declared.Planned.Planned, Steps.judged_from, Steps.settled_at, Steps.planned_records, Steps.Plans, Steps.none_yet, Steps.checked_by}
 use Rattle.execution.proofs.Ready.{at_is, made_is, sound_is, leading, once}
 use Rattle.execution.proofs.Verdicts.{sound_past, sound_stops, fits_past, stays_past, stays_stops, room_stops, room_past}
-use Rattle.execution.specs.declared.Checked.TheVariants as Checked
 
 -- ---- the three parts of a block's records, one after the other
 
@@ -37,38 +37,38 @@ module _ (by : Point) {was : List ℕ} {at : ℕ} (a m z : List Record) where
 
 -- ---- what the test came to
 
-module _ (sound : Bool) (way : Way) where
+module _ (sound : Bool) (way : Option Extent) where
   pub record Came (e : Extent) : Type 0 where
     pub holds : sound ≡ true
-    pub ends : Ends e ≡ way
+    pub ends : Some e ≡ way
 
-  pub came : {e : Extent} → Checked.Comes e ≡ checked_by sound way → Came e
+  pub came : {e : Extent} → Ok e ≡ checked_by sound way → Came e
   unfolding checked_by
   came {e} f = go sound way refl refl f
     where
-      go : (t : Bool) (u : Way) → sound ≡ t → way ≡ u → Checked.Comes e ≡ checked_by t u → Came e
+      go : (t : Bool) (u : Option Extent) → sound ≡ t → way ≡ u → Ok e ≡ checked_by t u → Came e
       go false u g i j = let no : ◌≡◌ {A = ℕ} 0 1 = cc in absurd (omega arith)
-      go true Leaves g i j = let no : ◌≡◌ {A = ℕ} 0 1 = cc in absurd (omega arith)
-      go true (Ends x) g i j = let same : e ≡ x = cc in record { holds = g; ends = rw same (sym i) }
+      go true None g i j = let no : ◌≡◌ {A = ℕ} 0 1 = cc in absurd (omega arith)
+      go true (Some x) g i j = let same : e ≡ x = cc in record { holds = g; ends = rw same (sym i) }
 
   pub data Stopped (refusal : Refusal) : Type 0 where
     unsound : sound ≡ false → refusal ≡ BadParameter → Stopped refusal
-    outside : sound ≡ true → Leaves ≡ way → refusal ≡ LeavesTravel → Stopped refusal
+    outside : sound ≡ true → None ≡ way → refusal ≡ LeavesTravel → Stopped refusal
 
-  pub stopped : {refusal : Refusal} → Checked.Refused refusal ≡ checked_by sound way → Stopped refusal
+  pub stopped : {refusal : Refusal} → Err refusal ≡ checked_by sound way → Stopped refusal
   unfolding checked_by
   stopped {refusal} f = go sound way refl refl f
     where
-      go : (t : Bool) (u : Way) → sound ≡ t → way ≡ u → Checked.Refused refusal ≡ checked_by t u → Stopped refusal
+      go : (t : Bool) (u : Option Extent) → sound ≡ t → way ≡ u → Err refusal ≡ checked_by t u → Stopped refusal
       go false u g i j = unsound g (cc)
-      go true Leaves g i j = outside g (sym i) (cc)
-      go true (Ends x) g i j = let no : ◌≡◌ {A = ℕ} 0 1 = cc in absurd (omega arith)
+      go true None g i j = outside g (sym i) (cc)
+      go true (Some x) g i j = let no : ◌≡◌ {A = ℕ} 0 1 = cc in absurd (omega arith)
 
 module _ {bed : Bed} {s : State} {b : Said} {p : Planned} (h : Plans bed s b p) where
   abbrev made : List Record
   made = made_by (machine_of bed) s b
 
-  abbrev way : Way
+  abbrev way : Option Extent
   way = way_of bed.travel (none_yet p.works.at) (planned_records p)
 
   -- the test of the planned records is that of the block's
@@ -80,7 +80,7 @@ module _ {bed : Bed} {s : State} {b : Said} {p : Planned} (h : Plans bed s b p) 
     abbrev judged : ℕ → Verdict
     judged k = judged_from k (machine_of bed) (freely left) room s start ws b
 
-    pub stops : {refusal : Refusal} → Checked.Refused refusal ≡ checked_by p.work.sound way → judged 7 ≡ refused (record { refusal = refusal; byte = start })
+    pub stops : {refusal : Refusal} → Err refusal ≡ checked_by p.work.sound way → judged 7 ≡ refused (record { refusal = refusal; byte = start })
     stops {refusal} e = go (stopped p.work.sound way e)
       where
         go : Stopped p.work.sound way refusal → judged 7 ≡ refused (record { refusal = refusal; byte = start })
@@ -91,7 +91,7 @@ module _ {bed : Bed} {s : State} {b : Said} {p : Planned} (h : Plans bed s b p) 
             ∙ fits_past (machine_of bed) (freely left) room s start ws b (made_fits bed s b h.steady)
             ∙ stays_stops (machine_of bed) (freely left) room s start ws b (stays_is false (way_leaves bed.travel (none_yet p.works.at) (planned_records p) i)))
 
-    module _ {e : Extent} (c : Checked.Comes e ≡ checked_by p.work.sound way) where
+    module _ {e : Extent} (c : Ok e ≡ checked_by p.work.sound way) where
       comes : Came p.work.sound way e
       comes = came p.work.sound way c
 

@@ -1,8 +1,8 @@
 -- The steps of the code through the order of refusals, each stated over what is left of one list of them.
-use Rattle.std.specs.Prelude.{◌≡◌, ◌&&◌, ◌++◌}
-use Rattle.terms.specs.Common.{ℕ, Bool, true, false, not, List, drop, take}
+use Rattle.std.specs.Prelude.{◌≡◌, ◌&&◌, ◌++◌, Result, Ok, Err}
+use Rattle.terms.specs.Common.{ℕ, Bool, true, false, not, Option, None, Some, List, drop, take}
 use Rattle.terms.specs.Terms.{first_of}
-use Rattle.refusals.specs.declared.Refusal.TheVariants.{BadParameter, LeavesTravel}
+use Rattle.refusals.specs.declared.Refusal.{Refusal, TheVariants.BadParameter, TheVariants.LeavesTravel}
 use Rattle.codes.specs.{declared.Misc.Misc, Codes.is_m}
 use Rattle.words.specs.declared.Word.{Word}
 use Rattle.lengths.specs.declared.Point.{Point}
@@ -11,11 +11,10 @@ use Rattle.records.specs.declared.Record.{Record}
 use Rattle.settings.specs.declared.{State.State, Modes.Modes}
 use Rattle.letters.specs.Judging.{valued}
 use Rattle.reading.specs.{declared.Reading.Reading, Seen.Sums}
-use Rattle.work.specs.{declared.Way.Way, declared.Way.TheVariants.Ends, declared.Way.TheVariants.Leaves, declared.Extent.Extent, Work.work_records, Work.aim_of, Work.brief_records, Needs.Makes}
+use Rattle.work.specs.{declared.Extent.Extent, Work.work_records, Work.aim_of, Work.brief_records, Needs.Makes}
 use Rattle.blocks.specs.{declared.Said.Said, Machine.Machine, Motions.moves_of, Reach.Steady}
 use Rattle.blocks.specs.Exec.{working, settled, spindle_records, last_records, control_of, made_by, Calls, blames, Verdict, accepted, unless}
-use Rattle.execution.specs.declared.{Planned.Planned, Checked.Checked}
-use Rattle.execution.specs.declared.Checked.TheVariants as Checked
+use Rattle.execution.specs.declared.Planned.{Planned}
 
 -- the verdict by the refusals from a place of their order on
 unfoldable pub judged_from : ℕ → Machine → Calls → ℕ → State → ℕ → List Word → Said → Verdict
@@ -64,7 +63,7 @@ pub record Able (bed : Bed) (p : Planned) : Type 0 where
 abbrev pub none_yet : Point → Extent
 none_yet from = record { end = from; room = 0; count = 0 }
 
-unfoldable pub checked_by : Bool → Way → Checked
-checked_by false way = Checked.Refused BadParameter
-checked_by true Leaves = Checked.Refused LeavesTravel
-checked_by true (Ends e) = Checked.Comes e
+unfoldable pub checked_by : Bool → Option Extent → Result Extent Refusal
+checked_by false way = Err BadParameter
+checked_by true None = Err LeavesTravel
+checked_by true (Some e) = Ok e

@@ -10,13 +10,18 @@ ghost use Rattle.execution.specs.BlockReading.{JudgedAs, BlockReadAs};
 use crate::BlockRead;
 use blocks::Said;
 use letters::{Judged, Speeds};
-use reading::{Reading, Status};
-use refusals::Refusal;
+use reading::Reading;
+use refusals::{Blame, Refusal};
 use settings::State;
 use setup::Bed;
 
 // The block's words have been read, and all may stand: their values, 2 and 1, and what the block says.
-fn judge_words(bed: Bed, read: Reading, words: &[u64; 13], places: &[usize; 13]) -> BlockRead
+fn judge_words(
+    bed: Bed,
+    read: Reading,
+    words: &[u64; 13],
+    places: &[usize; 13],
+) -> Result<BlockRead, Blame>
     requires { Stored (words_in words.now places.now) read.count }
     ensures { JudgedAs bed (words_in words.now places.now) read result }
 {
@@ -33,8 +38,14 @@ fn judge_words(bed: Bed, read: Reading, words: &[u64; 13], places: &[usize; 13])
     let plane = modes.plane;
     let centred = letters::has_centre(code, plane, stood[8], stood[9], stood[10]);
     match letters::judge(speeds, modes, code, centred, words, places, read.count) {
-        Judged::Unused(byte) => BlockRead::Refused(Refusal::AddressUndefined, byte),
-        Judged::Bad(byte) => BlockRead::Refused(Refusal::BadParameter, byte),
+        Judged::Unused(byte) => Err(Blame {
+            refusal: Refusal::AddressUndefined,
+            byte,
+        }),
+        Judged::Bad(byte) => Err(Blame {
+            refusal: Refusal::BadParameter,
+            byte,
+        }),
         Judged::Fine(values) => {
             let said = Said {
                 modes,
@@ -43,14 +54,23 @@ fn judge_words(bed: Bed, read: Reading, words: &[u64; 13], places: &[usize; 13])
                 named: groups[1],
                 values,
             };
-            BlockRead::Says(said, read.end)
+            Ok(BlockRead {
+                said,
+                end: read.end,
+            })
         }
     }
 }
 
 // The words of the block that begin at a place of the data. The words are kept in two arrays of this function, lent to the reader and
 // to the judgement, so that nothing large is copied.
-pub fn read_block(s: &[u8], from: usize, left: usize, bed: Bed, state: State) -> BlockRead
+pub fn read_block(
+    s: &[u8],
+    from: usize,
+    left: usize,
+    bed: Bed,
+    state: State,
+) -> Result<BlockRead, Blame>
     requires from_in_bounds { from ≤ length s.now }
     requires fair { Fair bed }
     requires reachable { Reachable bed state }
@@ -58,10 +78,6 @@ pub fn read_block(s: &[u8], from: usize, left: usize, bed: Bed, state: State) ->
 {
     let mut words = [0u64; 13];
     let mut places = [0usize; 13];
-    let read = reading::read_words(s, from, left == 4, state.modes, &mut words, &mut places);
-    let status = read.status;
-    match status {
-        Status::Refused(refusal, byte) => BlockRead::Refused(refusal, byte),
-        Status::Fine => judge_words(bed, read, &words, &places),
-    }
+    let read = reading::read_words(s, from, left == 4, state.modes, &mut words, &mut places)?;
+    judge_words(bed, read, &words, &places)
 }

@@ -7,14 +7,14 @@ ghost use Rattle.work.specs.{Work.way_of, Needs.Writable};
 ghost use Rattle.blocks.specs.{Machine.machine_of, Reach.Steady, Exec.working, Calling.freely, Doing.Does};
 ghost use Rattle.execution.specs.Steps.{judged_from, planned_records, Plans, Able, none_yet, checked_by};
 
-use crate::{Checked, Planned, effects};
-use blocks::{Done, Executed, Said};
+use crate::{Planned, effects};
+use blocks::{Done, Said};
 use codes::Misc;
 use lengths::Point;
-use refusals::Refusal;
+use refusals::{Blame, Refusal};
 use settings::State;
 use setup::Bed;
-use work::{Aim, Extent, Way};
+use work::{Aim, Extent};
 
 // What a block makes, in the settings in which it moves.
 pub fn plan_block(bed: Bed, s: State, b: Said, works: State) -> Planned
@@ -48,8 +48,8 @@ pub fn plan_block(bed: Bed, s: State, b: Said, works: State) -> Planned
     }
 }
 
-// Tests the path of a block as a whole: 1 by geometry, 16 and 9.
-fn check_motion(bed: Bed, p: Planned) -> Checked
+// Tests the path of a block as a whole, 1 by geometry, 16 and 9, and answers what all its records come to.
+fn check_motion(bed: Bed, p: Planned) -> Result<Extent, Refusal>
     requires { Able bed p }
     ensures { result ≡ checked_by p.work.sound (way_of bed.travel (none_yet p.works.at) (planned_records p)) }
 {
@@ -58,21 +58,19 @@ fn check_motion(bed: Bed, p: Planned) -> Checked
     let first = p.first;
     let last = p.last;
     if !p.work.sound {
-        return Checked::Refused(Refusal::BadParameter);
+        return Err(Refusal::BadParameter);
     }
     if !work::work_fits(bed.offset, p.work) {
-        return Checked::Refused(Refusal::CentreTooFar);
+        return Err(Refusal::CentreTooFar);
     }
     let nothing = Extent {
         end: from,
         room: 0,
         count: 0,
     };
-    let Way::Ends(e) = work::check_work(bed.travel, p.work, p.aim, work::with_brief(nothing, first))
-    else {
-        return Checked::Refused(Refusal::LeavesTravel);
-    };
-    Checked::Comes(work::with_brief(e, last))
+    let spun = work::with_brief(nothing, first);
+    let moved = work::check_work(bed.travel, p.work, p.aim, spun).ok_or(Refusal::LeavesTravel)?;
+    Ok(work::with_brief(moved, last))
 }
 
 // Writes a block's records, and answers the place after them.
@@ -97,21 +95,27 @@ pub fn write_block(
     after: usize,
     misc: Misc,
     p: Planned,
-) -> Executed
+) -> Result<Done, Blame>
     requires at_in_bounds { at ≤ length list.old }
     requires able { Able bed p }
     ensures { (s : State) (b : Said) → Plans bed s b p → b.misc ≡ misc → (left : ℕ) (ws : List Word) → Does bed.offset (judged_from 7 (machine_of bed) (freely left) (length list.old - at) s start ws b) list.old at after list.new result }
 {
     let control = p.control;
     match check_motion(bed, p) {
-        Checked::Refused(refusal) => Executed::Refused(refusal, start),
-        Checked::Comes(e) => {
+        Err(refusal) => Err(Blame {
+            refusal,
+            byte: start,
+        }),
+        Ok(e) => {
             if list.len() - at < e.room {
-                return Executed::Refused(Refusal::NoRoom, start);
+                return Err(Blame {
+                    refusal: Refusal::NoRoom,
+                    byte: start,
+                });
             }
             let next = put_block(list, at, bed.offset, p);
             let state = effects::settled(p.works, misc, e.end);
-            Executed::Accepted(Done {
+            Ok(Done {
                 state,
                 control,
                 next,

@@ -34,7 +34,7 @@ pub fn working(s: State, b: Said) -> State
     let misc = b.misc;
     let feed = settings::or_else(b.values.f, s.feed);
     let speed = settings::or_else(b.values.s, s.speed);
-    let turning = s.turning | (codes::misc_number(misc) == 3);
+    let turning = s.turning | (misc == Misc::M03);
     let kept = kept_by(code, s, distance, b.values);
     State {
         at,
@@ -47,32 +47,27 @@ pub fn working(s: State, b: Said) -> State
 }
 
 // S with the spindle turning, or M03, writes one spindle record. The speed is that which the block works with.
-pub fn spindle_record(s: State, b: Said, speed: Len) -> Brief
+pub fn spindle_record(s: State, b: Said, speed: Len) -> Option<Brief>
     requires { speed ≡ (working s b).speed }
     ensures { brief_records result ≡ spindle_records s b }
 {
     let misc = b.misc;
-    if (s.turning & b.values.s.stands) | (codes::misc_number(misc) == 3) {
-        return Brief::Speed(speed);
+    if (s.turning & b.values.s.stands) | (misc == Misc::M03) {
+        return Some(Brief::Speed(speed));
     }
-    Brief::Nothing
+    None
 }
 
 // What the M code writes after the motion.
-pub fn last_record(misc: Misc) -> Brief
+pub fn last_record(misc: Misc) -> Option<Brief>
     ensures { brief_records result ≡ last_records misc }
 {
-    let n = codes::misc_number(misc);
-    if n == 5 {
-        return Brief::SpindleOff;
+    match misc {
+        Misc::M05 => Some(Brief::SpindleOff),
+        Misc::M00 => Some(Brief::Pause),
+        Misc::M02 | Misc::M30 => Some(Brief::End),
+        _ => None,
     }
-    if n == 0 {
-        return Brief::Pause;
-    }
-    if (n == 2) | (n == 30) {
-        return Brief::End;
-    }
-    Brief::Nothing
 }
 
 // The number that M98 calls. The value of P is not negative there.
@@ -86,17 +81,12 @@ pub fn control_of(b: Said) -> Control
     ensures { result ≡ control_of b }
 {
     let misc = b.misc;
-    let n = codes::misc_number(misc);
-    if n == 98 {
-        return Control::Call(called(b.values.p));
+    match misc {
+        Misc::M98 => Control::Call(called(b.values.p)),
+        Misc::M99 => Control::Back,
+        Misc::M02 | Misc::M30 => Control::Stop,
+        _ => Control::On,
     }
-    if n == 99 {
-        return Control::Back;
-    }
-    if (n == 2) | (n == 30) {
-        return Control::Stop;
-    }
-    Control::On
 }
 
 // The settings after the block, whose path ended at a point.
@@ -106,7 +96,7 @@ pub fn settled(w: State, misc: Misc, end: Point) -> State
     let modes = w.modes;
     let feed = w.feed;
     let speed = w.speed;
-    let turning = w.turning & (codes::misc_number(misc) != 5);
+    let turning = w.turning & (misc != Misc::M05);
     let kept = w.kept;
     State {
         at: end,

@@ -14,11 +14,11 @@ ghost use Rattle.setup.specs.Fair.{Fair};
 ghost use Rattle.blocks.specs.{Machine.machine_of, Reach.Steady, Reach.Reachable, Exec.exec, Calling.freely, Doing.Does};
 ghost use Rattle.execution.specs.Steps.{judged_from};
 
-use blocks::{Control, Executed, Said};
-use refusals::Refusal;
+use blocks::{Control, Done, Said};
+use refusals::{Blame, Refusal};
 use settings::State;
 use setup::Bed;
-use work::{Aim, Brief, Extent, Work};
+use work::{Aim, Brief, Work};
 
 // What a block stands on: the bed, and the levels left for calls.
 #[derive(Clone, Copy)]
@@ -34,11 +34,11 @@ pub struct Spot {
     pub from: usize,
 }
 
-// What is read of a block's words: a refusal with the byte that it names, or what they say, and where the block's text ends.
+// What is read of a block's words: what they say, and where the block's text ends.
 #[derive(Clone, Copy)]
-pub enum BlockRead {
-    Refused(Refusal, usize),
-    Says(Said, usize),
+pub struct BlockRead {
+    pub said: Said,
+    pub end: usize,
 }
 
 // A block whose motion is planned: where the run goes, the settings in which it moves, what its words lead by, and its records: that of
@@ -48,16 +48,9 @@ pub struct Planned {
     pub control: Control,
     pub works: State,
     pub aim: Aim,
-    pub first: Brief,
+    pub first: Option<Brief>,
     pub work: Work,
-    pub last: Brief,
-}
-
-// What the test of a planned block comes to: a refusal, or what all its records come to.
-#[derive(Clone, Copy)]
-pub enum Checked {
-    Refused(Refusal),
-    Comes(Extent),
+    pub last: Option<Brief>,
 }
 
 // What a block says is tested in the order of refusals: 3, 4 for a cycle, and then its path. 5 and 6 are tested where its call is
@@ -70,7 +63,7 @@ fn check_block(
     after: usize,
     s: State,
     b: Said,
-) -> Executed
+) -> Result<Done, Blame>
     requires at_in_bounds { at ≤ length list.old }
     requires steady { Steady bed s b }
     ensures { (left : ℕ) (ws : List Word) → Does bed.offset (judged_from 3 (machine_of bed) (freely left) (length list.old - at) s start ws b) list.old at after list.new result }
@@ -78,11 +71,17 @@ fn check_block(
     let code = b.code;
     let misc = b.misc;
     if order::lacks_parameter(code, b.values) {
-        return Executed::Refused(Refusal::ParameterUndefined, start);
+        return Err(Blame {
+            refusal: Refusal::ParameterUndefined,
+            byte: start,
+        });
     }
     let works = effects::working(s, b);
     if order::cannot_drill(b, works.turning) {
-        return Executed::Refused(Refusal::CannotExecute, start);
+        return Err(Blame {
+            refusal: Refusal::CannotExecute,
+            byte: start,
+        });
     }
     let planned = checking::plan_block(bed, s, b, works);
     checking::write_block(list, at, bed, start, after, misc, planned)
@@ -97,19 +96,14 @@ pub fn exec(
     footing: Ground,
     spot: Spot,
     state: State,
-) -> Executed
+) -> Result<Done, Blame>
     requires from_in_bounds { spot.from ≤ length s.now }
     requires at_in_bounds { at ≤ length list.old }
     requires fair { Fair footing.bed }
     requires reachable { Reachable footing.bed state }
     ensures { Does footing.bed.offset (exec (machine_of footing.bed) (freely footing.left) (length list.old - at) state spot.start spot.from (text_from (drop spot.from s.now))) list.old at (spot.from + length_from (drop spot.from s.now)) list.new result }
 {
-    let found = block_reading::read_block(s, spot.from, footing.left, footing.bed, state);
-    match found {
-        BlockRead::Refused(refusal, byte) => Executed::Refused(refusal, byte),
-        BlockRead::Says(said, end) => {
-            let after = lines::next_block(s, end);
-            check_block(list, at, footing.bed, spot.start, after, state, said)
-        }
-    }
+    let read = block_reading::read_block(s, spot.from, footing.left, footing.bed, state)?;
+    let after = lines::next_block(s, read.end);
+    check_block(list, at, footing.bed, spot.start, after, state, read.said)
 }

@@ -1,19 +1,18 @@
 -- What the code of a block answers, by the verdict of the rules, and what the verdict keeps. Assumes nothing.
-use Rattle.std.specs.Prelude.{if◌then◌else◌}
+use Rattle.std.specs.Prelude.{if◌then◌else◌, Result, Ok, Err}
 use Rattle.terms.proofs.Common.{ℕ, ◌+◌, ◌-◌, ◌≤◌, ◌≡◌, refl, ◌∙◌, ap, Bool, true, false, ◌&&◌, List, [], ◌∷◌, arith, length, drop, drop-drop}
-use Rattle.refusals.specs.declared.Refusal.{Refusal}
+use Rattle.refusals.specs.declared.Blame.{Blame}
 use Rattle.lines.proofs.Laws.{text_drop, text_next}
 use Rattle.lines.specs.Blocks.{Block, is_slashed, begins_with, text_from, length_from, block_from}
 use Rattle.setup.specs.Fair.{Fair}
 use Rattle.records.specs.{declared.Record.Record, Layout.room_of, Layout.list_bytes}
 use Rattle.settings.specs.declared.State.{State}
-use Rattle.blocks.specs.declared.{Control.Control, Control.TheVariants.On, Control.TheVariants.Call, Done.Done, Executed.Executed}
+use Rattle.blocks.specs.declared.{Control.Control, Control.TheVariants.On, Control.TheVariants.Call, Done.Done}
 use Rattle.blocks.specs.{Machine.machine_of, Exec.Verdict, Exec.refused, Exec.accepted, Exec.exec, Calling.freely, Reach.Reachable, Doing.made_of, Doing.executed, Doing.Does}
 use Rattle.blocks.proofs.{Accepting.accepted_kept, Calling.exec_makes_none}
 use Rattle.execution.specs.declared.Ground.{Ground}
 use Rattle.runs.specs.Walk.{slash_length}
 use Rattle.interpreter.specs.Progressing.{verdict_at}
-use Rattle.blocks.specs.declared.Executed.TheVariants as Executed
 
 -- ---- the verdict that an answer tells
 
@@ -25,7 +24,7 @@ pub record Accepts (at after : ℕ) (v : Verdict) (done : Done) : Type 0 where
   pub place : done.after ≡ after
 
 module _ (at after : ℕ) where
-  pub accepted_is : (v : Verdict) (done : Done) → Executed.Accepted done ≡ executed at after v → Accepts at after v done
+  pub accepted_is : (v : Verdict) (done : Done) → Ok done ≡ executed at after v → Accepts at after v done
   unfolding executed made_of
   accepted_is (refused blame) done e = let z : ◌≡◌ {A = ℕ} 0 1 = cc in absurd (omega arith)
   accepted_is (accepted s control made) done e =
@@ -33,13 +32,9 @@ module _ (at after : ℕ) where
       rw f (record { verdict = refl; next = refl; count = refl; place = refl })
 
   pub refused_is :
-      (v : Verdict) {refusal : Refusal} {byte : ℕ} → Executed.Refused refusal byte ≡ executed at after v
-      → v ≡ refused (record { refusal = refusal; byte = byte })
+      (v : Verdict) {blame : Blame} → Err blame ≡ executed at after v → v ≡ refused blame
   unfolding executed
-  refused_is (refused blame) {refusal} {byte} e =
-      let f : refusal ≡ blame.refusal = cc in
-      let g : byte ≡ blame.byte = cc in
-      rw (f, g)
+  refused_is (refused other) {blame} e = let f : blame ≡ other = cc in rw f
   refused_is (accepted s control made) e = let z : ◌≡◌ {A = ℕ} 0 1 = cc in absurd (omega arith)
 
 -- ---- what an accepted block keeps, skipped or executed: settings that a run can reach, and its records in the room
@@ -88,24 +83,24 @@ module _ (l : List ℕ) (footing : Ground) (skips : Bool) (n at next : ℕ) (sta
   abbrev after_it : ℕ
   after_it = at + length_from (drop at l)
 
-  abbrev Did : List ℕ → Executed → Type 0
+  abbrev Did : List ℕ → Result Done Blame → Type 0
   Did is r = Does footing.bed.offset (verdict_at footing skips (block_from n at (drop at l)) (length was - next) state) was next after_it is r
 
   -- what the words from a byte on give
-  abbrev DidFrom : ℕ → List ℕ → Executed → Type 0
+  abbrev DidFrom : ℕ → List ℕ → Result Done Blame → Type 0
   DidFrom from is r =
       Does footing.bed.offset
       (exec (machine_of footing.bed) (freely footing.left) (length was - next) state at from (text_from (drop from l))) was next
       (from + length_from (drop from l)) is r
 
-  pub does_plain : {is : List ℕ} {r : Executed} → begins_with 47 (text_from (drop at l)) ≡ false → DidFrom at is r → Did is r
+  pub does_plain : {is : List ℕ} {r : Result Done Blame} → begins_with 47 (text_from (drop at l)) ≡ false → DidFrom at is r → Did is r
   unfolding verdict_at slash_length
   does_plain e h =
       let f : at + 0 ≡ at = omega arith in
       rw (e, f) h
 
   module _ (e : begins_with 47 (text_from (drop at l)) ≡ true) where
-    pub does_slashed : {is : List ℕ} {r : Executed} → skips ≡ false → DidFrom (at + 1) is r → Did is r
+    pub does_slashed : {is : List ℕ} {r : Result Done Blame} → skips ≡ false → DidFrom (at + 1) is r → Did is r
     unfolding verdict_at slash_length
     does_slashed f h =
         let some : 1 ≤ length (text_from (drop at l)) = text_some (text_from (drop at l)) e in
@@ -119,7 +114,7 @@ module _ (l : List ℕ) (footing : Ground) (skips : Bool) (n at next : ℕ) (sta
 
     pub does_skipped :
         {after : ℕ} → skips ≡ true → after ≡ after_it
-        → Did was (Executed.Accepted (record { state = state; control = On; next = next; count = 0; after = after }))
+        → Did was (Ok (record { state = state; control = On; next = next; count = 0; after = after }))
     unfolding verdict_at executed made_of room_of list_bytes
     does_skipped f g =
         let h : next + 0 ≡ next = omega arith in

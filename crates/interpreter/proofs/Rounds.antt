@@ -1,14 +1,15 @@
 -- The loop over a program's blocks. What is left gives the same: the walk from here, with the list as it is, ends and leaves what the
 -- whole walk leaves of the list at entry. Assumes nothing.
+use Rattle.std.specs.Prelude.{Result, Ok, Err}
 use Rattle.terms.proofs.Common.{ℕ, ◌+◌, ◌-◌, ◌≤◌, ◌<◌, ◌≡◌, refl, sym, ◌∙◌, ap, true, false, List, [], arith, length, drop, sets, length-sets}
 use Rattle.terms.specs.Terms.{first_of}
-use Rattle.refusals.specs.declared.{Refusal.Refusal, Refusal.TheVariants.NoEnd, Place.Place}
+use Rattle.refusals.specs.declared.{Blame.Blame, Refusal.TheVariants.NoEnd, Place.Place}
 use Rattle.lines.{specs.Blocks.Block, specs.Blocks.block_from, specs.Blocks.length_from, specs.Serving.blocks_from, proofs.Lines.length_some}
 use Rattle.setup.specs.Fair.{Fair}
 use Rattle.records.specs.{declared.Record.Record, Layout.room_of, Layout.list_bytes, Writing.moved_bytes}
 use Rattle.settings.specs.declared.State.{State}
 use Rattle.programs.{specs.declared.Programs.Programs, specs.Found.subs_of, specs.Places.Begins, proofs.Places.begins_next}
-use Rattle.blocks.specs.{declared.Control.Control, declared.Done.Done, declared.Executed.Executed, Calling.called, Doing.made_of, Doing.Does}
+use Rattle.blocks.specs.{declared.Control.Control, declared.Done.Done, Calling.called, Doing.made_of, Doing.Does}
 use Rattle.blocks.specs.declared.Control.TheVariants.{On, Call, Back, Stop}
 use Rattle.blocks.specs.Exec.{Verdict, accepted, calls_in, call_to, unknown_call, too_deep, at_start, unless}
 use Rattle.runs.specs.{declared.Progress.Progress, Serving.progress_by}
@@ -19,7 +20,6 @@ use Rattle.interpreter.specs.declared.How.TheVariants.{Ended, Returned, Unfinish
 use Rattle.interpreter.proofs.Endings.{count_room, ran_still, ran_after}
 use Rattle.interpreter.proofs.Walking.{free_verdict, goes_inside, walk_spent, walk_ends, walk_goes}
 use Rattle.interpreter.proofs.Acting.{Accepts, accepted_is, refused_is, verdict_kept, verdict_quiet}
-use Rattle.blocks.specs.declared.Executed.TheVariants as Executed
 use Rattle.blocks.specs.Exec as Exec
 
 pub record Walking (l : List ℕ) (task : Task) (left : ℕ) (whole : Outcome) (p₀ : Progress) (was list : List ℕ) (n at : ℕ) (p : Progress) : Type 0 where
@@ -84,7 +84,7 @@ module _ (l : List ℕ) (task : Task) (left : ℕ) where
 
 -- the block at the place, which is executed or skipped, and the code's answer
 pub record Meets (l : List ℕ) (task : Task) (left : ℕ) (whole : Outcome) (p₀ : Progress) (was list : List ℕ) (n at : ℕ) (p : Progress)
-    (is : List ℕ) (a : Executed) : Type 0 where
+    (is : List ℕ) (a : Result Done Blame) : Type 0 where
   pub walking : Walking l task left whole p₀ was list n at p
   pub fair : Fair task.bed
   pub budget : is_spent p.budget ≡ false
@@ -92,14 +92,14 @@ pub record Meets (l : List ℕ) (task : Task) (left : ℕ) (whole : Outcome) (p�
   pub did : Does task.bed.offset (verdict_on l task left list n at p) list p.next (at + length_from (drop at l)) is a
 
 pub meets :
-    {l : List ℕ} {task : Task} {left : ℕ} {whole : Outcome} {p₀ : Progress} {was list : List ℕ} {n at : ℕ} {p : Progress} {is : List ℕ} {a : Executed}
+    {l : List ℕ} {task : Task} {left : ℕ} {whole : Outcome} {p₀ : Progress} {was list : List ℕ} {n at : ℕ} {p : Progress} {is : List ℕ} {a : Result Done Blame}
     → Walking l task left whole p₀ was list n at p → Fair task.bed → is_spent p.budget ≡ false → program_ends (drop at l) ≡ false
     → Does task.bed.offset (verdict_on l task left list n at p) list p.next (at + length_from (drop at l)) is a
     → Meets l task left whole p₀ was list n at p is a
 meets walking fair budget stays did = record { walking = walking; fair = fair; budget = budget; stays = stays; did = did }
 
 module _ {l : List ℕ} {task : Task} {left : ℕ} {whole : Outcome} {p₀ : Progress} {was list : List ℕ} {n at : ℕ} {p : Progress} {is : List ℕ}
-    {a : Executed} (m : Meets l task left whole p₀ was list n at p is a) where
+    {a : Result Done Blame} (m : Meets l task left whole p₀ was list n at p is a) where
   abbrev v : Verdict
   v = verdict_on l task left list n at p
 
@@ -128,16 +128,16 @@ module _ {l : List ℕ} {task : Task} {left : ℕ} {whole : Outcome} {p₀ : Pro
   did_kept = list_length ∙ m.walking.kept
 
   pub did_refused :
-      {refusal : Refusal} {byte : ℕ} → a ≡ Executed.Refused refusal byte
-      → Ran task.bed whole p₀ was is (record { how = Refused refusal; place = record { block = n; byte = byte }; progress = p })
+      {blame : Blame} → a ≡ Err blame
+      → Ran task.bed whole p₀ was is (record { how = Refused blame.refusal; place = record { block = n; byte = blame.byte }; progress = p })
   unfolding obey called made_of list_bytes going_of outcome_by how_by next_by
-  did_refused {refusal} {byte} g =
+  did_refused {blame} g =
       let e = refused_is p.next (at + length_from (drop at l)) v (sym g ∙ m.did.answer) in
       let same : is ≡ list = m.did.bytes ∙ ap (λ (v : Verdict). sets list p.next (moved_bytes task.bed.offset (made_of v))) e in
       rw same
-      (on (rw e (ran_still task.bed (record { how = Refused refusal; place = record { block = n; byte = byte }; progress = p }) m.walking.fits)))
+      (on (rw e (ran_still task.bed (record { how = Refused blame.refusal; place = record { block = n; byte = blame.byte }; progress = p }) m.walking.fits)))
 
-  module _ {done : Done} (g : a ≡ Executed.Accepted done) where
+  module _ {done : Done} (g : a ≡ Ok done) where
     abbrev made : List Record
     made = made_of v
 

@@ -9,10 +9,10 @@ ghost use Rattle.interpreter.specs.declared.Turn.TheVariants.{Over};
 ghost use Rattle.interpreter.specs.Progressing.{task_on, walk_from, program_ends, verdict_at, Goes, Ran, Sound, Fits};
 
 use crate::{Ending, How, Leg, Task, Turn};
-use blocks::{Control, Done, Executed};
+use blocks::{Control, Done};
 use execution::{Ground, Spot};
 use programs::{Program, Programs};
-use refusals::{Place, Refusal};
+use refusals::{Blame, Place, Refusal};
 use runs::Progress;
 use settings::State;
 
@@ -39,7 +39,7 @@ fn do_block(
     at: usize,
     next: usize,
     state: State,
-) -> Executed
+) -> Result<Done, Blame>
     requires at_in_bounds { at < length s.now }
     requires next_in_bounds { next ≤ length list.old }
     requires fair { Fair footing.bed }
@@ -50,7 +50,7 @@ fn do_block(
 {
     let slashed = lines::begins_with(s, at, b'/');
     if slashed & skips {
-        return Executed::Accepted(Done {
+        return Ok(Done {
             state,
             control: Control::On,
             next,
@@ -103,8 +103,8 @@ fn run_leg(
             return over(How::Refused(Refusal::NoEnd), place, at, p);
         }
         match do_block(s, list, footing, skips, at, p.next, p.state) {
-            Executed::Refused(refusal, byte) => return over(How::Refused(refusal), place, byte, p),
-            Executed::Accepted(done) => {
+            Err(blame) => return over(How::Refused(blame.refusal), place, blame.byte, p),
+            Ok(done) => {
                 let control = done.control;
                 let after = runs::progress_after(p, done);
                 let turn = match control {

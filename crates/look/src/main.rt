@@ -15,7 +15,7 @@ use files::{STDIN_FILENO, STDOUT_FILENO};
 use lengths::{Len, Point};
 use letters::{Judged, Speeds};
 use programs::{Program, Programs};
-use reading::{Reading, Status};
+use reading::Reading;
 use refusals::{Place, Refusal};
 use settings::Modes;
 use words::{Given, Values};
@@ -128,14 +128,12 @@ fn show_block(s: &[u8], at: usize, modes: Modes) -> Modes
     let mut words = [0u64; 13];
     let mut places = [0usize; 13];
     let from = after_slash(s, at);
-    let read = reading::read_words(s, from, true, modes, &mut words, &mut places);
-    let status = read.status;
-    match status {
-        Status::Refused(refusal, place) => {
-            show_refused(refusal, place);
+    match reading::read_words(s, from, true, modes, &mut words, &mut places) {
+        Err(blame) => {
+            show_refused(blame.refusal, blame.byte);
             modes
         }
-        Status::Fine => {
+        Ok(read) => {
             let seen = read.seen;
             show_judged(judged(speeds(), read, &words, &places), modes, seen.modes)
         }

@@ -13,7 +13,6 @@ use Rattle.reading.specs.{Items.placed, Items.words_at, Items.status_after}
 use Rattle.refusals.specs.declared.Refusal.TheVariants as refusals
 use Rattle.words.specs.Words as Words
 use Rattle.reading.specs.declared.Item.TheVariants as item
-use Rattle.reading.specs.declared.Status.TheVariants as status
 
 -- ---- a number in a text is the number in the data: neither LF nor CR is one of its bytes
 
@@ -236,6 +235,6 @@ unfolding status_after with_word
 status_word wrong w (these ws) = refl
 status_word wrong w (bad_at at) = refl
 
-pub status_end : (wrong : ℕ) (l : List ℕ) (i : ℕ) → no_text (drop i l) ≡ true → status_after wrong (words_at l i) ≡ status.Refused refusals.CannotExecute wrong
+pub status_end : (wrong : ℕ) (l : List ℕ) (i : ℕ) → no_text (drop i l) ≡ true → status_after wrong (words_at l i) ≡ record { refusal = refusals.CannotExecute; byte = wrong }
 unfolding status_after words_after
 status_end wrong l i e = rw (text_none (drop i l) e)

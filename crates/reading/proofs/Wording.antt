@@ -1,16 +1,15 @@
 -- Reading a block word by word: what has been read, and what is left, give the whole.
-use Rattle.std.specs.Prelude.{if◌then◌else◌}
-use Rattle.terms.proofs.Common.{ℕ, ◌+◌, ◌≤◌, ◌<◌, ◌≡◌, refl, sym, ◌∙◌, ap, Bool, true, false, false≢true, not, ◌&&◌, ◌||◌, List, [], ◌∷◌, ◌++◌, append_assoc, append-nil, arith, add-one, ℕ_discrete, eqb-true, ne_eqb, not-false, eqb, length, take, drop, get_or, set, length-set, take-suc-set, get_or-set_same, get_or-set_other}
+use Rattle.std.specs.Prelude.{if◌then◌else◌, Ok, Err, is_some}
+use Rattle.terms.proofs.Common.{ℕ, ◌+◌, ◌≤◌, ◌<◌, ◌≡◌, refl, sym, ◌∙◌, ap, Bool, true, false, false≢true, not, ◌&&◌, ◌||◌, Option, None, Some, List, [], ◌∷◌, ◌++◌, append_assoc, append-nil, arith, add-one, ℕ_discrete, eqb-true, ne_eqb, not-false, eqb, length, take, drop, get_or, set, length-set, take-suc-set, get_or-set_same, get_or-set_other}
 use Rattle.terms.{specs.Terms.any, proofs.Laws.either_left, proofs.Laws.either_right}
 use Rattle.lines.{specs.Blocks.no_text, specs.Blocks.length_from, proofs.Laws.text_none}
-use Rattle.refusals.specs.declared.Refusal.{Refusal, TheVariants.CannotExecute, TheVariants.Unreadable}
+use Rattle.refusals.specs.declared.{Blame.Blame, Refusal.Refusal, Refusal.TheVariants.CannotExecute, Refusal.TheVariants.Unreadable}
 use Rattle.words.specs.{Serving.Written, Words.is_capital, Words.these, Words.bad_at, Words.with_word, Words.words_after, declared.Word.Word}
 use Rattle.codes.specs.{declared.Code.Code, declared.Misc.Misc, Codes.group_of}
 use Rattle.settings.specs.{declared.Modes.Modes, Settings.switched}
 use Rattle.letters.specs.Judging.{valued, Stored}
 use Rattle.letters.specs.Letters.{known, is_known, is_g, is_misc, code_in, misc_in, repeats, bad_g, bad_m, may_not_stand, first_that_may_not}
 use Rattle.reading.specs.{Items.words_at, Items.status_after, Seen.letter_place, Seen.has_letter, Seen.Sums, Whole.standing, Whole.status_of, Whole.Kept, Whole.IsRead, declared.Seen.Seen}
-use Rattle.reading.specs.declared.Status.{Status, TheVariants.Fine, TheVariants.Refused}
 use Rattle.reading.proofs.{Items.Gone, Items.status_word, Items.status_end, Letters.place_inside, Letters.place_back, Seeing.nothing_seen, Seeing.seen_with, Seeing.sums_none, Seeing.sums_with}
 use Rattle.words.specs.Words as Words
 
@@ -104,18 +103,17 @@ pub record Sofar (main : Bool) (m : Modes) (l : List ℕ) (from i : ℕ) (seen :
   pub written : (j : ℕ) (d : Word) → j < count → Written (get_or words j d).number
 
 -- a word may not stand, and the rest is only looked through for an unreadable byte
-pub record Halted (main : Bool) (l : List ℕ) (from i : ℕ) (status : Status) : Type 0 where
+pub record Halted (main : Bool) (l : List ℕ) (from i : ℕ) (blame : Blame) : Type 0 where
   pub inside : i ≤ length l
   pub wrong : ℕ
-  pub named : status ≡ Refused CannotExecute wrong
-  pub left : status_of main (words_at l from) ≡ status_after wrong (words_at l i)
+  pub named : blame ≡ record { refusal = CannotExecute; byte = wrong }
+  pub left : status_of main (words_at l from) ≡ Some (status_after wrong (words_at l i))
 
 -- along the block, halted or not
-pub record Along (stopped main : Bool) (m : Modes) (l : List ℕ) (from i : ℕ) (status : Status) (seen : Seen) (count : ℕ) (words : List Word) : Type 0 where
+pub record Along (main : Bool) (m : Modes) (l : List ℕ) (from i : ℕ) (refused : Option Blame) (seen : Seen) (count : ℕ) (words : List Word) : Type 0 where
   pub inside : i ≤ length l
-  pub fine : stopped ≡ false → status ≡ Fine
-  pub going : stopped ≡ false → Sofar main m l from i seen count words
-  pub halted : stopped ≡ true → Halted main l from i status
+  pub going : refused ≡ None → Sofar main m l from i seen count words
+  pub halted : (blame : Blame) → refused ≡ Some blame → Halted main l from i blame
 
 pub begins : (main : Bool) (m : Modes) (l : List ℕ) (from : ℕ) (words : List Word) → from ≤ length l → length words ≡ 13 → Sofar main m l from from (nothing_seen m) 0 words
 unfolding valued
@@ -156,14 +154,14 @@ module _ {main : Bool} {m : Modes} {l : List ℕ} {from i : ℕ} {seen : Seen} {
 
   -- ---- where the reading ends
 
-  reads_end : no_text (drop i l) ≡ true → IsRead main m l from words (record { status = Fine; seen = seen; count = count; end = i })
+  reads_end : no_text (drop i l) ≡ true → IsRead main m l from words (Ok (record { seen = seen; count = count; end = i }))
   unfolding words_after prepend status_of standing first_that_may_not
-  reads_end e = record { status = sym (ap (status_of main) all ∙ ap standing (s.stands [])); kept = λ f ws g. kept_all ws g }
+  reads_end e = record { status = sym (ap (status_of main) all ∙ ap standing (s.stands [])); kept = kept_all }
     where
       all : words_at l from ≡ these (s.done ++ [])
       all = s.whole ∙ ap (λ (t : List ℕ). prepend s.done (words_after 0 i t)) (text_none (drop i l) e)
 
-      kept_all : (ws : List Word) → words_at l from ≡ these ws → Kept m l from ws words (record { status = Fine; seen = seen; count = count; end = i })
+      kept_all : (ws : List Word) → words_at l from ≡ these ws → Kept m l from ws words (record { seen = seen; count = count; end = i })
       kept_all ws g =
           let ended : s.done ++ [] ≡ ws = cc all in
           let same : s.done ≡ ws = sym (append-nil s.done) ∙ ended in
@@ -175,7 +173,7 @@ module _ {main : Bool} {m : Modes} {l : List ℕ} {from i : ℕ} {seen : Seen} {
             block = s.block;
           }
 
-  status_bad : words_at l i ≡ bad_at i → status_of main (words_at l from) ≡ Refused Unreadable i
+  status_bad : words_at l i ≡ bad_at i → status_of main (words_at l from) ≡ Some (record { refusal = Unreadable; byte = i })
   unfolding prepend status_of
   status_bad e = ap (status_of main) (s.whole ∙ ap (prepend s.done) e)
 
@@ -187,7 +185,7 @@ module _ {main : Bool} {m : Modes} {l : List ℕ} {from i : ℕ} {seen : Seen} {
   module _ (w : Word) (next : ℕ) (e : words_at l i ≡ with_word w (words_at l next)) (g : Gone l i next) where
     -- ---- a word that may not stand
 
-    pub halts : may_not_stand main s.done w ≡ true → Halted main l from next (Refused CannotExecute w.at)
+    pub halts : may_not_stand main s.done w ≡ true → Halted main l from next (record { refusal = CannotExecute; byte = w.at })
     unfolding status_after prepend with_word status_of standing first_that_may_not
     halts f =
         record {
@@ -197,7 +195,7 @@ module _ {main : Bool} {m : Modes} {l : List ℕ} {from i : ℕ} {seen : Seen} {
           left = ap (status_of main) (s.whole ∙ ap (prepend s.done) e) ∙ by_rest (words_at l next);
         }
       where
-        by_rest : (x : Words.Words) → status_of main (prepend s.done (with_word w x)) ≡ status_after w.at x
+        by_rest : (x : Words.Words) → status_of main (prepend s.done (with_word w x)) ≡ Some (status_after w.at x)
         by_rest (these ws) = ap standing (s.stands (w ∷ ws)) ∙ rw f
         by_rest (bad_at at) = refl
 
@@ -320,64 +318,62 @@ module _ {main : Bool} {m : Modes} {l : List ℕ} {from i : ℕ} {seen : Seen} {
 
 -- ---- along the block
 
-module _ {main : Bool} {m : Modes} {l : List ℕ} {from i : ℕ} {seen : Seen} {count : ℕ} {words : List Word} where
-  pub goes_on : Sofar main m l from i seen count words → Along false main m l from i Fine seen count words
-  goes_on s = record { inside = s.inside; fine = λ e. refl; going = λ e. s; halted = λ e. absurd (false≢true e) }
+pub none_of : {o : Option Blame} → is_some o ≡ false → o ≡ None
+none_of {o = None} e = refl
+none_of {o = Some blame} e = absurd (false≢true (sym e))
 
-  pub stops : {status : Status} → Halted main l from i status → Along true main m l from i status seen count words
-  stops s =
+pub some_is : {o : Option Blame} → is_some o ≡ true → o ≡ None → ⊥
+some_is {o = None} e f = false≢true e
+some_is {o = Some blame} e f = let no : ◌≡◌ {A = ℕ} 0 1 = cc in omega arith
+
+module _ {main : Bool} {m : Modes} {l : List ℕ} {from i : ℕ} {seen : Seen} {count : ℕ} {words : List Word} where
+  pub goes_on : Sofar main m l from i seen count words → Along main m l from i None seen count words
+  goes_on s = record { inside = s.inside; going = λ e. s; halted = λ blame e. let no : ◌≡◌ {A = ℕ} 0 1 = cc in absurd (omega arith) }
+
+  pub stops : {blame : Blame} → Halted main l from i blame → Along main m l from i (Some blame) seen count words
+  stops {blame} s =
       record {
         inside = s.inside;
-        fine = λ e. absurd (false≢true (sym e));
-        going = λ e. absurd (false≢true (sym e));
-        halted = λ e. s;
+        going = λ e. let no : ◌≡◌ {A = ℕ} 0 1 = cc in absurd (omega arith);
+        halted = λ other e. let same : blame ≡ other = cc in rw (← same) s;
       }
 
-module _ {stopped main : Bool} {m : Modes} {l : List ℕ} {from i : ℕ} {status : Status} {seen : Seen} {count : ℕ} {words : List Word} (s : Along stopped main m l from i status seen count words) where
+module _ {main : Bool} {m : Modes} {l : List ℕ} {from i : ℕ} {refused : Option Blame} {seen : Seen} {count : ℕ} {words : List Word} (s : Along main m l from i refused seen count words) where
   -- past an item that leaves what is said of the rest
-  halted_past : (next : ℕ) → ((wrong : ℕ) → status_after wrong (words_at l i) ≡ status_after wrong (words_at l next)) → Gone l i next → stopped ≡ true → Halted main l from next status
-  halted_past next e g f =
-      let h = s.halted f in
-      record { inside = g.inside; wrong = h.wrong; named = h.named; left = h.left ∙ e h.wrong }
+  halted_past : (next : ℕ) → ((wrong : ℕ) → status_after wrong (words_at l i) ≡ status_after wrong (words_at l next)) → Gone l i next → (blame : Blame) → refused ≡ Some blame → Halted main l from next blame
+  halted_past next e g blame f =
+      let h = s.halted blame f in
+      record { inside = g.inside; wrong = h.wrong; named = h.named; left = h.left ∙ ap Some (e h.wrong) }
 
-  pub gap_along : (next : ℕ) → words_at l i ≡ words_at l next → Gone l i next → Along stopped main m l from next status seen count words
+  pub gap_along : (next : ℕ) → words_at l i ≡ words_at l next → Gone l i next → Along main m l from next refused seen count words
   gap_along next e g =
       record {
         inside = g.inside;
-        fine = s.fine;
         going = λ f. over_gap (s.going f) next e g;
         halted = halted_past next (λ wrong. ap (status_after wrong) e) g;
       }
 
-  pub word_halted : stopped ≡ true → (w : Word) (next : ℕ) → words_at l i ≡ with_word w (words_at l next) → Gone l i next → Along stopped main m l from next status seen count words
+  pub word_halted : (refused ≡ None → ⊥) → (w : Word) (next : ℕ) → words_at l i ≡ with_word w (words_at l next) → Gone l i next → Along main m l from next refused seen count words
   word_halted f w next e g =
       record {
         inside = g.inside;
-        fine = s.fine;
-        going = λ h. absurd (false≢true (sym h ∙ f));
+        going = λ h. absurd (f h);
         halted = halted_past next (λ wrong. ap (status_after wrong) e ∙ status_word wrong w (words_at l next)) g;
       }
 
-  pub end_along : no_text (drop i l) ≡ true → IsRead main m l from words (record { status = status; seen = seen; count = count; end = i })
-  end_along e = go stopped refl
-    where
-      go : (t : Bool) → stopped ≡ t → IsRead main m l from words (record { status = status; seen = seen; count = count; end = i })
-      go false f = rw (s.fine f) (reads_end (s.going f) e)
-      go true f =
-          let h = s.halted f in
-          record {
-            status = h.named ∙ sym (h.left ∙ status_end h.wrong l i e);
-            kept = λ k ws d. let never : ◌≡◌ {A = ℕ} 0 1 = cc h.named in absurd (omega arith);
-          }
+  module _ (e : no_text (drop i l) ≡ true) where
+    pub end_fine : refused ≡ None → IsRead main m l from words (Ok (record { seen = seen; count = count; end = i }))
+    end_fine f = reads_end (s.going f) e
 
-  pub bad_along : (refusal : Refusal) → (words_at l i ≡ bad_at i) × (refusal ≡ Unreadable) → IsRead main m l from words (record { status = Refused refusal i; seen = seen; count = count; end = i })
+    pub end_blamed : (blame : Blame) → refused ≡ Some blame → IsRead main m l from words (Err blame)
+    end_blamed blame f =
+        let h = s.halted blame f in
+        ap Some (h.named ∙ sym (status_end h.wrong l i e)) ∙ sym h.left
+
+  pub bad_along : (refusal : Refusal) → (words_at l i ≡ bad_at i) × (refusal ≡ Unreadable) → IsRead main m l from words (Err (record { refusal = refusal; byte = i }))
   unfolding status_after
-  bad_along refusal e =
-      record {
-        status = ap (λ (r : Refusal). Refused r i) e.1 ∙ sym (go stopped refl);
-        kept = λ f ws g. let never : ◌≡◌ {A = ℕ} 0 1 = cc in absurd (omega arith);
-      }
+  bad_along refusal e = rw e.1 (sym (go refused refl))
     where
-      go : (t : Bool) → stopped ≡ t → status_of main (words_at l from) ≡ Refused Unreadable i
-      go false f = status_bad (s.going f) e.0
-      go true f = (s.halted f).left ∙ ap (status_after (s.halted f).wrong) e.0
+      go : (o : Option Blame) → refused ≡ o → status_of main (words_at l from) ≡ Some (record { refusal = Unreadable; byte = i })
+      go None f = status_bad (s.going f) e.0
+      go (Some blame) f = let h = s.halted blame f in h.left ∙ ap (λ (x : Words.Words). Some (status_after h.wrong x)) e.0

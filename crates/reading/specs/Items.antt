@@ -2,11 +2,10 @@
 use Rattle.std.specs.Prelude.{◌+◌, Result, Ok, Err}
 use Rattle.terms.specs.Common.{ℕ, List, drop}
 use Rattle.lines.specs.Blocks.{text_from}
-use Rattle.refusals.specs.declared.Refusal.{Refusal, TheVariants.CannotExecute, TheVariants.Unreadable}
+use Rattle.refusals.specs.declared.{Blame.Blame, Refusal.Refusal, Refusal.TheVariants.CannotExecute, Refusal.TheVariants.Unreadable}
 use Rattle.words.specs.Words.{gap, word, unreadable, these, bad_at, words_of}
-use Rattle.reading.specs.declared.{Item.Item, Item.TheVariants.Gap, Item.TheVariants.Says, Status.Status}
+use Rattle.reading.specs.declared.{Item.Item, Item.TheVariants.Gap, Item.TheVariants.Says}
 use Rattle.words.specs.Words as Words
-use Rattle.reading.specs.declared.Status.TheVariants as status
 
 -- an item that begins at a place, with the place after it, or the refusal of what cannot be read there
 unfoldable pub placed : ℕ → Words.Item → Result Item Refusal
@@ -18,7 +17,7 @@ placed i unreadable = Err Unreadable
 abbrev pub words_at : List ℕ → ℕ → Words.Words
 words_at l i = words_of i (text_from (drop i l))
 
--- "15 leftmost; 4 leftmost": after a word that may not stand
-unfoldable pub status_after : ℕ → Words.Words → Status
-status_after wrong (these ws) = status.Refused CannotExecute wrong
-status_after wrong (bad_at at) = status.Refused Unreadable at
+-- "15 leftmost; 4 leftmost": what is to blame after a word that may not stand
+unfoldable pub status_after : ℕ → Words.Words → Blame
+status_after wrong (these ws) = record { refusal = CannotExecute; byte = wrong }
+status_after wrong (bad_at at) = record { refusal = Unreadable; byte = at }

@@ -4,13 +4,13 @@ ghost use Rattle.terms.specs.Common.{length};
 ghost use Rattle.words.specs.Packed.{words_in};
 ghost use Rattle.reading.specs.Whole.{IsRead};
 
-use crate::{Item, Reading, Role, Seen, Status};
+use crate::{Item, Reading, Role, Seen};
 use codes::Misc;
-use refusals::Refusal;
+use refusals::{Blame, Refusal};
 use settings::Modes;
 
-// The words of the block's text from a place on, under the modes that held before. After the first word that may not stand
-// the rest is only looked through for what cannot be read. The words with a value go to the arrays, each packed in one number
+// The words of the block's text from a place on, under the modes that held before, or what is to blame, by 15 or 4. After the
+// first word that may not stand the rest is only looked through for what cannot be read. The words with a value go to the arrays, each packed in one number
 // with its place beside it. What else is kept stands in variables of its own and is put together at the end, so that nothing
 // is copied from word to word.
 pub fn read_words(
@@ -20,7 +20,7 @@ pub fn read_words(
     before: Modes,
     words: &mut [u64; 13],
     places: &mut [usize; 13],
-) -> Reading
+) -> Result<Reading, Blame>
     requires from_in_bounds { from ≤ length s.now }
     requires words_len { (length words.old ≡ 13) × (length places.old ≡ 13) }
     ensures { IsRead main before s.now from (words_in words.new places.new) result }
@@ -30,16 +30,12 @@ pub fn read_words(
     let mut groups = [false; 8];
     let mut misc = Misc::Other;
     let mut modes = before;
-    let mut stopped = false;
-    let mut status = Status::Fine;
+    let mut refused: Option<Blame> = None;
     let mut i = from;
     while !lines::text_ends(s, i) {
         let item = match crate::item_at(s, i) {
             Ok(item) => item,
-            Err(refusal) => {
-                status = Status::Refused(refusal, i);
-                break;
-            }
+            Err(refusal) => return Err(Blame { refusal, byte: i }),
         };
         match item {
             Item::Gap(next) => {
@@ -47,14 +43,16 @@ pub fn read_words(
             }
             Item::Says(w, next) => {
                 i = next;
-                if stopped {
+                if refused.is_some() {
                     continue;
                 }
                 let k = crate::letter_place(w.letter);
                 match crate::role_of(main, letters[k], letters[6], groups, misc, w) {
                     Role::MayNot => {
-                        stopped = true;
-                        status = Status::Refused(Refusal::CannotExecute, w.at);
+                        refused = Some(Blame {
+                            refusal: Refusal::CannotExecute,
+                            byte: w.at,
+                        });
                     }
                     Role::Code(c) => {
                         let g = codes::group_of(c) as usize;
@@ -76,16 +74,18 @@ pub fn read_words(
             }
         }
     }
+    if let Some(blame) = refused {
+        return Err(blame);
+    }
     let seen = Seen {
         letters,
         groups,
         misc,
         modes,
     };
-    Reading {
-        status,
+    Ok(Reading {
         seen,
         count,
         end: i,
-    }
+    })
 }

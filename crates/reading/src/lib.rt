@@ -23,13 +23,6 @@ pub enum Item {
     Says(Word, usize),
 }
 
-// How the reading of a block ends: as words that may all stand, or with a refusal, 15 or 4, and the byte that it names.
-#[derive(Clone, Copy)]
-pub enum Status {
-    Fine,
-    Refused(Refusal, usize),
-}
-
 // What is kept of the words that were read: which letters of the alphabet and which groups of codes stood, the M code, and
 // the modes that hold.
 #[derive(Clone, Copy)]
@@ -49,11 +42,10 @@ pub enum Role {
     Value,
 }
 
-// What the reading of a block answers. Where the status is fine, `count` words with a value stand in the arrays that were
+// What the reading of a block answers where its words may all stand: `count` words with a value stand in the arrays that were
 // lent, in their order, and `end` is where the block's text ends.
 #[derive(Clone, Copy)]
 pub struct Reading {
-    pub status: Status,
     pub seen: Seen,
     pub count: usize,
     pub end: usize,

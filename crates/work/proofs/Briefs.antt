@@ -1,5 +1,5 @@
 -- The records of the spindle and of the M code lead nowhere and are the same in machine units. Assumes nothing.
-use Rattle.terms.proofs.Common.{ℕ, ◌+◌, ◌≤◌, ◌≡◌, refl, true, List, [], ◌∷◌, map, arith, length}
+use Rattle.terms.proofs.Common.{ℕ, ◌+◌, ◌≤◌, ◌≡◌, refl, true, Option, None, Some, List, [], ◌∷◌, map, arith, length}
 use denote.Enum.Declared.{tag_of}
 use types.Run.{OneOf, miss}
 use Rattle.lengths.specs.declared.{Point.Point, Travel.Travel}
@@ -7,20 +7,20 @@ use Rattle.records.specs.{declared.Record.Record, declared.Kind.TheVariants.SO a
 use Rattle.records.specs.{Path.still, Path.path_of, Path.path_end, Path.end_of, Path.path_stays_in, Path.record_moved, Serving.Wrote, Writing.ListShort, Writing.moved_bytes, Writing.RoomFor}
 use Rattle.arcs.specs.{Arcs.path_stays, Staying.stays_in}
 use Rattle.work.specs.{declared.Brief.Brief, declared.Extent.Extent, Work.brief_records, Work.grown}
-use Rattle.work.specs.declared.Brief.TheVariants.{Speed, SpindleOff, Pause, End, Nothing}
+use Rattle.work.specs.declared.Brief.TheVariants.{Speed, SpindleOff, Pause, End}
 use Rattle.work.{specs.contracts.Brief.the_type, proofs.Extents.grown_one}
 
 abbrev pub AllStill : List Record → Type 0
 AllStill [] = Unit
 AllStill (r ∷ rs) = (path_of r ≡ still) × AllStill rs
 
-pub brief_still : (b : Brief) → AllStill (brief_records b)
+pub brief_still : (b : Option Brief) → AllStill (brief_records b)
 unfolding brief_records path_of
-brief_still (Speed speed) = (refl, tt)
-brief_still SpindleOff = (refl, tt)
-brief_still Pause = (refl, tt)
-brief_still End = (refl, tt)
-brief_still Nothing = tt
+brief_still (Some (Speed speed)) = (refl, tt)
+brief_still (Some SpindleOff) = (refl, tt)
+brief_still (Some Pause) = (refl, tt)
+brief_still (Some End) = (refl, tt)
+brief_still None = tt
 
 pub still_ends : (from : Point) (rs : List Record) → AllStill rs → end_of from rs ≡ from
 unfolding end_of path_end
@@ -32,33 +32,39 @@ unfolding path_stays_in path_stays path_end
 still_stays t from [] h = refl
 still_stays t from (r ∷ rs) h = rw h.0 (still_stays t from rs h.1)
 
-pub brief_few : (b : Brief) → length (brief_records b) ≤ 1
+pub brief_few : (b : Option Brief) → length (brief_records b) ≤ 1
 unfolding brief_records
-brief_few (Speed speed) = omega arith
-brief_few SpindleOff = omega arith
-brief_few Pause = omega arith
-brief_few End = omega arith
-brief_few Nothing = omega arith
+brief_few (Some (Speed speed)) = omega arith
+brief_few (Some SpindleOff) = omega arith
+brief_few (Some Pause) = omega arith
+brief_few (Some End) = omega arith
+brief_few None = omega arith
 
 -- ---- what such a record comes to
 
 -- but for the spindle's it is its mark alone
 pub grown_mark :
     (e : Extent) (b : Brief) → OneOf (1 ∷ 2 ∷ 3 ∷ []) (tag_of the_type b) → {n : ℕ} → n ≡ kind_length so
-    → record { end = e.end; room = e.room + n; count = e.count + 1 } ≡ grown e (brief_records b)
+    → record { end = e.end; room = e.room + n; count = e.count + 1 } ≡ grown e (brief_records (Some b))
 unfolding brief_records path_end path_of
 grown_mark e (Speed speed) h f = absurd (miss (1 ∷ 2 ∷ 3 ∷ []) 0 tt h)
 grown_mark e SpindleOff h f = grown_one e _ refl f
 grown_mark e Pause h f = grown_one e _ refl f
 grown_mark e End h f = grown_one e _ refl f
-grown_mark e Nothing h f = absurd (miss (1 ∷ 2 ∷ 3 ∷ []) 4 tt h)
 
 -- ---- writing it
 
-module _ (by : Point) (b : Brief) where
+module _ (by : Point) (b : Option Brief) where
   brief_moved : map (record_moved by) (brief_records b) ≡ brief_records b
   unfolding brief_records record_moved
-  brief_moved = elim b as (λ (k : Brief). map (record_moved by) (brief_records k) ≡ brief_records k) [ Speed n ↦ refl | SpindleOff ↦ refl | Pause ↦ refl | End ↦ refl | Nothing ↦ refl ]
+  brief_moved = same b
+    where
+      same : (k : Option Brief) → map (record_moved by) (brief_records k) ≡ brief_records k
+      same (Some (Speed speed)) = refl
+      same (Some SpindleOff) = refl
+      same (Some Pause) = refl
+      same (Some End) = refl
+      same None = refl
 
   pub brief_asks : {list : List ℕ} {at : ℕ} → RoomFor list at by (brief_records b) → (at + room_of (brief_records b) ≤ length list) × ListShort (brief_records b)
   brief_asks h = (h.room, rw brief_moved at h.short)

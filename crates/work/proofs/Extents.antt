@@ -1,12 +1,12 @@
 -- Where records lead and what they come to, one after the other. Assumes nothing.
-use Rattle.terms.proofs.Common.{ℕ, ◌+◌, ◌*◌, ◌≤◌, ◌<◌, ◌≡◌, refl, sym, ◌∙◌, ap, Bool, true, false, ◌&&◌, List, [], ◌∷◌, ◌++◌, arith, length, drop, drop_of_length-le, length-append}
+use Rattle.terms.proofs.Common.{ℕ, ◌+◌, ◌*◌, ◌≤◌, ◌<◌, ◌≡◌, refl, sym, ◌∙◌, ap, Bool, true, false, ◌&&◌, None, Some, List, [], ◌∷◌, ◌++◌, arith, length, drop, drop_of_length-le, length-append}
 use Rattle.lengths.specs.{declared.Len.Len, declared.Point.Point, declared.Travel.Travel, Points.inside}
 use Rattle.records.specs.{declared.Record.Record, Layout.kind_of, Layout.kind_length, Layout.room_of, Path.path_of, Path.path_end, Path.end_of, Path.path_stays_in}
 use Rattle.records.proofs.Moved.{room_append, kind_few}
 use Rattle.arcs.{specs.Arcs.path_stays, specs.Staying.stays_in, proofs.Paths.end_append, proofs.Paths.stays_append}
 use Rattle.cycles.specs.declared.Row.{Row, TheVariants.Rapid, TheVariants.Cut, TheVariants.Dwell}
 use Rattle.cycles.{specs.Bounds.Stands, specs.Bounds.row_record, proofs.Rows.pass_few}
-use Rattle.work.specs.declared.{Pass.Pass, Pass.TheVariants.One, Pass.TheVariants.Drill, Extent.Extent, Way.TheVariants.Ends, Way.TheVariants.Leaves}
+use Rattle.work.specs.declared.{Pass.Pass, Pass.TheVariants.One, Pass.TheVariants.Drill, Extent.Extent}
 use Rattle.work.specs.Work.{rows_of, grown, way_of}
 
 -- ---- what records come to
@@ -27,9 +27,9 @@ grown_one e r f g =
     rw (f, g, a)
 
 module _ (t : Travel) (e : Extent) where
-  pub way_none : way_of t e [] ≡ Ends e
+  pub way_none : way_of t e [] ≡ Some e
   unfolding way_of path_stays_in
-  way_none = ap Ends (grown_none e)
+  way_none = ap Some (grown_none e)
 
   module _ (a b : List Record) where
     pub way_on : stays_in t e.end a ≡ true → way_of t e (a ++ b) ≡ way_of t (grown e a) b
@@ -40,7 +40,7 @@ module _ (t : Travel) (e : Extent) where
         rw (stays_append t e.end a b, f, r, n, end_append e.end a b)
 
     -- the first that leaves the travel decides, whatever follows
-    pub way_stops : stays_in t e.end a ≡ false → way_of t e (a ++ b) ≡ Leaves
+    pub way_stops : stays_in t e.end a ≡ false → way_of t e (a ++ b) ≡ None
     unfolding way_of
     way_stops f = rw (stays_append t e.end a b, f)
 
@@ -49,26 +49,26 @@ module _ (t : Travel) (e : Extent) where
       pub stays : stays_in t e.end rs ≡ true
       pub is : x ≡ grown e rs
 
-    pub way_ends : {x : Extent} → Ends x ≡ way_of t e rs → Comes x
+    pub way_ends : {x : Extent} → Some x ≡ way_of t e rs → Comes x
     unfolding way_of
     way_ends {x} f = go (stays_in t e.end rs) refl
       where
         go : (s : Bool) → stays_in t e.end rs ≡ s → Comes x
         go true g =
-            let h : Ends x ≡ Ends (grown e rs) = f ∙ rw g in
+            let h : Some x ≡ Some (grown e rs) = f ∙ rw g in
             record { stays = g; is = cc }
         go false g =
-            let h : Ends x ≡ Leaves = f ∙ rw g in
+            let h : Some x ≡ None = f ∙ rw g in
             let no : ◌≡◌ {A = ℕ} 0 1 = cc in
             absurd (omega arith)
 
-    pub way_leaves : Leaves ≡ way_of t e rs → stays_in t e.end rs ≡ false
+    pub way_leaves : None ≡ way_of t e rs → stays_in t e.end rs ≡ false
     unfolding way_of
     way_leaves f = go (stays_in t e.end rs) refl
       where
         go : (s : Bool) → stays_in t e.end rs ≡ s → stays_in t e.end rs ≡ false
         go true g =
-            let h : Leaves ≡ Ends (grown e rs) = f ∙ rw g in
+            let h : None ≡ Some (grown e rs) = f ∙ rw g in
             let no : ◌≡◌ {A = ℕ} 0 1 = cc in
             absurd (omega arith)
         go false g = g
@@ -84,15 +84,15 @@ one_stays t end r = go (path_stays t end (path_of r))
     go false = refl
 
 module _ (t : Travel) (e : Extent) (r : Record) where
-  pub one_leaves : path_stays t e.end (path_of r) ≡ false → Leaves ≡ way_of t e (r ∷ [])
+  pub one_leaves : path_stays t e.end (path_of r) ≡ false → None ≡ way_of t e (r ∷ [])
   unfolding way_of
   one_leaves f = rw (one_stays t e.end r, f)
 
   pub one_ends :
       path_stays t e.end (path_of r) ≡ true → {end : Point} {n : ℕ} → end ≡ path_end e.end (path_of r) → n ≡ kind_length (kind_of r)
-      → Ends (record { end = end; room = e.room + n; count = e.count + 1 }) ≡ way_of t e (r ∷ [])
+      → Some (record { end = end; room = e.room + n; count = e.count + 1 }) ≡ way_of t e (r ∷ [])
   unfolding way_of
-  one_ends f g k = rw (one_stays t e.end r, f) (ap Ends (grown_one e r g k))
+  one_ends f g k = rw (one_stays t e.end r, f) (ap Some (grown_one e r g k))
 
 -- ---- one pass, record by record
 
@@ -115,14 +115,14 @@ module _ (t : Travel) (e : Extent) (rs : List Record) where
     abbrev so_far : Extent
     so_far = record { end = end; room = room; count = e.count + i }
 
-    pub tested_ends : {n : ℕ} → n ≡ length rs → n ≤ i → Ends (record { end = end; room = room; count = e.count + n }) ≡ way_of t e rs
+    pub tested_ends : {n : ℕ} → n ≡ length rs → n ≤ i → Some (record { end = end; room = room; count = e.count + n }) ≡ way_of t e rs
     tested_ends {n} f g =
         let same : i ≡ n = omega (arith, f, g, h.most) in
         let gone : drop i rs ≡ [] = drop_of_length-le rs {i = i} (omega (arith, f, g)) in
         rw (← same) (sym (h.way ∙ rw gone (way_none t so_far)))
 
     module _ {r : Record} (s : Stands rs i r) where
-      pub tested_leaves : path_stays t end (path_of r) ≡ false → Leaves ≡ way_of t e rs
+      pub tested_leaves : path_stays t end (path_of r) ≡ false → None ≡ way_of t e rs
       tested_leaves f = sym (h.way ∙ rw s (way_stops t so_far (r ∷ []) (drop (i + 1) rs) (one_stays t end r ∙ f)))
 
       pub tested_next :

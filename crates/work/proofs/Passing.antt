@@ -1,12 +1,12 @@
 -- Pass after pass: what holds between two of them, while they are tested and while they are written. Assumes nothing.
-use Rattle.terms.proofs.Common.{ℕ, zero, suc, ◌+◌, ◌*◌, ◌-◌, ◌≤◌, ◌<◌, ◌≡◌, refl, sym, ◌∙◌, true, List, [], ◌∷◌, ◌++◌, arith, length}
+use Rattle.terms.proofs.Common.{ℕ, zero, suc, ◌+◌, ◌*◌, ◌-◌, ◌≤◌, ◌<◌, ◌≡◌, refl, sym, ◌∙◌, true, None, Some, List, [], ◌∷◌, ◌++◌, arith, length}
 use Rattle.lengths.specs.{declared.Point.Point, declared.Travel.Travel, Points.inside}
 use Rattle.records.specs.{declared.Record.Record, Path.end_of, Serving.Wrote, Writing.moved_bytes, Writing.RoomFor}
 use Rattle.records.proofs.Moved.{room_few, put_as, put_none, put_then, ready_as, ready_left, ready_right}
 use Rattle.settings.specs.Bounds.{Aims}
 use Rattle.cycles.specs.declared.Hole.{Hole}
 use Rattle.arcs.{specs.Staying.stays_in, proofs.Paths.stays_both, proofs.Paths.stays_inside, proofs.Paths.inside_near}
-use Rattle.work.specs.declared.{Pass.Pass, Pass.TheVariants.One, Pass.TheVariants.Drill, Work.Work, Aim.Aim, Extent.Extent, Way.TheVariants.Ends, Way.TheVariants.Leaves}
+use Rattle.work.specs.declared.{Pass.Pass, Pass.TheVariants.One, Pass.TheVariants.Drill, Work.Work, Aim.Aim, Extent.Extent}
 use Rattle.work.specs.Needs.{Once, Leading, Testable, Writable, Little}
 use Rattle.work.specs.Work.{rows_of, passes_of, leads, work_records, drilled, grown, way_of}
 use Rattle.work.proofs.Extents.{way_none, way_on, way_stops, way_ends, way_leaves}
@@ -82,7 +82,7 @@ module _ (t : Travel) (w : Work) (aim : Aim) (e : Extent) (h : Testable t w aim 
     pub leads_little : Little so_far
     leads_little = record { room = omega (arith, l.room, h.room, h.few); count = omega (arith, l.count, h.count, h.few) }
 
-    pub leads_ends : left ≤ 0 → Ends so_far ≡ way_of t e (work_records w aim e.end)
+    pub leads_ends : left ≤ 0 → Some so_far ≡ way_of t e (work_records w aim e.end)
     unfolding work_records
     leads_ends none = sym (l.way ∙ rw (passes_none left w.pass (leads aim) so_far.end none) (way_none t so_far))
 
@@ -93,7 +93,7 @@ module _ (t : Travel) (w : Work) (aim : Aim) (e : Extent) (h : Testable t w aim 
       abbrev rest : List Record
       rest = passes_of (left - 1) w.pass (leads aim) (end_of so_far.end rows)
 
-      pub leads_leaves : Leaves ≡ way_of t so_far (rows_of w.pass so_far.end.z to) → Leaves ≡ way_of t e (work_records w aim e.end)
+      pub leads_leaves : None ≡ way_of t so_far (rows_of w.pass so_far.end.z to) → None ≡ way_of t e (work_records w aim e.end)
       unfolding work_records
       leads_leaves g =
           let out = way_leaves t so_far rows (rw f at g) in
@@ -101,7 +101,7 @@ module _ (t : Travel) (w : Work) (aim : Aim) (e : Extent) (h : Testable t w aim 
 
       pub leads_on :
           ((level : _) (q : Point) → length (rows_of w.pass level q) ≤ 6) → {next : Extent}
-          → Ends next ≡ way_of t so_far (rows_of w.pass so_far.end.z to) → Leads t w.pass w.passes aim e next (left - 1)
+          → Some next ≡ way_of t so_far (rows_of w.pass so_far.end.z to) → Leads t w.pass w.passes aim e next (left - 1)
       unfolding grown
       leads_on few {next} g =
           let c = way_ends t so_far rows (rw f at g) in

@@ -1,6 +1,6 @@
 -- How the code holds what a block makes: so many passes of the same few records, and what they come to.
 use Rattle.std.specs.Prelude.{◌+◌, ◌∷◌, ◌++◌, if◌then◌else◌}
-use Rattle.terms.specs.Common.{ℕ, zero, suc, Bool, true, false, not, List, [], length}
+use Rattle.terms.specs.Common.{ℕ, zero, suc, Bool, true, false, not, Option, None, Some, List, [], length}
 use Rattle.lengths.specs.declared.{Len.Len, Point.Point, Travel.Travel}
 use Rattle.words.specs.declared.Values.{Values}
 use Rattle.records.specs.{declared.Arc.Arc, declared.Record.Record, Layout.room_of, Path.path_of, Path.end_of, Path.record_moved}
@@ -10,9 +10,8 @@ use Rattle.arcs.specs.{Arcs.centre_fits, Staying.stays_in}
 use Rattle.cycles.specs.{declared.Hole.Hole, Cycles.pass_to}
 use Rattle.blocks.specs.Motions.{is_larger}
 use Rattle.codes.specs.declared.Motion.{Motion, TheVariants.Off, TheVariants.G00, TheVariants.G01, TheVariants.G02, TheVariants.G03, TheVariants.Drilling}
-use Rattle.work.specs.declared.{Pass.Pass, Pass.TheVariants.One, Pass.TheVariants.Drill, Work.Work, Brief.Brief, Aim.Aim, Extent.Extent, Way.Way}
-use Rattle.work.specs.declared.Way.TheVariants.{Ends, Leaves}
-use Rattle.work.specs.declared.Brief.TheVariants.{Speed, SpindleOff, Pause, End, Nothing}
+use Rattle.work.specs.declared.{Pass.Pass, Pass.TheVariants.One, Pass.TheVariants.Drill, Work.Work, Brief.Brief, Aim.Aim, Extent.Extent}
+use Rattle.work.specs.declared.Brief.TheVariants.{Speed, SpindleOff, Pause, End}
 
 -- the records of one pass, which comes at a level and goes to X, Y of a point
 unfoldable pub rows_of : Pass → Len → Point → List Record
@@ -66,13 +65,13 @@ is_clockwise (Drilling cycle) = false
 unfoldable pub lies_left : Bool → Values → Bool
 lies_left clockwise v = if clockwise then is_larger v else not (is_larger v)
 
--- the record before the motion, or the one after it
-unfoldable pub brief_records : Brief → List Record
-brief_records (Speed speed) = SP speed ∷ []
-brief_records SpindleOff = SO ∷ []
-brief_records Pause = PA ∷ []
-brief_records End = EN ∷ []
-brief_records Nothing = []
+-- the record before the motion, or the one after it, where there is one
+unfoldable pub brief_records : Option Brief → List Record
+brief_records (Some (Speed speed)) = SP speed ∷ []
+brief_records (Some SpindleOff) = SO ∷ []
+brief_records (Some Pause) = PA ∷ []
+brief_records (Some End) = EN ∷ []
+brief_records None = []
 
 -- the centre of a pass's record fits four bytes in machine units; a hole has none
 unfoldable pub pass_fits : Point → Pass → Bool
@@ -83,6 +82,6 @@ pass_fits offset (Drill h) = true
 unfoldable pub grown : Extent → List Record → Extent
 grown e rs = record { end = end_of e.end rs; room = e.room + room_of rs; count = e.count + length rs }
 
--- records lead out of the travel where one of their paths leaves it, and else to what they come to
-unfoldable pub way_of : Travel → Extent → List Record → Way
-way_of t e rs = if stays_in t e.end rs then Ends (grown e rs) else Leaves
+-- records lead to what they come to, and nowhere where one of their paths leaves the travel
+unfoldable pub way_of : Travel → Extent → List Record → Option Extent
+way_of t e rs = if stays_in t e.end rs then Some (grown e rs) else None

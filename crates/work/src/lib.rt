@@ -29,14 +29,13 @@ pub struct Work {
     pub sound: bool,
 }
 
-// The record before the motion or after it, where there is one: of the spindle or of the M code.
+// A record before the motion or after it, of the spindle or of the M code. A block has one of each at most.
 #[derive(Clone, Copy)]
 pub enum Brief {
     Speed(Len),
     SpindleOff,
     Pause,
     End,
-    Nothing,
 }
 
 // What the words of a block lead by: how they are counted, the origin, and their values.
@@ -53,11 +52,4 @@ pub struct Extent {
     pub end: Point,
     pub room: usize,
     pub count: usize,
-}
-
-// Where records lead: to what they come to, or out of the travel.
-#[derive(Clone, Copy)]
-pub enum Way {
-    Ends(Extent),
-    Leaves,
 }

@@ -8,7 +8,7 @@ ghost use Rattle.cycles.specs.Cycles.{pass_to};
 ghost use Rattle.work.specs.Work.{work_records, drilled, brief_records, pass_fits, grown, way_of};
 ghost use Rattle.work.specs.Needs.{PassLoose, Little, Testable};
 
-use crate::{Aim, Brief, Extent, Pass, Way, Work};
+use crate::{Aim, Brief, Extent, Pass, Work};
 use cycles::Hole;
 use lengths::{Point, Travel};
 use records::{Kind, Record};
@@ -50,12 +50,14 @@ fn longer(e: Extent, end: Point, bytes: usize) -> Extent
 }
 
 // Such a record leads nowhere, and but for the spindle's it is its mark alone.
-pub fn with_brief(e: Extent, b: Brief) -> Extent
+pub fn with_brief(e: Extent, b: Option<Brief>) -> Extent
     requires { Little e }
     ensures { result ≡ grown e (brief_records b) }
 {
-    match b {
-        Brief::Nothing => e,
+    let Some(brief) = b else {
+        return e;
+    };
+    match brief {
         Brief::Speed(_) => longer(e, e.end, records::kind_length(Kind::SP)),
         _ => longer(e, e.end, records::kind_length(Kind::SO)),
     }
@@ -75,20 +77,20 @@ fn path_stays(t: Travel, from: Point, r: Record) -> bool
     }
 }
 
-// One record, from where the tool is.
-fn check_record(t: Travel, r: Record, e: Extent) -> Way
+// One record, from where the tool is: what it comes to, or none where it leads out of the travel.
+fn check_record(t: Travel, r: Record, e: Extent) -> Option<Extent>
     requires { (PathBounds t e.end (path_of r)) × Little e }
     ensures { result ≡ way_of t e (r ∷ []) }
 {
     if !path_stays(t, e.end, r) {
-        return Way::Leaves;
+        return None;
     }
-    Way::Ends(longer(e, records::path_end(e.end, r), records::room(r)))
+    Some(longer(e, records::path_end(e.end, r), records::room(r)))
 }
 
 // One pass to X, Y of a point, from where the tool is, inside the travel. It has no arc, so that its path stays where each of its
 // records ends inside.
-fn check_pass(t: Travel, h: Hole, to: Point, e: Extent) -> Way
+fn check_pass(t: Travel, h: Hole, to: Point, e: Extent) -> Option<Extent>
     requires { (inside t e.end ≡ true) × Little e }
     ensures { result ≡ way_of t e (pass_to h e.end.z to) }
 {
@@ -101,12 +103,12 @@ fn check_pass(t: Travel, h: Hole, to: Point, e: Extent) -> Way
         let row = cycles::row_at(h, i, level, to);
         end = cycles::row_end(end, row);
         if !lengths::is_inside(t, end) {
-            return Way::Leaves;
+            return None;
         }
         room += cycles::row_room(row);
         i += 1;
     }
-    Way::Ends(Extent {
+    Some(Extent {
         end,
         room,
         count: e.count + n,
@@ -115,7 +117,7 @@ fn check_pass(t: Travel, h: Hole, to: Point, e: Extent) -> Way
 
 // All passes of a hole. G91 adds X and Y at each pass, up to 9,999 times: the first pass that leaves the travel ends the search, so that
 // no point lies further from the travel than one word leads.
-fn check_passes(t: Travel, h: Hole, passes: u64, aim: Aim, e: Extent) -> Way
+fn check_passes(t: Travel, h: Hole, passes: u64, aim: Aim, e: Extent) -> Option<Extent>
     requires { Testable t (drilled h passes) aim e }
     ensures { result ≡ way_of t e (work_records (drilled h passes) aim e.end) }
 {
@@ -124,17 +126,14 @@ fn check_passes(t: Travel, h: Hole, passes: u64, aim: Aim, e: Extent) -> Way
     let mut so_far = e;
     while 0 < left {
         let to = settings::target_point(distance, aim.origin, so_far.end, aim.values);
-        let Way::Ends(next) = check_pass(t, h, to, so_far) else {
-            return Way::Leaves;
-        };
-        so_far = next;
+        so_far = check_pass(t, h, to, so_far)?;
         left -= 1;
     }
-    Way::Ends(so_far)
+    Some(so_far)
 }
 
 // What a block makes by its motion: one record at most, or the passes of a hole.
-pub fn check_work(t: Travel, w: Work, aim: Aim, e: Extent) -> Way
+pub fn check_work(t: Travel, w: Work, aim: Aim, e: Extent) -> Option<Extent>
     requires { Testable t w aim e }
     ensures { result ≡ way_of t e (work_records w aim e.end) }
 {
@@ -142,7 +141,7 @@ pub fn check_work(t: Travel, w: Work, aim: Aim, e: Extent) -> Way
     match pass {
         Pass::One(r) => {
             if w.passes == 0 {
-                return Way::Ends(e);
+                return Some(e);
             }
             check_record(t, r, e)
         }

@@ -11,17 +11,19 @@ use lengths::{Len, Point};
 use records::Kind;
 
 // A record that leads nowhere is the same in machine units.
-pub fn put_brief(list: &mut [u8], at: usize, b: Brief) -> usize
+pub fn put_brief(list: &mut [u8], at: usize, b: Option<Brief>) -> usize
     requires b_in_bounds { at + room_of (brief_records b) ≤ length list.old }
     requires list_short { ListShort (brief_records b) }
     ensures { Wrote list.old at (list_bytes (brief_records b)) list.new result }
 {
-    match b {
+    let Some(brief) = b else {
+        return at;
+    };
+    match brief {
         Brief::Speed(speed) => records::put_single(list, at, Kind::SP, speed),
         Brief::SpindleOff => records::put_mark(list, at, Kind::SO),
         Brief::Pause => records::put_mark(list, at, Kind::PA),
         Brief::End => records::put_mark(list, at, Kind::EN),
-        Brief::Nothing => at,
     }
 }
 

@@ -8,7 +8,7 @@ use Rattle.execution.proofs.check_block.Goals as goal
 pub returns-then-lacks_parameter : goal.returns-then-lacks_parameter
 returns-then-lacks_parameter c =
     let a = c.args in
-    λ left ws. does_refused ParameterUndefined a.start (lacks_stops (machine_of a.bed) (freely left) _ a.s a.start ws a.b c.lacks_parameter.ensures c.if-lacks_parameter.true)
+    λ left ws. does_refused (record { refusal = ParameterUndefined; byte = a.start }) (lacks_stops (machine_of a.bed) (freely left) _ a.s a.start ws a.b c.lacks_parameter.ensures c.if-lacks_parameter.true)
 
 pub returns-then-cannot_drill : goal.returns-then-cannot_drill
 returns-then-cannot_drill c =
@@ -17,7 +17,7 @@ returns-then-cannot_drill c =
     let call = call_to (control_of a.b) in
     λ left ws.
     let free = freely left in
-    does_refused CannotExecute a.start
+    does_refused (record { refusal = CannotExecute; byte = a.start })
     (lacks_past m free _ a.s a.start ws a.b c.lacks_parameter.ensures c.if-lacks_parameter.false
     ∙ calls_past m free _ a.s a.start ws a.b (free_known left call) (free_level left call)
     ∙ drill_stops m free _ a.s a.start ws a.b (c.cannot_drill.ensures a.s (rw c.working-works.ensures)) c.if-cannot_drill.true)

@@ -1,5 +1,9 @@
 -- `execution::checking::check_motion` meets its contract: test by test.
-use Rattle.terms.proofs.Common.{arith, ◌≡◌, sym, ◌∙◌, not-true, not-false, ℕ}
+use Rattle.std.specs.Prelude.{Err}
+use Rattle.std.specs.Result.{result_ok}
+use Rattle.std.proofs.lemmas.Result.{err_from_is_err_and}
+use Rattle.terms.proofs.Common.{ap, arith, ◌≡◌, sym, ◌∙◌, not-true, not-false, ℕ}
+use Rattle.refusals.specs.declared.Refusal.TheVariants.{LeavesTravel}
 use Rattle.execution.proofs.Ready.{testable, block_loose, block_fits, block_leaves, block_comes, block_unsound, work_little}
 use Rattle.execution.proofs.checking.check_motion.Goals as goal
 
@@ -17,18 +21,23 @@ returns-then-not-work_fits c =
     absurd (omega arith)
 
 pub check_work-requires : goal.check_work-requires
-check_work-requires c = testable c.requires.plans c.with_brief.ensures (not-false c.args.p.work.sound c.if-not-p.false)
+check_work-requires c = testable c.requires.plans c.with_brief-spun.ensures (not-false c.args.p.work.sound c.if-not-p.false)
 
-pub returns-in_default : goal.returns-in_default
-returns-in_default c =
-    block_leaves c.requires.plans c.with_brief.ensures (not-false c.args.p.work.sound c.if-not-p.false)
-    (sym c.in_default.is ∙ c.check_work.ensures)
+pub returns-in_err-moved : goal.returns-in_err-moved
+returns-in_err-moved c =
+    let none = c.ok_or.ensures.ok_part ∙ ap result_ok c.in_err-moved.was in
+    let p = err_from_is_err_and c.from_residual.result c.from_residual.ensures.1 in
+    let made : c.ok_or.result ≡ Err LeavesTravel = rw none at c.ok_or.ensures.value in
+    let is : c.in_err-moved.field-0.0 ≡ LeavesTravel = cc (sym c.in_err-moved.was ∙ made) in
+    rw (p.1, p.2, is)
+    (block_leaves c.requires.plans c.with_brief-spun.ensures (not-false c.args.p.work.sound c.if-not-p.false)
+    (sym none ∙ c.check_work.ensures))
 
-pub with_brief-requires-2 : goal.with_brief-requires-2
-with_brief-requires-2 c =
-    work_little c.requires.plans c.with_brief.ensures (not-false c.args.p.work.sound c.if-not-p.false) (sym c.in-Ends.is ∙ c.check_work.ensures)
+pub with_brief-requires : goal.with_brief-requires
+with_brief-requires c =
+    work_little c.requires.plans c.with_brief-spun.ensures (not-false c.args.p.work.sound c.if-not-p.false) (sym (c.ok_or.ensures.ok_part ∙ ap result_ok c.in_ok-moved.was) ∙ c.check_work.ensures)
 
 pub returns : goal.returns
 returns c =
-    block_comes c.requires.plans c.with_brief.ensures (not-false c.args.p.work.sound c.if-not-p.false)
-    (sym c.in-Ends.is ∙ c.check_work.ensures) c.with_brief-2.ensures
+    block_comes c.requires.plans c.with_brief-spun.ensures (not-false c.args.p.work.sound c.if-not-p.false)
+    (sym (c.ok_or.ensures.ok_part ∙ ap result_ok c.in_ok-moved.was) ∙ c.check_work.ensures) c.with_brief.ensures

@@ -9,24 +9,24 @@ pub returns-then-list-at : goal.returns-then-list-at
 returns-then-list-at c =
     let a = c.args in
     λ s b h m left ws.
-    does_refused _ a.start (no_room h left _ a.start ws (sym c.in-Comes.is ∙ c.check_motion.ensures) c.if-list-at.true)
+    does_refused _ (no_room h left _ a.start ws (sym c.in-Ok.is ∙ c.check_motion.ensures) c.if-list-at.true)
 
 pub put_block-next-requires : goal.put_block-next-requires
 put_block-next-requires c =
-    let came = sym c.in-Comes.is ∙ c.check_motion.ensures in
+    let came = sym c.in-Ok.is ∙ c.check_motion.ensures in
     record { room_for = block_ready c.requires.able.plans 0 0 0 [] came c.requires.at_in_bounds (omega (arith, c.if-list-at.false)); writable = writable c.requires.able.plans 0 0 0 [] came }
 
-pub returns-in-Refused : goal.returns-in-Refused
-returns-in-Refused c =
+pub returns-in-Err : goal.returns-in-Err
+returns-in-Err c =
     let a = c.args in
     λ s b h m left ws.
-    does_refused _ a.start (stops h left _ a.start ws (sym c.in-Refused.is ∙ c.check_motion.ensures))
+    does_refused _ (stops h left _ a.start ws (sym c.in-Err.is ∙ c.check_motion.ensures))
 
 pub returns-else-list-at : goal.returns-else-list-at
 returns-else-list-at c =
     let a = c.args in
     λ s b h m left ws.
-    let came = sym c.in-Comes.is ∙ c.check_motion.ensures in
+    let came = sym c.in-Ok.is ∙ c.check_motion.ensures in
     does_accepted (accepts h left _ a.start ws came (omega (arith, c.if-list-at.false))) (settled_is h left 0 0 ws came m c.settled-state.ensures) h.control
     (put_as a.bed.offset (made_is h) c.put_block-next.ensures) (count_is h left 0 0 ws came)
 

@@ -1,21 +1,21 @@
--- `execution::effects::control_of` meets its contract.
-use Rattle.terms.proofs.Common.{eq-eqb, ne_eqb}
-use Rattle.codes.specs.Codes.{is_m}
+-- `execution::effects::control_of` meets its contract, by the M code.
+use Rattle.terms.proofs.Common.{inl, inr}
+use Rattle.codes.specs.Codes.{misc_number, is_m}
 use Rattle.blocks.specs.Exec.{control_of}
+use Rattle.execution.proofs.{Small.leads_on}
 use Rattle.execution.proofs.effects.control_of.Goals as goal
 
-pub returns-then-n-eq98 : goal.returns-then-n-eq98
-unfolding control_of is_m
-returns-then-n-eq98 c = rw (← c.misc_number-n.ensures, eq-eqb _ _ c.if-n-eq98.true, c.called.ensures)
+pub returns-in-M98 : goal.returns-in-M98
+unfolding control_of is_m misc_number
+returns-in-M98 c = rw (c.in-M98.is, c.called.ensures)
 
-pub returns-then-n-eq99 : goal.returns-then-n-eq99
-unfolding control_of is_m
-returns-then-n-eq99 c = rw (← c.misc_number-n.ensures, ne_eqb _ _ c.if-n-eq98.false, eq-eqb _ _ c.if-n-eq99.true)
+pub returns-in-M99 : goal.returns-in-M99
+unfolding control_of is_m misc_number
+returns-in-M99 c = rw c.in-M99.is
 
-pub returns-then-n : goal.returns-then-n
-unfolding control_of is_m
-returns-then-n c = rw (← c.misc_number-n.ensures, ne_eqb _ _ c.if-n-eq98.false, ne_eqb _ _ c.if-n-eq99.false, c.if-n.true)
+pub returns-in-M02 : goal.returns-in-M02
+unfolding control_of is_m misc_number
+returns-in-M02 c = elim c.in-M02.is [ inl e ↦ rw e | inr e ↦ rw e ]
 
-pub returns : goal.returns
-unfolding control_of is_m
-returns c = rw (← c.misc_number-n.ensures, ne_eqb _ _ c.if-n-eq98.false, ne_eqb _ _ c.if-n-eq99.false, c.if-n.false)
+pub returns-in_default : goal.returns-in_default
+returns-in_default c = leads_on c.args.b c.in_default.not-M98 c.in_default.not-M99 c.in_default.not-M02 c.in_default.not-M30

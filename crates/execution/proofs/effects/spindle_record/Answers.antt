@@ -1,11 +1,12 @@
 -- `execution::effects::spindle_record` meets its contract.
-use Rattle.execution.proofs.{Small.spindle_one, Small.spindle_none}
+use Rattle.terms.proofs.Common.{◌∙◌}
+use Rattle.execution.proofs.{Small.is_three, Small.spindle_one, Small.spindle_none}
 use Rattle.execution.proofs.effects.spindle_record.Goals as goal
 
 pub returns-then-s-b : goal.returns-then-s-b
 returns-then-s-b c =
-    spindle_one c.args.s c.args.b c.misc_number.ensures c.requires c.if-s-b.true
+    spindle_one c.args.s c.args.b (c.eq.ensures ∙ is_three c.args.b.misc) c.requires c.if-s-b.true
 
 pub returns : goal.returns
 returns c =
-    spindle_none c.args.s c.args.b c.misc_number.ensures c.if-s-b.false
+    spindle_none c.args.s c.args.b (c.eq.ensures ∙ is_three c.args.b.misc) c.if-s-b.false

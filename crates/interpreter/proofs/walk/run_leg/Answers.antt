@@ -44,17 +44,17 @@ do_block-requires c =
     let fits = (c.loop-footing.invariant.1 no_programs).fits in
     record { at_in_bounds = goes_inside c.args.s.now c.loop-footing.at (sym c.program_ends.ensures ∙ c.if-program_ends.false); next_in_bounds = fits.next; fair = c.requires.fair; reachable = fits.state }
 
-pub shape_of-list-in-Refused : goal.shape_of-list-in-Refused
-shape_of-list-in-Refused c = did_kept (meets (c.loop-footing.invariant.1 no_programs) c.requires.fair (sym c.is_spent.ensures ∙ c.if-is_spent.false) (sym c.program_ends.ensures ∙ c.if-program_ends.false) (c.do_block.ensures c.loop-footing.block))
+pub shape_of-list-in-Err : goal.shape_of-list-in-Err
+shape_of-list-in-Err c = did_kept (meets (c.loop-footing.invariant.1 no_programs) c.requires.fair (sym c.is_spent.ensures ∙ c.if-is_spent.false) (sym c.program_ends.ensures ∙ c.if-program_ends.false) (c.do_block.ensures c.loop-footing.block))
 
-pub returns-in-Refused : goal.returns-in-Refused
-returns-in-Refused c programs =
-    rw c.over-in-Refused.ensures (did_refused (meets (c.loop-footing.invariant.1 programs) c.requires.fair (sym c.is_spent.ensures ∙ c.if-is_spent.false) (sym c.program_ends.ensures ∙ c.if-program_ends.false) (c.do_block.ensures c.loop-footing.block)) c.in-Refused.is)
+pub returns-in-Err : goal.returns-in-Err
+returns-in-Err c programs =
+    rw c.over-in-Err.ensures (did_refused (meets (c.loop-footing.invariant.1 programs) c.requires.fair (sym c.is_spent.ensures ∙ c.if-is_spent.false) (sym c.program_ends.ensures ∙ c.if-program_ends.false) (c.do_block.ensures c.loop-footing.block)) c.in-Err.is)
 
 pub progress_after-after-requires : goal.progress_after-after-requires
 unfolding progress_by
 progress_after-after-requires c =
-    let fits = did_fits (meets (c.loop-footing.invariant.1 no_programs) c.requires.fair (sym c.is_spent.ensures ∙ c.if-is_spent.false) (sym c.program_ends.ensures ∙ c.if-program_ends.false) (c.do_block.ensures c.loop-footing.block)) c.in-Accepted.is in
+    let fits = did_fits (meets (c.loop-footing.invariant.1 no_programs) c.requires.fair (sym c.is_spent.ensures ∙ c.if-is_spent.false) (sym c.program_ends.ensures ∙ c.if-program_ends.false) (c.do_block.ensures c.loop-footing.block)) c.in-Ok.is in
     record { budget_value = sym c.is_spent.ensures ∙ c.if-is_spent.false; count_bound = omega (arith, fits.next, fits.count) }
 
 -- and accepted
@@ -67,12 +67,12 @@ loop-footing-smaller c =
     omega (
       arith,
       goes_inside c.args.s.now c.loop-footing.at (sym c.program_ends.ensures ∙ c.if-program_ends.false),
-      did_less (meets (c.loop-footing.invariant.1 no_programs) c.requires.fair (sym c.is_spent.ensures ∙ c.if-is_spent.false) (sym c.program_ends.ensures ∙ c.if-program_ends.false) (c.do_block.ensures c.loop-footing.block)) c.in-Accepted.is,
+      did_less (meets (c.loop-footing.invariant.1 no_programs) c.requires.fair (sym c.is_spent.ensures ∙ c.if-is_spent.false) (sym c.program_ends.ensures ∙ c.if-program_ends.false) (c.do_block.ensures c.loop-footing.block)) c.in-Ok.is,
     )
 
 pub loop-footing-preserved : goal.loop-footing-preserved
 loop-footing-preserved c =
-    let done = c.in-Accepted.is in (
+    let done = c.in-Ok.is in (
       omega (arith, c.loop-footing.invariant.0, did_less (meets (c.loop-footing.invariant.1 no_programs) c.requires.fair (sym c.is_spent.ensures ∙ c.if-is_spent.false) (sym c.program_ends.ensures ∙ c.if-program_ends.false) (c.do_block.ensures c.loop-footing.block)) done),
       λ programs. rw c.progress_after-after.ensures (did_on (meets (c.loop-footing.invariant.1 programs) c.requires.fair (sym c.is_spent.ensures ∙ c.if-is_spent.false) (sym c.program_ends.ensures ∙ c.if-program_ends.false) (c.do_block.ensures c.loop-footing.block)) done c.in-On.is),
     )
@@ -84,7 +84,7 @@ pub returns-in-Call : goal.returns-in-Call
 returns-in-Call c programs =
     let start = c.args.start in
     rw c.progress_after-after.ensures
-    (did_call (meets (c.loop-footing.invariant.1 programs) c.requires.fair (sym c.is_spent.ensures ∙ c.if-is_spent.false) (sym c.program_ends.ensures ∙ c.if-program_ends.false) (c.do_block.ensures c.loop-footing.block)) c.in-Accepted.is start.block start.byte c.in-Call.is refl c.loop-footing.invariant.0)
+    (did_call (meets (c.loop-footing.invariant.1 programs) c.requires.fair (sym c.is_spent.ensures ∙ c.if-is_spent.false) (sym c.program_ends.ensures ∙ c.if-program_ends.false) (c.do_block.ensures c.loop-footing.block)) c.in-Ok.is start.block start.byte c.in-Call.is refl c.loop-footing.invariant.0)
 
 pub shape_of-list-in-Back : goal.shape_of-list-in-Back
 shape_of-list-in-Back c = did_kept (meets (c.loop-footing.invariant.1 no_programs) c.requires.fair (sym c.is_spent.ensures ∙ c.if-is_spent.false) (sym c.program_ends.ensures ∙ c.if-program_ends.false) (c.do_block.ensures c.loop-footing.block))
@@ -92,7 +92,7 @@ shape_of-list-in-Back c = did_kept (meets (c.loop-footing.invariant.1 no_program
 pub returns-in-Back : goal.returns-in-Back
 returns-in-Back c programs =
     rw c.progress_after-after.ensures
-    (did_back (meets (c.loop-footing.invariant.1 programs) c.requires.fair (sym c.is_spent.ensures ∙ c.if-is_spent.false) (sym c.program_ends.ensures ∙ c.if-program_ends.false) (c.do_block.ensures c.loop-footing.block)) c.in-Accepted.is _ c.in-Back.is)
+    (did_back (meets (c.loop-footing.invariant.1 programs) c.requires.fair (sym c.is_spent.ensures ∙ c.if-is_spent.false) (sym c.program_ends.ensures ∙ c.if-program_ends.false) (c.do_block.ensures c.loop-footing.block)) c.in-Ok.is _ c.in-Back.is)
 
 pub shape_of-list-in-Stop : goal.shape_of-list-in-Stop
 shape_of-list-in-Stop c = did_kept (meets (c.loop-footing.invariant.1 no_programs) c.requires.fair (sym c.is_spent.ensures ∙ c.if-is_spent.false) (sym c.program_ends.ensures ∙ c.if-program_ends.false) (c.do_block.ensures c.loop-footing.block))
@@ -100,4 +100,4 @@ shape_of-list-in-Stop c = did_kept (meets (c.loop-footing.invariant.1 no_program
 pub returns-in-Stop : goal.returns-in-Stop
 returns-in-Stop c programs =
     rw c.progress_after-after.ensures
-    (did_stop (meets (c.loop-footing.invariant.1 programs) c.requires.fair (sym c.is_spent.ensures ∙ c.if-is_spent.false) (sym c.program_ends.ensures ∙ c.if-program_ends.false) (c.do_block.ensures c.loop-footing.block)) c.in-Accepted.is _ c.in-Stop.is)
+    (did_stop (meets (c.loop-footing.invariant.1 programs) c.requires.fair (sym c.is_spent.ensures ∙ c.if-is_spent.false) (sym c.program_ends.ensures ∙ c.if-program_ends.false) (c.do_block.ensures c.loop-footing.block)) c.in-Ok.is _ c.in-Stop.is)

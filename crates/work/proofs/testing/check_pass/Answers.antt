@@ -1,5 +1,5 @@
 -- `work::testing::check_pass` meets its contract: the records that are left lead to where all lead.
-use Rattle.terms.proofs.Common.{arith, true, ◌∙◌, not-true, not-false, ap, not}
+use Rattle.terms.proofs.Common.{arith, ◌∙◌, not-true, not-false, ap, not}
 use Rattle.records.proofs.Moved.{kind_few}
 use Rattle.cycles.specs.{Cycles.pass_to, Bounds.row_record}
 use Rattle.work.proofs.{Extents.tested_starts, Extents.tested_ends, Extents.tested_leaves, Extents.tested_next, Extents.row_stays}

@@ -16,17 +16,18 @@ check_pass-requires c =
     let l = c.loop-left.invariant in
     (l.inside, leads_little c.args.t (drilled c.args.h c.args.passes) c.args.aim c.args.e c.requires l)
 
-pub returns-in_default : goal.returns-in_default
+pub returns-in_err-so_far : goal.returns-in_err-so_far
 unfolding rows_of
-returns-in_default c =
-    leads_leaves c.args.t (drilled c.args.h c.args.passes) c.args.aim c.args.e c.requires c.loop-left.invariant (omega arith) c.target_point-to.ensures.is
-    (sym c.in_default.is ∙ c.check_pass.ensures)
+returns-in_err-so_far c =
+    c.from_residual.ensures
+    ∙ leads_leaves c.args.t (drilled c.args.h c.args.passes) c.args.aim c.args.e c.requires c.loop-left.invariant (omega arith) c.target_point-to.ensures.is
+    (sym c.in_err-so_far.was ∙ c.check_pass.ensures)
 
 pub loop-left-preserved : goal.loop-left-preserved
 unfolding rows_of
 loop-left-preserved c =
     leads_on c.args.t (drilled c.args.h c.args.passes) c.args.aim c.args.e c.requires c.loop-left.invariant (omega arith) c.target_point-to.ensures.is (rows_few (Drill c.args.h))
-    (sym c.in-Ends.is ∙ c.check_pass.ensures)
+    (sym c.in_ok-so_far.was ∙ c.check_pass.ensures)
 
 pub returns : goal.returns
 returns c = leads_ends c.args.t (drilled c.args.h c.args.passes) c.args.aim c.args.e c.requires c.loop-left.invariant (omega arith)

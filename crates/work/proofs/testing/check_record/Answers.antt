@@ -1,7 +1,6 @@
 -- `work::testing::check_record` meets its contract: one record leads where it leads.
-use Rattle.terms.proofs.Common.{arith, ◌∙◌, ap, not-true, not-false, not}
+use Rattle.terms.proofs.Common.{arith, ◌∙◌, ap, not-true, not-false, not, Some}
 use Rattle.records.proofs.Moved.{kind_few}
-use Rattle.work.specs.declared.Way.TheVariants.{Ends}
 use Rattle.work.proofs.{Extents.one_leaves, Extents.one_ends}
 use Rattle.work.proofs.testing.check_record.Goals as goal
 
@@ -16,7 +15,7 @@ longer-requires c = (c.requires.1, omega (arith, c.room.ensures, kind_few c.args
 pub returns : goal.returns
 returns c =
     let a = c.args in
-    ap Ends c.longer.ensures
+    ap Some c.longer.ensures
     ∙ one_ends a.t a.e a.r (rw c.path_stays.ensures at (not-false c.path_stays.result (ap not c.if-not-path_stays.false)))
     c.path_end.ensures c.room.ensures
 
