@@ -3,7 +3,7 @@
 // measured from outside, by two numbers of runs, so that all that is done once is taken off.
 #![tactic(auto)]
 
-use files::{STDERR_FILENO, STDIN_FILENO, STDOUT_FILENO};
+use files::{LIST_ROOM, STDERR_FILENO, STDIN_FILENO, STDOUT_FILENO};
 use refusals::Answer;
 use std::rt::Env;
 use texts::Digits;
@@ -21,7 +21,7 @@ fn main(rt: HostRuntime) {
 }
 
 fn measure(times: u64, bytes: &[u8]) {
-    let mut list = files::list_room();
+    let mut list = files::room::<LIST_ROOM>();
     let records = run_times(times, bytes, &mut list);
     let blocks = least(enough(bytes, &mut list), bytes, &mut list);
     io::print_decimal(STDOUT_FILENO, times);
