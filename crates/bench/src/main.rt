@@ -3,7 +3,7 @@
 // measured from outside, by two numbers of runs, so that all that is done once is taken off.
 #![tactic(auto)]
 
-use files::STDIN_FILENO;
+use files::{LIST_ROOM, STDIN_FILENO};
 use refusals::Answer;
 use std::io::Print;
 use std::rt::Env;
@@ -22,7 +22,7 @@ fn main(rt: HostRuntime) {
 }
 
 fn measure(rt: &impl Print, times: u64, bytes: &[u8]) {
-    let mut list = files::list_room();
+    let mut list = files::room::<LIST_ROOM>();
     let records = run_times(times, bytes, &mut list);
     let blocks = least(enough(bytes, &mut list), bytes, &mut list);
     let _ = println!(rt; "{times} {blocks} {records}");

@@ -10,7 +10,7 @@ ghost use Rattle.interpreter.specs.Owing.{Owes};
 ghost use Rattle.cases.specs.Budgets.{budget_by};
 
 use case_text::case_at;
-use files::STDIN_FILENO;
+use files::{LIST_ROOM, STDIN_FILENO};
 use runs::Report;
 use setup::Setup;
 use std::io::Print;
@@ -35,7 +35,7 @@ pub struct Case {
 }
 
 fn main(rt: HostRuntime) {
-    let mut input = files::list_room();
+    let mut input = files::room::<LIST_ROOM>();
     let n = io::read_full(STDIN_FILENO, &mut input);
     if n == 1048576 {
         let _ = rt.println("too long");

@@ -1,39 +1,49 @@
 -- The words of a command by their places. Assumes nothing.
-use Rattle.terms.proofs.Common.{ℕ, zero, suc, ◌+◌, ◌-◌, ◌≤◌, ◌<◌, ◌≡◌, refl, sym, ap, ◌∙◌, not, List, arith, length, take, drop, get_or, drop_of_length-le, length-drop, drop-drop, eq-eqb, ne_eqb}
-use Rattle.lines.proofs.Lines.{at_place}
+use Rattle.std.{specs.Prelude.if◌then◌else◌, specs.List.count_by, specs.List.position_or_len, specs.List.position, proofs.lemmas.Option.cond_some, proofs.lemmas.Option.none-some, proofs.lemmas.List.Recursion.is_count_by, proofs.lemmas.List.Recursion.is_position_or_len}
+use Rattle.terms.proofs.Common.{ℕ, zero, suc, ◌+◌, ◌-◌, ◌≤◌, ◌<◌, ◌≡◌, refl, sym, ap, ◌∙◌, Bool, true, false, cond, not, Option, Some, None, List, [], ◌∷◌, arith, length, take, take-length, drop, ltb, ltb-false, drop_of_length-le, length-drop, drop-drop}
 use Rattle.words.{specs.Numbers.run, specs.Numbers.count, proofs.Numbers.run_short}
 use Rattle.texts.proofs.Places.{run_take}
 use Rattle.commands.specs.Words.{is_end, count_in, word_in, after_word, after_words}
 
+-- ---- in the kit's words
+
+pub ends_counted : (l : List ℕ) → count_in l ≡ count_by is_end l
+unfolding count_in count
+ends_counted = is_count_by count_in is_end refl (λ b bs. either (is_end b) (count is_end bs))
+  where
+    either : (t : Bool) (n : ℕ) → (if t then 1 else 0) + n ≡ cond t (1 + n) n
+    either true n = refl
+    either false n = omega arith
+
+-- how many bytes the first word has, which the first end tells
+pub first_end : (l : List ℕ) → length (word_in l) ≡ position_or_len is_end l
+unfolding word_in run
+first_end = is_position_or_len (λ l. length (word_in l)) is_end refl (λ b bs. either (is_end b) b (run (λ b. not (is_end b)) bs))
+  where
+    either : (t : Bool) (b : ℕ) (bs : List ℕ) → length (if not t then b ∷ bs else []) ≡ cond t 0 (1 + length bs)
+    either true b bs = refl
+    either false b bs = omega arith
+
+none_when : (t : Bool) (n : ℕ) → cond t (Some n) None ≡ None → t ≡ false
+none_when true n e = absurd (none-some n (sym e))
+none_when false n e = refl
+
+pub to_end : (l : List ℕ) (from : ℕ) → take (length l - from) (drop from l) ≡ drop from l
+to_end l from = ap (λ (n : ℕ). take n (drop from l)) (sym (length-drop from l)) ∙ take-length (drop from l)
+
+module _ (l : List ℕ) {r : Option ℕ} (e : r ≡ position is_end l) where
+  pub word_ended : {n : ℕ} → r ≡ Some n → n ≡ length (word_in l)
+  word_ended {n} g =
+      let k = position_or_len is_end l in
+      sym (cond_some (ltb k (length l)) k n (sym e ∙ g)).1 ∙ sym (first_end l)
+
+  pub word_unended : r ≡ None → length l ≡ length (word_in l)
+  unfolding word_in
+  word_unended g =
+      let k = position_or_len is_end l in
+      omega (arith, ltb-false k (length l) (none_when (ltb k (length l)) k (sym e ∙ g)), first_end l, run_short (λ b. not (is_end b)) l)
+
 module _ (l : List ℕ) (i : ℕ) where
-  -- ---- counting
-
-  pub count_end : length l ≤ i → count_in (drop i l) ≡ 0
-  unfolding count_in count
-  count_end h = rw (drop_of_length-le l h)
-
-  pub count_one : i < length l → get_or l i 0 ≡ 0 → count_in (drop i l) ≡ 1 + count_in (drop (i + 1) l)
-  unfolding count_in count
-  count_one h e = rw (at_place l i h) (rw (eq-eqb (get_or l i 0) 0 e))
-
-  pub count_none : i < length l → (get_or l i 0 ≡ 0 → ⊥) → count_in (drop i l) ≡ count_in (drop (i + 1) l)
-  unfolding count_in count
-  count_none h e = rw (at_place l i h) (rw (ne_eqb (get_or l i 0) 0 e) (omega arith))
-
-  -- ---- a word's end
-
-  pub word_none : length l ≤ i → length (word_in (drop i l)) ≡ 0
-  unfolding word_in run
-  word_none h = rw (drop_of_length-le l h)
-
-  pub word_over : i < length l → get_or l i 0 ≡ 0 → length (word_in (drop i l)) ≡ 0
-  unfolding word_in run
-  word_over h e = rw (at_place l i h) (rw (eq-eqb (get_or l i 0) 0 e))
-
-  pub word_more : i < length l → (get_or l i 0 ≡ 0 → ⊥) → length (word_in (drop i l)) ≡ suc (length (word_in (drop (i + 1) l)))
-  unfolding word_in run
-  word_more h e = rw (at_place l i h) (rw (ne_eqb (get_or l i 0) 0 e))
-
   pub word_inside : i ≤ length l → i + length (word_in (drop i l)) ≤ length l
   unfolding word_in
   word_inside h = omega (arith, run_short (λ b. not (is_end b)) (drop i l), length-drop i l)

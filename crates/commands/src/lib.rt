@@ -3,10 +3,10 @@
 
 mod options;
 
-ghost use Rattle.std.specs.Prelude.{◌≡◌, ◌+◌, ◌≤◌};
+ghost use Rattle.std.specs.Prelude.{position, ◌≡◌, ◌+◌, ◌≤◌};
 ghost use Rattle.terms.specs.Common.{length, drop};
 ghost use Rattle.texts.specs.Texts.{same_bytes};
-ghost use Rattle.commands.specs.Words.{count_in, word_in, after_word, after_words, word_of};
+ghost use Rattle.commands.specs.Words.{is_end, count_in, word_in, after_word, after_words, word_of};
 
 pub use options::{Options, options_of};
 
@@ -14,29 +14,23 @@ pub use options::{Options, options_of};
 pub fn count_of(line: &[u8]) -> usize
     ensures { result ≡ count_in line.now }
 {
-    let mut count = 0;
-    let mut i = 0;
-    while i < line.len() {
-        if line[i] == 0 {
-            count += 1;
-        }
-        i += 1;
-    }
-    count
+    line.iter().filter(|b| **b == 0).count()
 }
 
 fn word_end(line: &[u8], from: usize) -> usize
     requires { from ≤ length line.now }
     ensures { result ≡ from + length (word_in (drop from line.now)) }
 {
-    let mut i = from;
-    while i < line.len() {
-        if line[i] == 0 {
-            return i;
-        }
-        i += 1;
+    match first_end(&line[from..]) {
+        Some(length) => from + length,
+        None => line.len(),
     }
-    i
+}
+
+fn first_end(bytes: &[u8]) -> Option<usize>
+    ensures { result ≡ position is_end bytes.now }
+{
+    bytes.iter().position(|b| *b == 0)
 }
 
 // The place after the word that begins at a place, and after its end.
@@ -55,11 +49,9 @@ fn after_word(line: &[u8], from: usize) -> usize
 fn after_words(line: &[u8], count: usize) -> usize
     ensures { (result ≤ length line.now) × (drop result line.now ≡ after_words count line.now) }
 {
-    let mut left = count;
     let mut at = 0;
-    while 0 < left {
+    for _ in 0..count {
         at = after_word(line, at);
-        left -= 1;
     }
     at
 }

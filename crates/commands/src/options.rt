@@ -1,66 +1,61 @@
 // The options of a run, and whether it names a list. Where one is wrong, a line says so.
 ghost use Rattle.std.specs.Prelude.{◌≡◌, ◌+◌, ◌≤◌, ◌<◌};
+ghost use Rattle.terms.specs.Common.{None};
 ghost use Rattle.texts.specs.Figures.{digits_in};
-ghost use Rattle.commands.specs.Options.{no_options, wrong_options, with_blocks, with_room, with_partial, with_option, with_next, with_no_more, is_listed, first_options, options_of};
+ghost use Rattle.commands.specs.Options.{no_options, with_blocks, with_room, with_partial, with_option, with_next, with_no_more, is_listed, first_options, room_of, options_of};
 ghost use Rattle.commands.specs.Words.{word_of};
 
 use crate::{is, word};
-use files::complain;
+use files::{LIST_ROOM, complain};
 use texts::{Digits, is_word};
 
-// All blocks are run where it is whole, and else the first so many. It is roomy where no room was given. The words from the
-// next one on are not read yet.
+// Whether a list is named, how many blocks are run where not all are, how many bytes the records may take where not as many as
+// a list has, and whether a refused run's are written. The words from the next one on are not read yet.
 #[derive(Clone, Copy)]
 pub struct Options {
-    pub fine: bool,
     pub listed: bool,
-    pub whole: bool,
-    pub blocks: u64,
-    pub roomy: bool,
-    pub room: usize,
+    pub blocks: Option<u64>,
+    pub room: Option<usize>,
     pub partial: bool,
     pub next: usize,
+}
+
+impl Options {
+    pub fn room(self) -> usize
+        ensures { result ≡ room_of self }
+    {
+        self.room.unwrap_or(LIST_ROOM)
+    }
 }
 
 fn no_options(listed: bool, next: usize) -> Options
     ensures { result ≡ no_options listed next }
 {
     Options {
-        fine: true,
         listed,
-        whole: true,
-        blocks: 0,
-        roomy: true,
-        room: 1048576,
+        blocks: None,
+        room: None,
         partial: false,
         next,
     }
 }
 
-fn wrong(err: i32, name: &[u8], what: &[u8]) -> Options
-    ensures { result ≡ wrong_options }
+// A line says what is wrong with a word, and there are no options.
+fn wrong(err: i32, name: &[u8], what: &[u8]) -> Option<Options>
+    ensures { result ≡ None }
 {
     complain(err, name, what);
-    Options {
-        fine: false,
-        listed: false,
-        whole: true,
-        blocks: 0,
-        roomy: true,
-        room: 0,
-        partial: false,
-        next: 0,
-    }
+    None
 }
 
-fn given_twice(err: i32, name: &[u8]) -> Options
-    ensures { result ≡ wrong_options }
+fn given_twice(err: i32, name: &[u8]) -> Option<Options>
+    ensures { result ≡ None }
 {
     wrong(err, name, b"is given twice")
 }
 
-fn no_room(err: i32) -> Options
-    ensures { result ≡ wrong_options }
+fn no_room(err: i32) -> Option<Options>
+    ensures { result ≡ None }
 {
     wrong(
         err,
@@ -69,14 +64,14 @@ fn no_room(err: i32) -> Options
     )
 }
 
-// The options of a command of so many words.
-pub fn options_of(line: &[u8], count: usize, err: i32) -> Options
+// The options of a command of so many words, or none where a line says what is wrong with one.
+pub fn options_of(line: &[u8], count: usize, err: i32) -> Option<Options>
     ensures { result ≡ options_of line.now count }
 {
     let none = first_options(is_listed(line, count));
-    let one = with_next(line, count, none, err);
-    let two = with_next(line, count, one, err);
-    let three = with_next(line, count, two, err);
+    let one = with_next(line, count, none, err)?;
+    let two = with_next(line, count, one, err)?;
+    let three = with_next(line, count, two, err)?;
     with_no_more(line, count, three, err)
 }
 
@@ -103,36 +98,31 @@ fn first_options(listed: bool) -> Options
     no_options(false, 3)
 }
 
-// The options with the next one, where a word is left and nothing was wrong before.
-fn with_next(line: &[u8], count: usize, options: Options, err: i32) -> Options
+// The options with the next one, where a word is left. Three options take six words at most after the first four, and so the
+// bound: an invariant of the type would have to grow with each.
+fn with_next(line: &[u8], count: usize, options: Options, err: i32) -> Option<Options>
     requires { options.next ≤ 8 }
     ensures { result ≡ with_next line.now count options }
 {
     let k = options.next;
-    if !options.fine {
-        return options;
-    }
     if count <= k {
-        return options;
+        return Some(options);
     }
     with_option(word(line, k), word(line, k + 1), options, err)
 }
 
-fn with_no_more(line: &[u8], count: usize, options: Options, err: i32) -> Options
+fn with_no_more(line: &[u8], count: usize, options: Options, err: i32) -> Option<Options>
     ensures { result ≡ with_no_more count options }
 {
     let k = options.next;
-    if !options.fine {
-        return options;
-    }
     if count <= k {
-        return options;
+        return Some(options);
     }
     wrong(err, word(line, k), b"is too much: nothing may stand here")
 }
 
 // The option of a name, and the word after it.
-fn with_option(name: &[u8], number: &[u8], options: Options, err: i32) -> Options
+fn with_option(name: &[u8], number: &[u8], options: Options, err: i32) -> Option<Options>
     requires { options.next ≤ 8 }
     ensures { result ≡ with_option name.now number.now options }
 {
@@ -152,11 +142,11 @@ fn with_option(name: &[u8], number: &[u8], options: Options, err: i32) -> Option
     )
 }
 
-fn with_blocks(number: &[u8], options: Options, err: i32) -> Options
+fn with_blocks(number: &[u8], options: Options, err: i32) -> Option<Options>
     requires { options.next ≤ 8 }
     ensures { result ≡ with_blocks options (digits_in number.now) }
 {
-    if !options.whole {
+    if options.blocks.is_some() {
         return given_twice(err, b"--blocks");
     }
     let Digits::Are(n) = texts::digits_at(number, 0, number.len()) else {
@@ -166,23 +156,18 @@ fn with_blocks(number: &[u8], options: Options, err: i32) -> Options
             b"wants a number after it, of 19 digits at most",
         );
     };
-    Options {
-        fine: true,
-        listed: options.listed,
-        whole: false,
-        blocks: n,
-        roomy: options.roomy,
-        room: options.room,
-        partial: options.partial,
+    Some(Options {
+        blocks: Some(n),
         next: options.next + 2,
-    }
+        ..options
+    })
 }
 
-fn with_room(number: &[u8], options: Options, err: i32) -> Options
+fn with_room(number: &[u8], options: Options, err: i32) -> Option<Options>
     requires { options.next ≤ 8 }
     ensures { result ≡ with_room options (digits_in number.now) }
 {
-    if !options.roomy {
+    if options.room.is_some() {
         return given_twice(err, b"--room");
     }
     let Digits::Are(n) = texts::digits_at(number, 0, number.len()) else {
@@ -191,33 +176,23 @@ fn with_room(number: &[u8], options: Options, err: i32) -> Options
     if 1048576 < n {
         return no_room(err);
     }
-    Options {
-        fine: true,
-        listed: options.listed,
-        whole: options.whole,
-        blocks: options.blocks,
-        roomy: false,
-        room: n as usize,
-        partial: options.partial,
+    Some(Options {
+        room: Some(n as usize),
         next: options.next + 2,
-    }
+        ..options
+    })
 }
 
-fn with_partial(options: Options, err: i32) -> Options
+fn with_partial(options: Options, err: i32) -> Option<Options>
     requires { options.next ≤ 8 }
     ensures { result ≡ with_partial options }
 {
     if options.partial {
         return given_twice(err, b"--partial");
     }
-    Options {
-        fine: true,
-        listed: options.listed,
-        whole: options.whole,
-        blocks: options.blocks,
-        roomy: options.roomy,
-        room: options.room,
+    Some(Options {
         partial: true,
         next: options.next + 1,
-    }
+        ..options
+    })
 }

@@ -3,46 +3,32 @@
 
 ghost use Rattle.std.specs.Prelude.{◌≡◌, ◌≤◌};
 ghost use Rattle.terms.specs.Common.{length};
+ghost use Rattle.commands.specs.Options.{room_of};
 ghost use Rattle.interpreter.specs.Owing.{Owes};
 ghost use Rattle.list_files.specs.Lists.{budget_of, Makes, is_written};
 
 use commands::Options;
 use refusals::Answer;
-use runs::{Report, Standing};
+use runs::Report;
 use setup::Setup;
-
-// The answer of a run, where it stands, and where its records end in the buffer.
-#[derive(Clone, Copy)]
-pub struct Made {
-    pub answer: Answer,
-    pub standing: Standing,
-    pub end: usize,
-}
 
 // Runs as many blocks as the options say.
 fn report_in(setup: Setup, bytes: &[u8], list: &mut [u8], options: Options) -> Report
     ensures { Owes setup bytes.now (budget_of options) list.old list.new result }
 {
-    if options.whole {
-        return interpreter::run(setup, bytes, list);
+    match options.blocks {
+        None => interpreter::run(setup, bytes, list),
+        Some(n) => interpreter::run_blocks(setup, bytes, list, n),
     }
-    interpreter::run_blocks(setup, bytes, list, options.blocks)
 }
 
 // Runs the data into a buffer. What stands before the end are the records, and nothing else.
-pub fn make_list(setup: Setup, bytes: &[u8], list: &mut [u8], options: Options) -> Made
-    requires { options.room ≤ length list.old }
+pub fn make_list(setup: Setup, bytes: &[u8], list: &mut [u8], options: Options) -> Report
+    requires { room_of options ≤ length list.old }
     ensures { Makes setup bytes.now options list.old list.new result }
 {
-    let room = options.room;
-    let report = report_in(setup, bytes, &mut list[..room], options);
-    let answer = report.answer;
-    let standing = report.standing;
-    Made {
-        answer,
-        standing,
-        end: report.end,
-    }
+    let room = options.room();
+    report_in(setup, bytes, &mut list[..room], options)
 }
 
 // Whether the list's file gets the records of a run with this answer.

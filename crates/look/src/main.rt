@@ -20,15 +20,8 @@ use refusals::{Place, Refusal};
 use settings::Modes;
 use words::{Given, Values};
 
-// A call hands the array over as an unknown of a known length, so that no proof writes its zeros out.
-fn room() -> [u8; 65536]
-    ensures { 65536 ≡ length result }
-{
-    [0; 65536]
-}
-
 fn main() {
-    let mut buffer = room();
+    let mut buffer = files::room::<65536>();
     let n = io::read_full(STDIN_FILENO, &mut buffer);
     if n == 65536 {
         io::write_all(STDOUT_FILENO, b"too long\n");

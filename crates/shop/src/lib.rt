@@ -11,7 +11,7 @@ ghost use Rattle.shop.specs.Asking.{asked_by};
 
 use answers::{Unshown, show_list};
 use commands::{count_of, is, word};
-use files::{STDOUT_FILENO, complain, complain_record, complain_why};
+use files::{LIST_ROOM, STDOUT_FILENO, complain, complain_record, complain_why};
 use limits::show_fault;
 use plotting::plot;
 use running::run;
@@ -28,7 +28,7 @@ pub struct Known {
 }
 
 // What the first word asks for.
-#[derive(Clone, Copy)]
+#[derive(Clone, Copy, PartialEq, Eq)]
 pub enum Asked {
     Run,
     Show,
@@ -87,6 +87,7 @@ fn help() -> bool {
     )
 }
 
+// One test a word: a table of names would have to be searched by a loop, for four of them.
 fn asked_by(given: &[u8]) -> Asked
     ensures { result ≡ asked_by given.now }
 {
@@ -111,12 +112,10 @@ fn show(rt: &(impl Files + Print), line: &[u8], count: usize, err: i32) -> bool 
         complain(err, b"show", b"wants LIST");
         return true;
     }
-    let mut list = files::list_room();
-    let got = files::read_whole(rt, word(line, 1), &mut list, err);
-    if !got.fine {
+    let mut list = files::room::<LIST_ROOM>();
+    let Some(n) = files::read_whole(rt, word(line, 1), &mut list, err) else {
         return true;
-    }
-    let n = got.count;
+    };
     match show_list(rt, &list[..n]) {
         Ok(()) => true,
         Err(Unshown::Faulty(place)) => is_faulty(word(line, 1), place, err),

@@ -2,7 +2,7 @@
 use crate::setup_files::setup_in;
 use commands::word;
 use drawing::Undrawn;
-use files::{Spot, complain, complain_record, list_room, picture_room, spot_for};
+use files::{LIST_ROOM, PICTURE_ROOM, Spot, complain, complain_record, room, spot_for};
 use setup::Setup;
 use std::rt::Files;
 
@@ -11,10 +11,9 @@ pub fn plot(rt: &impl Files, line: &[u8], count: usize, err: i32) {
         complain(err, b"plot", b"wants LIST SETUP PICTURE");
         return;
     }
-    let spot = spot_for(rt, word(line, 3), word(line, 1), word(line, 2), err);
-    if !spot.fine {
+    let Some(spot) = spot_for(rt, word(line, 3), word(line, 1), word(line, 2), err) else {
         return;
-    }
+    };
     let known = setup_in(rt, word(line, 2), err);
     if known.fine {
         let setup = known.setup;
@@ -23,16 +22,14 @@ pub fn plot(rt: &impl Files, line: &[u8], count: usize, err: i32) {
 }
 
 fn plot_file(rt: &impl Files, setup: Setup, line: &[u8], spot: Spot, err: i32) {
-    let mut list = list_room();
-    let got = files::read_whole(rt, word(line, 1), &mut list, err);
-    if got.fine {
-        let n = got.count;
+    let mut list = room::<LIST_ROOM>();
+    if let Some(n) = files::read_whole(rt, word(line, 1), &mut list, err) {
         plot_list(rt, setup, &list[..n], line, spot, err);
     }
 }
 
 fn plot_list(rt: &impl Files, setup: Setup, list: &[u8], line: &[u8], spot: Spot, err: i32) {
-    let mut picture = picture_room();
+    let mut picture = room::<PICTURE_ROOM>();
     match drawing::draw(list, setup, &mut picture) {
         Ok(n) => {
             files::write_whole(rt, word(line, 3), &picture[..n], spot, err);

@@ -1,12 +1,14 @@
 // The run of a data set under a setup, from files to a file.
 
 ghost use Rattle.std.specs.Prelude.{◌≤◌};
+ghost use Rattle.commands.specs.Options.{room_of};
 
 use crate::setup_files::setup_in;
 use answers::{show_answer, show_standing};
 use commands::{Options, options_of, word};
-use files::{STDOUT_FILENO, Spot, complain, list_room, show_text, spot_for};
-use list_files::{Made, is_written, make_list};
+use files::{LIST_ROOM, STDOUT_FILENO, Spot, complain, room, show_text, spot_for};
+use list_files::{is_written, make_list};
+use runs::Report;
 use setup::Setup;
 use std::io::Print;
 use std::rt::Files;
@@ -21,43 +23,35 @@ pub fn run(rt: &(impl Files + Print), line: &[u8], count: usize, err: i32) -> bo
         );
         return true;
     }
-    let options = options_of(line, count, err);
-    if !options.fine {
+    let Some(options) = options_of(line, count, err) else {
         return true;
-    }
-    let spot = spot_of(rt, line, options, err);
-    if !spot.fine {
+    };
+    let Some(spot) = spot_of(rt, line, options, err) else {
         return true;
-    }
+    };
     run_files(rt, line, options, spot, err)
 }
 
 // Where the list goes. A run without one writes nothing, which it may.
-fn spot_of(rt: &impl Files, line: &[u8], options: Options, err: i32) -> Spot {
+fn spot_of(rt: &impl Files, line: &[u8], options: Options, err: i32) -> Option<Spot> {
     if options.listed {
         return spot_for(rt, word(line, 3), word(line, 1), word(line, 2), err);
     }
-    Spot {
-        mode: 0,
-        fine: true,
-        old: false,
-    }
+    Some(Spot { mode: None })
 }
 
 // The buffer holds one byte more than data may have, so that longer data is refused and not cut.
 fn run_files(rt: &(impl Files + Print), line: &[u8], options: Options, spot: Spot, err: i32) -> bool
-    requires { options.room ≤ 1048576 }
+    requires { room_of options ≤ 1048576 }
 {
     let known = setup_in(rt, word(line, 1), err);
     if !known.fine {
         return true;
     }
     let mut data = io::large_buffer();
-    let got = files::read_start(rt, word(line, 2), &mut data, err);
-    if !got.fine {
+    let Some(n) = files::read_start(rt, word(line, 2), &mut data, err) else {
         return true;
-    }
-    let n = got.count;
+    };
     let setup = known.setup;
     run_data(rt, setup, &data[..n], word(line, 3), options, spot, err)
 }
@@ -71,9 +65,9 @@ fn run_data(
     spot: Spot,
     err: i32,
 ) -> bool
-    requires { options.room ≤ 1048576 }
+    requires { room_of options ≤ 1048576 }
 {
-    let mut list = list_room();
+    let mut list = room::<LIST_ROOM>();
     let made = make_list(setup, data, &mut list, options);
     let answer = made.answer;
     let end = made.end;
@@ -86,7 +80,7 @@ fn run_data(
     show_made(rt, data, made)
 }
 
-fn show_made(rt: &impl Print, data: &[u8], made: Made) -> bool {
+fn show_made(rt: &impl Print, data: &[u8], made: Report) -> bool {
     let answer = made.answer;
     let standing = made.standing;
     let state = standing.state;

@@ -12,9 +12,10 @@ use texts::{Wrong, none_wrong};
 // The setup in a file.
 pub fn setup_in(rt: &impl Files, path: &[u8], err: i32) -> Known {
     let mut text = io::large_buffer();
-    let got = files::read_whole(rt, path, &mut text, err);
-    let n = got.count;
-    known_from(path, &text[..n], got.fine, err)
+    let Some(n) = files::read_whole(rt, path, &mut text, err) else {
+        return known_from(path, b"", false, err);
+    };
+    known_from(path, &text[..n], true, err)
 }
 
 // The setup that a file's text gives, where all of it was read. If it gives none, a line says what is wrong with it.

@@ -3,10 +3,10 @@
 // shorter than 1 MiB.
 #![tactic(auto)]
 
-use files::STDIN_FILENO;
+use files::{LIST_ROOM, STDIN_FILENO};
 
 fn main(rt: HostRuntime) {
-    let mut buffer = files::list_room();
+    let mut buffer = files::room::<LIST_ROOM>();
     let n = io::read_full(STDIN_FILENO, &mut buffer);
     if n == 1048576 {
         let _ = rt.println("too long");

@@ -35,6 +35,7 @@ fn make_link(rt: &impl Files, to: &str, name: &str) {
     let _ = symlink(rt, to, name);
 }
 
+// The input's last line end begins no further line, as it would by the library's `split`.
 fn do_lines<R: Files + Print>(rt: &R, input: &[u8]) {
     let mut from: usize = 0;
     while from < input.len() {
@@ -48,14 +49,10 @@ fn line_end(input: &[u8], from: usize) -> usize
     requires { from < length input.now }
     ensures { (from ≤ result) × (result ≤ length input.now) }
 {
-    let mut i = from;
-    while i < input.len() {
-        if input[i] == b'\n' {
-            return i;
-        }
-        i += 1;
+    match input[from..].iter().position(|b| *b == b'\n') {
+        Some(length) => from + length,
+        None => input.len(),
     }
-    i
 }
 
 fn do_line<R: Files + Print>(rt: &R, line: &[u8]) {
@@ -76,9 +73,9 @@ fn do_line<R: Files + Print>(rt: &R, line: &[u8]) {
 // A file of 65,536 bytes at most.
 fn print(rt: &impl Files, path: &[u8]) {
     let mut text = io::large_buffer();
-    let got = files::read_whole(rt, path, &mut text, STDOUT_FILENO);
-    let n = got.count;
-    io::write_all(STDOUT_FILENO, &text[..n]);
+    if let Some(n) = files::read_whole(rt, path, &mut text, STDOUT_FILENO) {
+        io::write_all(STDOUT_FILENO, &text[..n]);
+    }
 }
 
 fn word_byte(b: u8) -> u8 {
@@ -89,17 +86,13 @@ fn word_byte(b: u8) -> u8 {
 fn put_words(line: &[u8], words: &mut [u8]) -> usize
     ensures { IsPrefixLen result words.new }
 {
-    if line.len() == 0 {
+    let n = line.len();
+    if n == 0 || words.len() <= n {
         return 0;
     }
-    if words.len() <= line.len() {
-        return 0;
-    }
-    let mut i = 0;
-    while i < line.len() {
+    for i in 0..n {
         words[i] = word_byte(line[i]);
-        i += 1;
     }
-    words[i] = 0;
-    i + 1
+    words[n] = 0;
+    n + 1
 }

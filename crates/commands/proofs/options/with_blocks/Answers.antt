@@ -4,10 +4,10 @@ use Rattle.texts.specs.Figures.{digits_in}
 use Rattle.commands.proofs.{Choosing.digits_known, Choosing.blocks_twice, Choosing.blocks_none, Choosing.blocks_are}
 use Rattle.commands.proofs.options.with_blocks.Goals as goal
 
-pub returns-then-not-options : goal.returns-then-not-options
-returns-then-not-options c =
+pub returns-then-is_some : goal.returns-then-is_some
+returns-then-is_some c =
     let a = c.args in
-    c.given_twice.ensures ∙ sym (blocks_twice a.options (digits_in a.number.now) c.if-not-options.true)
+    c.given_twice.ensures ∙ sym (blocks_twice a.options (digits_in a.number.now) (sym c.is_some.ensures ∙ c.if-is_some.true))
 
 pub returns-in_default : goal.returns-in_default
 returns-in_default c =
@@ -19,4 +19,4 @@ pub returns : goal.returns
 returns c =
     let a = c.args in
     sym
-    (blocks_are a.options (digits_known a.number.now c.digits_at.ensures c.in-Are.is) c.if-not-options.false)
+    (blocks_are a.options (digits_known a.number.now c.digits_at.ensures c.in-Are.is) (sym c.is_some.ensures ∙ c.if-is_some.false))

@@ -4,10 +4,10 @@ use Rattle.texts.specs.Figures.{digits_in}
 use Rattle.commands.proofs.{Choosing.digits_known, Choosing.room_twice, Choosing.room_none, Choosing.room_above, Choosing.room_is}
 use Rattle.commands.proofs.options.with_room.Goals as goal
 
-pub returns-then-not-options : goal.returns-then-not-options
-returns-then-not-options c =
+pub returns-then-is_some : goal.returns-then-is_some
+returns-then-is_some c =
     let a = c.args in
-    c.given_twice.ensures ∙ sym (room_twice a.options (digits_in a.number.now) c.if-not-options.true)
+    c.given_twice.ensures ∙ sym (room_twice a.options (digits_in a.number.now) (sym c.is_some.ensures ∙ c.if-is_some.true))
 
 pub returns-in_default : goal.returns-in_default
 returns-in_default c =
@@ -20,10 +20,10 @@ returns-then-n-gt1048576 c =
     let a = c.args in
     c.no_room-then-n-gt1048576.ensures
     ∙ sym
-    (room_above a.options (digits_known a.number.now c.digits_at.ensures c.in-Are.is) c.if-not-options.false c.if-n-gt1048576.true)
+    (room_above a.options (digits_known a.number.now c.digits_at.ensures c.in-Are.is) (sym c.is_some.ensures ∙ c.if-is_some.false) c.if-n-gt1048576.true)
 
 pub returns : goal.returns
 returns c =
     let a = c.args in
     sym
-    (room_is a.options (digits_known a.number.now c.digits_at.ensures c.in-Are.is) c.if-not-options.false c.if-n-gt1048576.false)
+    (room_is a.options (digits_known a.number.now c.digits_at.ensures c.in-Are.is) (sym c.is_some.ensures ∙ c.if-is_some.false) c.if-n-gt1048576.false)

@@ -1,9 +1,9 @@
 -- `shop::running::run` meets its contract: the options' room fits the list.
-use Rattle.terms.proofs.Common.{ap, arith}
-use Rattle.commands.{specs.declared.options.Options.Options, proofs.Choosing.room_fits}
+use Rattle.terms.proofs.Common.{ap, arith, sym, ◌∙◌}
+use Rattle.commands.proofs.Choosing.{room_in}
 use Rattle.shop.proofs.running.run.Goals as goal
 
 pub run_files-requires : goal.run_files-requires
 run_files-requires g c =
     let a = c.args in
-    omega (arith, ap (λ (x : Options). x.room) c.options_of-options.ensures, room_fits a.line.now a.count)
+    room_in a.line.now a.count c.options_of.ensures c.in-Some.is
