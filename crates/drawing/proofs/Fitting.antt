@@ -1,6 +1,6 @@
 -- The answer of a drawing, as the functions reach it. Assumes nothing.
 use Rattle.std.specs.Prelude.{if◌then◌else◌, Result, Ok, Err}
-use Rattle.terms.proofs.Common.{ℕ, ◌≤◌, ◌<◌, ◌≡◌, refl, sym, ap, ◌∙◌, Bool, true, false, List, [], ◌∷◌, arith, lt-ltb, le-ltb, ltb-true, ltb, length, sets}
+use Rattle.terms.proofs.Common.{ℕ, ◌≤◌, ◌<◌, ◌≡◌, refl, sym, ap, ◌∙◌, Bool, true, false, List, arith, lt-ltb, le-ltb, ltb-true, ltb, length, sets}
 use Rattle.setup.specs.{declared.Setup.Setup, Limits.valid_setup}
 use Rattle.records.specs.declared.{Fault.Fault, Listed.Listed, Listed.TheVariants.Next, Listed.TheVariants.End, Listed.TheVariants.Faulty as faulty}
 use Rattle.svg.{specs.Text.Fills, proofs.Filled.fills_length}
