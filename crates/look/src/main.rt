@@ -11,94 +11,80 @@ ghost use Rattle.lengths.specs.Units.{len};
 ghost use Rattle.settings.specs.Settings.{first_modes};
 ghost use Rattle.letters.specs.{Letters.code_under, Letters.has_centre, Judging.CentreSeen, Judging.Stored, Judging.judged_by};
 
-use files::{STDIN_FILENO, STDOUT_FILENO};
+use files::STDIN_FILENO;
 use lengths::{Len, Point};
 use letters::{Judged, Speeds};
-use programs::{Program, Programs};
+use programs::Programs;
 use reading::Reading;
 use refusals::{Place, Refusal};
 use settings::Modes;
+use std::io::{Print, Result};
 use words::{Given, Values};
 
-fn main() {
+fn main(rt: HostRuntime) {
     let mut buffer = files::room::<65536>();
     let n = io::read_full(STDIN_FILENO, &mut buffer);
     if n == 65536 {
-        io::write_all(STDOUT_FILENO, b"too long\n");
+        let _ = rt.println("too long");
         return;
     }
-    show_data(&buffer[..n]);
+    let _ = show_data(&rt, &buffer[..n]);
 }
 
 // Without the first `%` nothing else is looked at.
-fn show_data(s: &[u8]) {
+fn show_data(rt: &impl Print, s: &[u8]) -> Result<()> {
     if s.len() == 0 {
-        show_first_block();
-        return;
+        return show_first_block(rt);
     }
     if lines::is_percent(s, 0) {
-        show_openings(s);
-        show_blocks(s);
+        show_openings(rt, s)?;
+        show_blocks(rt, s)
     } else {
-        show_first_block();
+        show_first_block(rt)
     }
 }
 
-fn show_first_block() {
-    show_bad_opening(Refusal::FirstBlock, Place { block: 1, byte: 0 });
+fn show_first_block(rt: &impl Print) -> Result<()> {
+    show_bad_opening(rt, Refusal::FirstBlock, Place { block: 1, byte: 0 })
 }
 
-fn show_bad_opening(refusal: Refusal, place: Place) {
-    io::write_all(STDOUT_FILENO, b"openings refused");
-    show_count(refusals::number(refusal));
-    show_place(place);
+fn show_bad_opening(rt: &impl Print, refusal: Refusal, place: Place) -> Result<()> {
+    println!(rt; "openings refused {} {place}", refusals::number(refusal))
 }
 
-fn show_openings(s: &[u8])
+fn show_openings(rt: &impl Print, s: &[u8]) -> Result<()>
     requires { 0 < length s.now }
 {
     match programs::find_programs(s) {
-        Err(refused) => show_bad_opening(refused.refusal, refused.place),
-        Ok(found) => show_programs(found),
+        Err(refused) => show_bad_opening(rt, refused.refusal, refused.place),
+        Ok(found) => show_programs(rt, found),
     }
 }
 
 // The main program, and the subprograms that are in use.
-fn show_programs(t: Programs) {
-    io::write_all(STDOUT_FILENO, b"openings main");
-    show_start(t.main);
+fn show_programs(rt: &impl Print, t: Programs) -> Result<()> {
+    println!(rt; "openings main {} {}", t.main.block, t.main.byte)?;
     for p in t.subs.iter().take(t.count) {
-        io::write_all(STDOUT_FILENO, b"sub");
-        show_count(p.number);
-        show_start(*p);
+        println!(rt; "sub {} {} {}", p.number, p.block, p.byte)?;
     }
-}
-
-// The place where a program's blocks begin.
-fn show_start(p: Program) {
-    show_place(Place {
-        block: p.block,
-        byte: p.byte,
-    });
+    Ok(())
 }
 
 // The blocks after the first, up to the closing `%`. An opening is no block that is read.
-fn show_blocks(s: &[u8]) {
+fn show_blocks(rt: &impl Print, s: &[u8]) -> Result<()> {
     let mut at = lines::next_block(s, 0);
-    let mut number: usize = 2;
     let mut modes = first_modes();
-    while at < s.len() {
-        if lines::is_percent(s, at) {
-            return;
+    for number in 2..usize::MAX {
+        if s.len() <= at || lines::is_percent(s, at) {
+            break;
         }
         if s[at] != b'O' {
-            io::write_all(STDOUT_FILENO, b"block");
-            show_count(number as u64);
-            modes = show_block(s, at, modes);
+            print!(rt; "block {number}")?;
+            modes = show_block(rt, s, at, modes)?;
         }
         at = lines::next_block(s, at);
-        number += 1;
     }
+    Ok(())
 }
 
 fn first_modes() -> Modes
@@ -115,7 +101,7 @@ fn first_modes() -> Modes
 }
 
 // What a block comes to, and the modes that hold after it. A refused block leaves them as they were.
-fn show_block(s: &[u8], at: usize, modes: Modes) -> Modes
+fn show_block(rt: &impl Print, s: &[u8], at: usize, modes: Modes) -> Result<Modes>
     requires { at < length s.now }
 {
     let mut words = [0u64; 13];
@@ -123,12 +109,17 @@ fn show_block(s: &[u8], at: usize, modes: Modes) -> Modes
     let from = after_slash(s, at);
     match reading::read_words(s, from, true, modes, &mut words, &mut places) {
         Err(blame) => {
-            show_refused(blame.refusal, blame.byte);
-            modes
+            show_refused(rt, blame.refusal, blame.byte)?;
+            Ok(modes)
         }
         Ok(read) => {
             let seen = read.seen;
-            show_judged(judged(speeds(), read, &words, &places), modes, seen.modes)
+            show_judged(
+                rt,
+                judged(speeds(), read, &words, &places),
+                modes,
+                seen.modes,
+            )
         }
     }
 }
@@ -169,68 +160,47 @@ fn speeds() -> Speeds
 }
 
 // Answers with the modes that hold after the block.
-fn show_judged(verdict: Judged, before: Modes, after: Modes) -> Modes {
+fn show_judged(rt: &impl Print, verdict: Judged, before: Modes, after: Modes) -> Result<Modes> {
     match verdict {
         Judged::Unused(place) => {
-            show_refused(Refusal::AddressUndefined, place);
-            before
+            show_refused(rt, Refusal::AddressUndefined, place)?;
+            Ok(before)
         }
         Judged::Bad(place) => {
-            show_refused(Refusal::BadParameter, place);
-            before
+            show_refused(rt, Refusal::BadParameter, place)?;
+            Ok(before)
         }
         Judged::Fine(values) => {
-            show_values(values);
-            after
+            show_values(rt, values)?;
+            Ok(after)
         }
     }
 }
 
 // A block's refusal and its place, on the block's line.
-fn show_refused(refusal: Refusal, byte: usize) {
-    show_count(refusals::number(refusal));
-    show_count(byte as u64);
-    io::write_all(STDOUT_FILENO, b"\n");
+fn show_refused(rt: &impl Print, refusal: Refusal, byte: usize) -> Result<()> {
+    println!(rt; " {} {byte}", refusals::number(refusal))
 }
 
-fn show_values(v: Values) {
-    io::write_all(STDOUT_FILENO, b" words");
-    show_value(b" X=", v.x);
-    show_value(b" Y=", v.y);
-    show_value(b" Z=", v.z);
-    show_value(b" I=", v.i);
-    show_value(b" J=", v.j);
-    show_value(b" K=", v.k);
-    show_value(b" R=", v.r);
-    show_value(b" P=", v.p);
-    show_value(b" F=", v.f);
-    show_value(b" S=", v.s);
-    io::write_all(STDOUT_FILENO, b"\n");
+fn show_values(rt: &impl Print, v: Values) -> Result<()> {
+    rt.print(" words")?;
+    show_value(rt, "X", v.x)?;
+    show_value(rt, "Y", v.y)?;
+    show_value(rt, "Z", v.z)?;
+    show_value(rt, "I", v.i)?;
+    show_value(rt, "J", v.j)?;
+    show_value(rt, "K", v.k)?;
+    show_value(rt, "R", v.r)?;
+    show_value(rt, "P", v.p)?;
+    show_value(rt, "F", v.f)?;
+    show_value(rt, "S", v.s)?;
+    println!(rt)
 }
 
 // A letter whose word does not stand is left out.
-fn show_value(name: &[u8; 3], g: Given) {
-    if g.stands {
-        io::write_all(STDOUT_FILENO, name);
-        show_number(g.v);
+fn show_value(rt: &impl Print, letter: &str, g: Given) -> Result<()> {
+    if !g.stands {
+        return Ok(());
     }
-}
-
-fn show_number(n: Len) {
-    let zero = Len::zero();
-    if n.below(zero) {
-        io::write_all(STDOUT_FILENO, b"-");
-    }
-    io::print_decimal(STDOUT_FILENO, n.apart(zero));
-}
-
-fn show_count(n: u64) {
-    io::write_all(STDOUT_FILENO, b" ");
-    io::print_decimal(STDOUT_FILENO, n);
-}
-
-fn show_place(place: Place) {
-    show_count(place.block as u64);
-    show_count(place.byte as u64);
-    io::write_all(STDOUT_FILENO, b"\n");
+    print!(rt; " {letter}={}", g.v)
 }
