@@ -2,7 +2,7 @@
 use Rattle.std.specs.Prelude.{Ok, Err}
 use Rattle.terms.proofs.Common.{ℕ, zero, suc, ◌*◌, ◌^◌, ◌≤◌, ◌≡◌, refl, sym, ◌∙◌, ap, Bool, true, not, ◌&&◌, Option, None, Some, List, ◌++◌, append_assoc, arith, not-true, length, length-append}
 use Rattle.refusals.specs.declared.Refusal.TheVariants.{BadParameter, LeavesTravel}
-use Rattle.lengths.specs.{Units.fits_four, declared.Flat.Flat, declared.Point.Point, declared.Travel.Travel, Points.inside, Points.flat, Near.Near, Near.FlatNear}
+use Rattle.lengths.specs.{Units.fits_four, declared.Flat.Flat, declared.Point.Point, declared.Travel.Travel, Points.flat, Near.Near, Near.FlatNear}
 use Rattle.lengths.proofs.Near.{flat_near}
 use Rattle.words.specs.declared.Values.{Values}
 use Rattle.records.specs.{declared.Arc.Arc, declared.Record.Record, Path.path_of, Path.end_of, Path.arc_moved, Path.record_moved, Displacing.LooseArc, Displacing.Loose}

@@ -1,5 +1,5 @@
 -- The small tables of the order: which codes and motions a test is about. Assumes nothing.
-use Rattle.terms.proofs.Common.{ℕ, ◌≡◌, refl, Bool, true, false, ◌&&◌, ◌||◌, None, Some, [], ◌∷◌, eqb}
+use Rattle.terms.proofs.Common.{◌≡◌, refl, Bool, true, false, ◌&&◌, ◌||◌, None, Some, [], ◌∷◌}
 use denote.Enum.{Bare.sameb, Declared.tag_of}
 use types.Run.{OneOf, miss}
 use Rattle.lengths.specs.declared.Len.{Len}

@@ -2,7 +2,7 @@
 use Rattle.std.proofs.lemmas.Result.{err_from_is_err_and}
 use Rattle.terms.proofs.Common.{eqb}
 use Rattle.words.specs.{Packed.words_in}
-use Rattle.reading.specs.{Items.words_at, Whole.AllStand, Whole.Kept}
+use Rattle.reading.specs.{Items.words_at, Whole.AllStand}
 use Rattle.execution.proofs.{Found.Reads, Found.all_stand, Found.reading_refused, Found.block_read_as}
 use Rattle.execution.proofs.block_reading.read_block.Goals as goal
 

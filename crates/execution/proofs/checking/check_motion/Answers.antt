@@ -2,7 +2,7 @@
 use Rattle.std.specs.Prelude.{Err}
 use Rattle.std.specs.Result.{result_ok}
 use Rattle.std.proofs.lemmas.Result.{err_from_is_err_and}
-use Rattle.terms.proofs.Common.{ap, arith, ◌≡◌, sym, ◌∙◌, not-true, not-false, ℕ}
+use Rattle.terms.proofs.Common.{ap, arith, ◌≡◌, sym, ◌∙◌, not-false, ℕ}
 use Rattle.refusals.specs.declared.Refusal.TheVariants.{LeavesTravel}
 use Rattle.execution.proofs.Ready.{testable, block_loose, block_fits, block_leaves, block_comes, block_unsound, work_little}
 use Rattle.execution.proofs.checking.check_motion.Goals as goal
