@@ -13,24 +13,22 @@ use case_text::case_at;
 use files::{STDIN_FILENO, STDOUT_FILENO};
 use runs::Report;
 use setup::Setup;
-use texts::Digits;
 
 // A word as a count, and the place after it.
 #[derive(Clone, Copy)]
 pub struct Counted {
-    pub count: Digits,
+    pub count: Option<u64>,
     pub next: usize,
 }
 
-// A case's parts, the places where its data begin and end among them. They are of use only where the case stands.
+// A case's parts, the places where its data begin and end among them.
 #[derive(Clone, Copy)]
 pub struct Case {
     pub setup: Setup,
-    pub blocks: Digits,
+    pub blocks: Option<u64>,
     pub room: u64,
     pub from: usize,
     pub end: usize,
-    pub stands: bool,
 }
 
 fn main() {
@@ -47,11 +45,10 @@ fn main() {
 fn run_cases(input: &[u8], list: &mut [u8]) {
     let mut at: usize = 0;
     while at < input.len() {
-        let case = case_at(input, at, list.len());
-        if !case.stands {
+        let Some(case) = case_at(input, at, list.len()) else {
             io::write_all(STDOUT_FILENO, b"bad case\n");
             return;
-        }
+        };
         run_case(case, input, list);
         at = case.end + 1;
     }
@@ -70,11 +67,11 @@ fn run_case(case: Case, input: &[u8], list: &mut [u8])
     answers::show_run(list, answer);
 }
 
-fn report_to(setup: Setup, blocks: Digits, bytes: &[u8], list: &mut [u8]) -> Report
+fn report_to(setup: Setup, blocks: Option<u64>, bytes: &[u8], list: &mut [u8]) -> Report
     ensures { Owes setup bytes.now (budget_by blocks) list.old list.new result }
 {
     match blocks {
-        Digits::Are(n) => interpreter::run_blocks(setup, bytes, list, n),
-        Digits::Others => interpreter::run(setup, bytes, list),
+        Some(n) => interpreter::run_blocks(setup, bytes, list, n),
+        None => interpreter::run(setup, bytes, list),
     }
 }

@@ -1,8 +1,8 @@
 -- The options by the words of a command. Assumes nothing.
 use Rattle.std.specs.Prelude.{if◌then◌else◌}
-use Rattle.terms.proofs.Common.{ℕ, ◌+◌, ◌≤◌, ◌<◌, ◌≡◌, refl, sym, ap, ◌∙◌, Bool, true, false, not, ◌&&◌, List, arith, leb, ltb, length, take, length-take, slice, take-length, leb-true, le-leb, lt-leb, le-ltb, lt-ltb, not-true, not-false}
+use Rattle.terms.proofs.Common.{ℕ, ◌+◌, ◌≤◌, ◌<◌, ◌≡◌, refl, sym, ap, ◌∙◌, Bool, true, false, not, ◌&&◌, Option, None, Some, List, arith, leb, ltb, length, take, length-take, slice, take-length, leb-true, le-leb, lt-leb, le-ltb, lt-ltb, not-true, not-false}
 use Rattle.terms.specs.Terms.{bytes}
-use Rattle.texts.specs.{Texts.same_bytes, Figures.digits_in, declared.Digits.Digits, declared.Digits.TheVariants.Are, declared.Digits.TheVariants.Others}
+use Rattle.texts.specs.{Texts.same_bytes, Figures.digits_in}
 use Rattle.texts.proofs.Places.{same_lengths}
 use Rattle.commands.specs.{Words.word_of, declared.options.Options.Options}
 use Rattle.commands.specs.Options.{no_options, wrong_options, with_blocks, with_room, with_partial, with_option, with_next, with_no_more, is_listed, first_options, options_of}
@@ -29,14 +29,14 @@ first_fits true = record { most = omega arith; near = omega arith }
 first_fits false = record { most = omega arith; near = omega arith }
 
 module _ {k : ℕ} (o : Options) (h : Fits k o) where
-  blocks_fit : (d : Digits) → Fits (k + 2) (with_blocks o d)
+  blocks_fit : (d : Option ℕ) → Fits (k + 2) (with_blocks o d)
   unfolding with_blocks
-  blocks_fit (Are n) = either_fits o.whole (record { most = h.most; near = omega (arith, h.near) }) wrong_fits
-  blocks_fit Others = wrong_fits
+  blocks_fit (Some n) = either_fits o.whole (record { most = h.most; near = omega (arith, h.near) }) wrong_fits
+  blocks_fit None = wrong_fits
 
-  room_fit : (d : Digits) → Fits (k + 2) (with_room o d)
+  room_fit : (d : Option ℕ) → Fits (k + 2) (with_room o d)
   unfolding with_room
-  room_fit (Are n) = go o.roomy (leb n 1048576) refl
+  room_fit (Some n) = go o.roomy (leb n 1048576) refl
     where
       go :
           (given low : Bool) → leb n 1048576 ≡ low
@@ -46,7 +46,7 @@ module _ {k : ℕ} (o : Options) (h : Fits k o) where
       go true true e = record { most = leb-true n 1048576 e; near = omega (arith, h.near) }
       go true false e = wrong_fits
       go false low e = wrong_fits
-  room_fit Others = wrong_fits
+  room_fit None = wrong_fits
 
   partial_fit : Fits (k + 2) (with_partial o)
   unfolding with_partial
@@ -78,36 +78,36 @@ room_fits line count =
 -- ---- one option and its number
 
 -- the digits of all bytes of a word
-pub digits_known : (l : List ℕ) {d e : Digits} → d ≡ digits_in (slice 0 (length l) l) → d ≡ e → digits_in l ≡ e
+pub digits_known : (l : List ℕ) {d e : Option ℕ} → d ≡ digits_in (slice 0 (length l) l) → d ≡ e → digits_in l ≡ e
 digits_known l h g = sym (ap digits_in (take-length l)) ∙ sym h ∙ g
 
 -- where an option was given before, nothing is right; else its number decides
 module _ (o : Options) where
-  pub blocks_twice : (d : Digits) → not o.whole ≡ true → with_blocks o d ≡ wrong_options
+  pub blocks_twice : (d : Option ℕ) → not o.whole ≡ true → with_blocks o d ≡ wrong_options
   unfolding with_blocks
-  blocks_twice (Are n) e = rw (not-true o.whole e)
-  blocks_twice Others e = refl
+  blocks_twice (Some n) e = rw (not-true o.whole e)
+  blocks_twice None e = refl
 
-  pub blocks_none : {d : Digits} → d ≡ Others → with_blocks o d ≡ wrong_options
+  pub blocks_none : {d : Option ℕ} → d ≡ None → with_blocks o d ≡ wrong_options
   unfolding with_blocks
   blocks_none h = rw h
 
   pub blocks_are :
-      {d : Digits} {n : ℕ} → d ≡ Are n → not o.whole ≡ false
+      {d : Option ℕ} {n : ℕ} → d ≡ Some n → not o.whole ≡ false
       → with_blocks o d ≡ record { fine = true; listed = o.listed; whole = false; blocks = n; roomy = o.roomy; room = o.room; partial = o.partial; next = o.next + 2 }
   unfolding with_blocks
   blocks_are h e = rw (h, not-false o.whole e)
 
-  pub room_twice : (d : Digits) → not o.roomy ≡ true → with_room o d ≡ wrong_options
+  pub room_twice : (d : Option ℕ) → not o.roomy ≡ true → with_room o d ≡ wrong_options
   unfolding with_room
-  room_twice (Are n) e = rw (not-true o.roomy e)
-  room_twice Others e = refl
+  room_twice (Some n) e = rw (not-true o.roomy e)
+  room_twice None e = refl
 
-  pub room_none : {d : Digits} → d ≡ Others → with_room o d ≡ wrong_options
+  pub room_none : {d : Option ℕ} → d ≡ None → with_room o d ≡ wrong_options
   unfolding with_room
   room_none h = rw h
 
-  module _ {d : Digits} {n : ℕ} (h : d ≡ Are n) (e : not o.roomy ≡ false) where
+  module _ {d : Option ℕ} {n : ℕ} (h : d ≡ Some n) (e : not o.roomy ≡ false) where
     pub room_above : 1048576 < n → with_room o d ≡ wrong_options
     unfolding with_room
     room_above g = rw (h, not-false o.roomy e, lt-leb n 1048576 g)

@@ -2,9 +2,9 @@
 -- the first N blocks; R: at most R bytes of records, 1048576 where it is not given". Each option may be given once, in any
 -- order.
 use Rattle.std.specs.Prelude.{◌+◌, ◌&&◌, if◌then◌else◌}
-use Rattle.terms.specs.Common.{ℕ, Bool, true, false, not, List, leb, ltb, take}
+use Rattle.terms.specs.Common.{ℕ, Bool, true, false, not, Option, None, Some, List, leb, ltb, take}
 use Rattle.terms.specs.Terms.{bytes}
-use Rattle.texts.specs.{Texts.same_bytes, Figures.digits_in, declared.Digits.Digits, declared.Digits.TheVariants.Are, declared.Digits.TheVariants.Others}
+use Rattle.texts.specs.{Texts.same_bytes, Figures.digits_in}
 use Rattle.commands.specs.{Words.word_of, declared.options.Options.Options}
 
 -- where none is given: all blocks, the largest room, and nothing of a refused run; words from the number k on may be options
@@ -17,20 +17,20 @@ wrong_options =
     record { fine = false; listed = false; whole = true; blocks = 0; roomy = true; room = 0; partial = false; next = 0 }
 
 -- `--blocks N`, where it was not given before; N is a number of 1 to 19 digits
-unfoldable pub with_blocks : Options → Digits → Options
-with_blocks o (Are n) =
+unfoldable pub with_blocks : Options → Option ℕ → Options
+with_blocks o (Some n) =
     if o.whole
     then record { fine = true; listed = o.listed; whole = false; blocks = n; roomy = o.roomy; room = o.room; partial = o.partial; next = o.next + 2 }
     else wrong_options
-with_blocks o Others = wrong_options
+with_blocks o None = wrong_options
 
 -- `--room R`, where it was not given before
-unfoldable pub with_room : Options → Digits → Options
-with_room o (Are n) =
+unfoldable pub with_room : Options → Option ℕ → Options
+with_room o (Some n) =
     if o.roomy && leb n 1048576
     then record { fine = true; listed = o.listed; whole = o.whole; blocks = o.blocks; roomy = false; room = n; partial = o.partial; next = o.next + 2 }
     else wrong_options
-with_room o Others = wrong_options
+with_room o None = wrong_options
 
 -- `--partial`, where it was not given before
 unfoldable pub with_partial : Options → Options

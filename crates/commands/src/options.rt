@@ -6,7 +6,7 @@ ghost use Rattle.commands.specs.Words.{word_of};
 
 use crate::{is, word};
 use files::complain;
-use texts::{Digits, is_word};
+use texts::is_word;
 
 // All blocks are run where it is whole, and else the first so many. It is roomy where no room was given. The words from the
 // next one on are not read yet.
@@ -159,7 +159,7 @@ fn with_blocks(number: &[u8], options: Options, err: i32) -> Options
     if !options.whole {
         return given_twice(err, b"--blocks");
     }
-    let Digits::Are(n) = texts::digits_at(number, 0, number.len()) else {
+    let Some(n) = texts::digits_at(number, 0, number.len()) else {
         return wrong(
             err,
             b"--blocks",
@@ -185,7 +185,7 @@ fn with_room(number: &[u8], options: Options, err: i32) -> Options
     if !options.roomy {
         return given_twice(err, b"--room");
     }
-    let Digits::Are(n) = texts::digits_at(number, 0, number.len()) else {
+    let Some(n) = texts::digits_at(number, 0, number.len()) else {
         return no_room(err);
     };
     if 1048576 < n {

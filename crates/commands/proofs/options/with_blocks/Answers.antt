@@ -19,4 +19,4 @@ pub returns : goal.returns
 returns c =
     let a = c.args in
     sym
-    (blocks_are a.options (digits_known a.number.now c.digits_at.ensures c.in-Are.is) c.if-not-options.false)
+    (blocks_are a.options (digits_known a.number.now c.digits_at.ensures c.in-Some.is) c.if-not-options.false)
