@@ -7,12 +7,11 @@ use files::{LIST_ROOM, STDIN_FILENO};
 use refusals::Answer;
 use std::io::Print;
 use std::rt::Env;
-use texts::Digits;
 
 fn main(rt: HostRuntime) {
     let mut word = [0u8; 32];
     let n = rt.arg(1, &mut word).unwrap_or(0);
-    let Digits::Are(times) = texts::digits_at(&word[..n], 0, n) else {
+    let Some(times) = texts::digits_at(&word[..n], 0, n) else {
         let _ = eprintln!(rt; "bench: wants a number of runs");
         return;
     };
@@ -31,12 +30,10 @@ fn measure(rt: &impl Print, times: u64, bytes: &[u8]) {
 // Answers the records of the last run.
 fn run_times(times: u64, bytes: &[u8], list: &mut [u8]) -> usize {
     let mut records: usize = 0;
-    let mut left = times;
-    while 0 < left {
+    for _ in 0..times {
         let report = interpreter::run(setup::setup_t(), bytes, list);
         let answer = report.answer;
         records = refusals::count_of(answer);
-        left -= 1;
     }
     records
 }

@@ -1,8 +1,8 @@
 -- How many blocks a case runs.
-use Rattle.texts.specs.declared.Digits.{Digits, TheVariants.Are, TheVariants.Others}
+use Rattle.terms.specs.Common.{ℕ, Option, None, Some}
 use Rattle.runs.specs.declared.Budget.{Budget, TheVariants.Whole, TheVariants.First}
 
 -- so many, or all where the word is no count
-unfoldable pub budget_by : Digits → Budget
-budget_by (Are n) = First n
-budget_by Others = Whole
+unfoldable pub budget_by : Option ℕ → Budget
+budget_by (Some n) = First n
+budget_by None = Whole

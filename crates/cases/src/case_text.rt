@@ -7,7 +7,6 @@ ghost use Rattle.lines.specs.Blocks.{begins_with};
 ghost use Rattle.cases.specs.Cases.{count_at, size_of, case_at};
 
 use crate::{Case, Counted};
-use texts::Digits;
 
 // The next word of a text as a count.
 fn count_at(s: &[u8], at: usize) -> Counted
@@ -16,10 +15,7 @@ fn count_at(s: &[u8], at: usize) -> Counted
     let from = texts::next_word(s, at);
     let next = texts::word_end(s, from);
     if from == next {
-        return Counted {
-            count: Digits::Others,
-            next,
-        };
+        return Counted { count: None, next };
     }
     Counted {
         count: texts::digits_at(s, from, next),
@@ -28,13 +24,10 @@ fn count_at(s: &[u8], at: usize) -> Counted
 }
 
 // A word that is no count is more than any room or data has.
-fn size_of(count: Digits) -> u64
+fn size_of(count: Option<u64>) -> u64
     ensures { result ≡ size_of count }
 {
-    match count {
-        Digits::Are(n) => n,
-        Digits::Others => 18_446_744_073_709_551_615,
-    }
+    count.unwrap_or(u64::MAX)
 }
 
 // The place after so many bytes, or the input's end where there are fewer.
@@ -58,31 +51,31 @@ fn is_line_end(input: &[u8], at: usize) -> bool
     input[at] == b'\n'
 }
 
-// The case that begins at a place, where its records may have so much room at most.
-pub fn case_at(input: &[u8], at: usize, most: usize) -> Case
+// The case that begins at a place, where one does and its records are to have so much room at most.
+pub fn case_at(input: &[u8], at: usize, most: usize) -> Option<Case>
     requires { at ≤ length input.now }
     ensures { result ≡ case_at input.now at most }
 {
     let line = lines::next_block(input, at);
     let from = lines::next_block(input, line);
-    let read = setups::read_setup(&input[line..from]);
     let words = &input[at..line];
     let first = count_at(words, 0);
     let second = count_at(words, first.next);
     let third = count_at(words, second.next);
-    let blocks = first.count;
-    let room = second.count;
-    let length = third.count;
-    let room = size_of(room);
-    let end = end_after(input, from, size_of(length));
-    let setup = read.setup;
-    let wrong = read.wrong;
-    Case {
-        setup,
-        blocks,
-        room,
-        from,
-        end,
-        stands: texts::none_wrong(wrong) & (room <= most as u64) & is_line_end(input, end),
+    let room = size_of(second.count);
+    let end = end_after(input, from, size_of(third.count));
+    let Ok(setup) = setups::read_setup(&input[line..from]) else {
+        return None;
+    };
+    if (room <= most as u64) & is_line_end(input, end) {
+        Some(Case {
+            setup,
+            blocks: first.count,
+            room,
+            from,
+            end,
+        })
+    } else {
+        None
     }
 }

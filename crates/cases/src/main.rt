@@ -14,24 +14,22 @@ use files::{LIST_ROOM, STDIN_FILENO};
 use runs::Report;
 use setup::Setup;
 use std::io::Print;
-use texts::Digits;
 
 // A word as a count, and the place after it.
 #[derive(Clone, Copy)]
 pub struct Counted {
-    pub count: Digits,
+    pub count: Option<u64>,
     pub next: usize,
 }
 
-// A case's parts, the places where its data begin and end among them. They are of use only where the case stands.
+// A case's parts, the places where its data begin and end among them.
 #[derive(Clone, Copy)]
 pub struct Case {
     pub setup: Setup,
-    pub blocks: Digits,
+    pub blocks: Option<u64>,
     pub room: u64,
     pub from: usize,
     pub end: usize,
-    pub stands: bool,
 }
 
 fn main(rt: HostRuntime) {
@@ -48,11 +46,10 @@ fn main(rt: HostRuntime) {
 fn run_cases(rt: &impl Print, input: &[u8], list: &mut [u8]) {
     let mut at: usize = 0;
     while at < input.len() {
-        let case = case_at(input, at, list.len());
-        if !case.stands {
+        let Some(case) = case_at(input, at, list.len()) else {
             let _ = rt.println("bad case");
             return;
-        }
+        };
         run_case(rt, case, input, list);
         at = case.end + 1;
     }
@@ -71,11 +68,11 @@ fn run_case(rt: &impl Print, case: Case, input: &[u8], list: &mut [u8])
     let _ = answers::show_run(rt, list, answer);
 }
 
-fn report_to(setup: Setup, blocks: Digits, bytes: &[u8], list: &mut [u8]) -> Report
+fn report_to(setup: Setup, blocks: Option<u64>, bytes: &[u8], list: &mut [u8]) -> Report
     ensures { Owes setup bytes.now (budget_by blocks) list.old list.new result }
 {
     match blocks {
-        Digits::Are(n) => interpreter::run_blocks(setup, bytes, list, n),
-        Digits::Others => interpreter::run(setup, bytes, list),
+        Some(n) => interpreter::run_blocks(setup, bytes, list, n),
+        None => interpreter::run(setup, bytes, list),
     }
 }

@@ -2,7 +2,7 @@
 use Rattle.std.specs.Prelude.{if◌then◌else◌, is_some, option_and_then, IfSome}
 use Rattle.terms.proofs.Common.{ℕ, ◌+◌, ◌≤◌, ◌<◌, ◌≡◌, refl, sym, ap, ◌∙◌, Bool, true, false, not, ◌&&◌, Option, None, Some, List, arith, leb, ltb, length, take, length-take, slice, take-length, leb-true, le-leb, lt-leb, le-ltb, lt-ltb}
 use Rattle.terms.specs.Terms.{bytes}
-use Rattle.texts.specs.{Texts.same_bytes, Figures.digits_in, declared.Digits.Digits, declared.Digits.TheVariants.Are, declared.Digits.TheVariants.Others}
+use Rattle.texts.specs.{Texts.same_bytes, Figures.digits_in}
 use Rattle.texts.proofs.Places.{same_lengths}
 use Rattle.commands.specs.{Words.word_of, declared.options.Options.Options}
 use Rattle.commands.specs.Options.{no_options, room_of, with_blocks, with_room, with_partial, with_option, with_next, with_no_more, is_listed, first_options, options_of}
@@ -36,15 +36,15 @@ first_fits true = record { most = omega arith; near = omega arith }
 first_fits false = record { most = omega arith; near = omega arith }
 
 module _ {k : ℕ} (o : Options) (h : Fits k o) where
-  blocks_fit : (d : Digits) → Fit (k + 2) (with_blocks o d)
+  blocks_fit : (d : Option ℕ) → Fit (k + 2) (with_blocks o d)
   unfolding with_blocks
-  blocks_fit (Are n) =
+  blocks_fit (Some n) =
       either_fit (is_some o.blocks) no_fit (record { fits = record { most = h.most; near = omega (arith, h.near) } })
-  blocks_fit Others = no_fit
+  blocks_fit None = no_fit
 
-  room_fit : (d : Digits) → Fit (k + 2) (with_room o d)
+  room_fit : (d : Option ℕ) → Fit (k + 2) (with_room o d)
   unfolding with_room
-  room_fit (Are n) = go (not (is_some o.room)) (leb n 1048576) refl
+  room_fit (Some n) = go (not (is_some o.room)) (leb n 1048576) refl
     where
       go :
           (first low : Bool) → leb n 1048576 ≡ low
@@ -54,7 +54,7 @@ module _ {k : ℕ} (o : Options) (h : Fits k o) where
       go true true e = record { fits = record { most = leb-true n 1048576 e; near = omega (arith, h.near) } }
       go true false e = no_fit
       go false low e = no_fit
-  room_fit Others = no_fit
+  room_fit None = no_fit
 
   partial_fit : Fit (k + 2) (with_partial o)
   unfolding with_partial
@@ -103,36 +103,36 @@ room_in line count e h = rw (sym e ∙ h) at (room_fits line count)
 -- ---- one option and its number
 
 -- the digits of all bytes of a word
-pub digits_known : (l : List ℕ) {d e : Digits} → d ≡ digits_in (slice 0 (length l) l) → d ≡ e → digits_in l ≡ e
+pub digits_known : (l : List ℕ) {d e : Option ℕ} → d ≡ digits_in (slice 0 (length l) l) → d ≡ e → digits_in l ≡ e
 digits_known l h g = sym (ap digits_in (take-length l)) ∙ sym h ∙ g
 
 -- where an option was given before, nothing is right; else its number decides
 module _ (o : Options) where
-  pub blocks_twice : (d : Digits) → is_some o.blocks ≡ true → with_blocks o d ≡ None
+  pub blocks_twice : (d : Option ℕ) → is_some o.blocks ≡ true → with_blocks o d ≡ None
   unfolding with_blocks
-  blocks_twice (Are n) e = rw e
-  blocks_twice Others e = refl
+  blocks_twice (Some n) e = rw e
+  blocks_twice None e = refl
 
-  pub blocks_none : {d : Digits} → d ≡ Others → with_blocks o d ≡ None
+  pub blocks_none : {d : Option ℕ} → d ≡ None → with_blocks o d ≡ None
   unfolding with_blocks
   blocks_none h = rw h
 
   pub blocks_are :
-      {d : Digits} {n : ℕ} → d ≡ Are n → is_some o.blocks ≡ false
+      {d : Option ℕ} {n : ℕ} → d ≡ Some n → is_some o.blocks ≡ false
       → with_blocks o d ≡ Some (record { listed = o.listed; blocks = Some n; room = o.room; partial = o.partial; next = o.next + 2 })
   unfolding with_blocks
   blocks_are h e = rw (h, e)
 
-  pub room_twice : (d : Digits) → is_some o.room ≡ true → with_room o d ≡ None
+  pub room_twice : (d : Option ℕ) → is_some o.room ≡ true → with_room o d ≡ None
   unfolding with_room
-  room_twice (Are n) e = rw e
-  room_twice Others e = refl
+  room_twice (Some n) e = rw e
+  room_twice None e = refl
 
-  pub room_none : {d : Digits} → d ≡ Others → with_room o d ≡ None
+  pub room_none : {d : Option ℕ} → d ≡ None → with_room o d ≡ None
   unfolding with_room
   room_none h = rw h
 
-  module _ {d : Digits} {n : ℕ} (h : d ≡ Are n) (e : is_some o.room ≡ false) where
+  module _ {d : Option ℕ} {n : ℕ} (h : d ≡ Some n) (e : is_some o.room ≡ false) where
     pub room_above : 1048576 < n → with_room o d ≡ None
     unfolding with_room
     room_above g = rw (h, e, lt-leb n 1048576 g)

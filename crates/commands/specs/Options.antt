@@ -4,7 +4,7 @@
 use Rattle.std.specs.Prelude.{◌+◌, ◌&&◌, if◌then◌else◌, is_some, unwrap_or, option_and_then}
 use Rattle.terms.specs.Common.{ℕ, Bool, true, false, not, Option, None, Some, List, leb, ltb, take}
 use Rattle.terms.specs.Terms.{bytes}
-use Rattle.texts.specs.{Texts.same_bytes, Figures.digits_in, declared.Digits.Digits, declared.Digits.TheVariants.Are, declared.Digits.TheVariants.Others}
+use Rattle.texts.specs.{Texts.same_bytes, Figures.digits_in}
 use Rattle.commands.specs.{Words.word_of, declared.options.Options.Options}
 
 -- where none is given: all blocks, the largest room, and nothing of a refused run; words from the number k on may be options
@@ -16,19 +16,19 @@ abbrev pub room_of : Options → ℕ
 room_of o = unwrap_or o.room 1048576
 
 -- `--blocks N`, where it was not given before; N is a number of 1 to 19 digits
-unfoldable pub with_blocks : Options → Digits → Option Options
-with_blocks o (Are n) =
+unfoldable pub with_blocks : Options → Option ℕ → Option Options
+with_blocks o (Some n) =
     if is_some o.blocks then None
     else Some (record { listed = o.listed; blocks = Some n; room = o.room; partial = o.partial; next = o.next + 2 })
-with_blocks o Others = None
+with_blocks o None = None
 
 -- `--room R`, where it was not given before
-unfoldable pub with_room : Options → Digits → Option Options
-with_room o (Are n) =
+unfoldable pub with_room : Options → Option ℕ → Option Options
+with_room o (Some n) =
     if not (is_some o.room) && leb n 1048576
     then Some (record { listed = o.listed; blocks = o.blocks; room = Some n; partial = o.partial; next = o.next + 2 })
     else None
-with_room o Others = None
+with_room o None = None
 
 -- `--partial`, where it was not given before
 unfoldable pub with_partial : Options → Option Options

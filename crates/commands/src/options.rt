@@ -7,7 +7,7 @@ ghost use Rattle.commands.specs.Words.{word_of};
 
 use crate::{is, word};
 use files::{LIST_ROOM, complain};
-use texts::{Digits, is_word};
+use texts::is_word;
 
 // Whether a list is named, how many blocks are run where not all are, how many bytes the records may take where not as many as
 // a list has, and whether a refused run's are written. The words from the next one on are not read yet.
@@ -149,7 +149,7 @@ fn with_blocks(number: &[u8], options: Options, err: i32) -> Option<Options>
     if options.blocks.is_some() {
         return given_twice(err, b"--blocks");
     }
-    let Digits::Are(n) = texts::digits_at(number, 0, number.len()) else {
+    let Some(n) = texts::digits_at(number, 0, number.len()) else {
         return wrong(
             err,
             b"--blocks",
@@ -170,7 +170,7 @@ fn with_room(number: &[u8], options: Options, err: i32) -> Option<Options>
     if options.room.is_some() {
         return given_twice(err, b"--room");
     }
-    let Digits::Are(n) = texts::digits_at(number, 0, number.len()) else {
+    let Some(n) = texts::digits_at(number, 0, number.len()) else {
         return no_room(err);
     };
     if 1048576 < n {

@@ -1,95 +1,47 @@
 -- The first broken limit of lists one after the other, and of a setup that keeps them all. Assumes nothing.
-use Rattle.std.specs.Prelude.{if◌then◌else◌}
-use Rattle.terms.proofs.Common.{ℕ, suc, ◌+◌, ◌≤◌, ◌<◌, ◌≡◌, refl, sym, ap, ap₂, ◌∙◌, Bool, true, false, false≢true, ◌&&◌, List, [], ◌∷◌, ◌++◌, add-one, length, drop, get_or, drop_of_length-le, drop-cons, ℤ, le_z}
-use denote.Enum.Declared.{tag_of}
-use types.Run.{OneOf, miss}
+use Rattle.std.specs.Prelude.{if◌then◌else◌, is_some, MatchOption}
+use Rattle.std.specs.Option.{option_or}
+use Rattle.terms.proofs.Common.{ℕ, suc, ◌+◌, ◌≤◌, ◌<◌, ◌≡◌, refl, sym, ap, ap₂, ◌∙◌, Bool, true, false, not, ◌&&◌, Option, None, Some, List, [], ◌∷◌, ◌++◌, add-one, length, drop, get_or, drop_of_length-le, drop-cons, ℤ, le_z}
 use Rattle.terms.{specs.Terms.all, specs.Terms.between, specs.Terms.within, proofs.Laws.both_left, proofs.Laws.both_right}
 use Rattle.lengths.specs.declared.Point.{Point}
 use Rattle.setup.specs.{declared.Axes.Axes, declared.Setup.Setup, Frame.point_of}
 use Rattle.setup.specs.declared.{Axis.Axis, Axis.TheVariants.X, Axis.TheVariants.Y, Axis.TheVariants.Z, Offset.Offset, Offset.TheVariants.Common, Offset.TheVariants.Origin, Fault.Fault}
 use Rattle.setup.specs.Limits.{axis_fits, travel_limit, travel_fits, offset_limit, axes_within, offsets_fit, feed_fits, range_fits, speed_fits, speeds_fit, switch_fits, valid_setup}
-use Rattle.setup.specs.declared.Fault.TheVariants.{None, TravelOrder, TravelFar, StartOutside, OffsetFar, Feed, Speeds, Speed, Switch}
 use Rattle.setup.specs.Faults.{Limit, first_broken, axis_limits, travel_limits, place_limits, origin_limits, number_limits, limits, fault_of}
-use Rattle.setup.specs.contracts.Fault.{the_type}
-
--- ---- faults that name a limit
-
-abbrev speaks : Fault → Bool
-speaks None = false
-speaks (TravelOrder axis) = true
-speaks (TravelFar axis) = true
-speaks (StartOutside axis) = true
-speaks (OffsetFar offset axis) = true
-speaks Feed = true
-speaks Speeds = true
-speaks Speed = true
-speaks Switch = true
-
-told : (f : Fault) → OneOf (1 ∷ 2 ∷ 3 ∷ 4 ∷ 5 ∷ 6 ∷ 7 ∷ 8 ∷ []) (tag_of the_type f) → speaks f ≡ true
-told None h = absurd (miss (1 ∷ 2 ∷ 3 ∷ 4 ∷ 5 ∷ 6 ∷ 7 ∷ 8 ∷ []) 0 tt h)
-told (TravelOrder axis) h = refl
-told (TravelFar axis) h = refl
-told (StartOutside axis) h = refl
-told (OffsetFar offset axis) h = refl
-told Feed h = refl
-told Speeds h = refl
-told Speed h = refl
-told Switch h = refl
-
-silent : (f : Fault) → f ≡ None → speaks f ≡ true → ⊥
-silent f e s = false≢true (sym (ap speaks e) ∙ s)
 
 -- ---- lists of limits
 
 abbrev kept : List Limit → Bool
 kept ls = all (λ l. l.kept) ls
 
--- each limit names a fault
-abbrev pub named : List Limit → Bool
-named ls = all (λ l. speaks l.fault) ls
-
-all_kept : (ls : List Limit) → kept ls ≡ true → first_broken ls ≡ None
+-- the limits are all kept exactly where none is broken
+kept_is : (ls : List Limit) → kept ls ≡ not (is_some (first_broken ls))
 unfolding first_broken all
-all_kept [] e = refl
-all_kept (l ∷ ls) e = rw (both_left l.kept (kept ls) e) (all_kept ls (both_right l.kept (kept ls) e))
-
-none_broken : (ls : List Limit) → named ls ≡ true → first_broken ls ≡ None → kept ls ≡ true
-unfolding first_broken all
-none_broken [] n e = refl
-none_broken (l ∷ ls) n e =
-    go l.kept (both_left (speaks l.fault) (named ls) n) (none_broken ls (both_right (speaks l.fault) (named ls) n)) e
+kept_is [] = refl
+kept_is (l ∷ ls) = go l.kept (kept_is ls)
   where
-    go :
-        (t : Bool) → speaks l.fault ≡ true → (first_broken ls ≡ None → kept ls ≡ true)
-        → (if t then first_broken ls else l.fault) ≡ None → (t && kept ls) ≡ true
-    go true s rest f = rest f
-    go false s rest f = absurd (silent l.fault f s)
+    go : (t : Bool) → kept ls ≡ not (is_some (first_broken ls)) → (t && kept ls) ≡ not (is_some (if t then first_broken ls else Some l.fault))
+    go true e = e
+    go false e = refl
 
--- what comes after decides where all before it is kept
-after_kept : (ls ms : List Limit) → kept ls ≡ true → first_broken (ls ++ ms) ≡ first_broken ms
-unfolding first_broken all
-after_kept [] ms e = refl
-after_kept (l ∷ ls) ms e = rw (both_left l.kept (kept ls) e) (after_kept ls ms (both_right l.kept (kept ls) e))
-
-first_here : (ls ms : List Limit) → speaks (first_broken ls) ≡ true → first_broken (ls ++ ms) ≡ first_broken ls
+-- what the first limits break, or else what those after them break
+broken_append : (ls ms : List Limit) → first_broken (ls ++ ms) ≡ option_or (first_broken ls) (first_broken ms)
 unfolding first_broken
-first_here [] ms s = absurd (false≢true s)
-first_here (l ∷ ls) ms s = go l.kept (first_here ls ms) s
+broken_append [] ms = refl
+broken_append (l ∷ ls) ms = go l.kept (broken_append ls ms)
   where
     go :
-        (t : Bool) → (speaks (first_broken ls) ≡ true → first_broken (ls ++ ms) ≡ first_broken ls)
-        → speaks (if t then first_broken ls else l.fault) ≡ true
-        → (if t then first_broken (ls ++ ms) else l.fault) ≡ (if t then first_broken ls else l.fault)
-    go true rest h = rest h
-    go false rest h = refl
+        (t : Bool) → first_broken (ls ++ ms) ≡ option_or (first_broken ls) (first_broken ms)
+        → (if t then first_broken (ls ++ ms) else Some l.fault) ≡ option_or (if t then first_broken ls else Some l.fault) (first_broken ms)
+    go true e = e
+    go false e = refl
 
--- a fault that a test of the first limits found, or found not
-module _ (r : Fault) (ls ms : List Limit) (e : r ≡ first_broken ls) where
-  pub stops : OneOf (1 ∷ 2 ∷ 3 ∷ 4 ∷ 5 ∷ 6 ∷ 7 ∷ 8 ∷ []) (tag_of the_type r) → r ≡ first_broken (ls ++ ms)
-  stops h = e ∙ sym (first_here ls ms (sym (ap speaks e) ∙ told r h))
-
-  pub passes : named ls ≡ true → r ≡ None → first_broken (ls ++ ms) ≡ first_broken ms
-  passes n z = after_kept ls ms (none_broken ls n (sym e ∙ z))
+-- a fault that a test of the first limits found, or else what the test of the rest found
+pub or_next :
+    (o r : Option Fault) (ls ms : List Limit) {P : Type 0} → o ≡ first_broken ls → MatchOption o P (λ f. r ≡ Some f)
+    → (P → r ≡ first_broken ms) → r ≡ first_broken (ls ++ ms)
+or_next None r ls ms e h k = k h ∙ sym (broken_append ls ms ∙ rw (← e))
+or_next (Some f) r ls ms e h k = h ∙ sym (broken_append ls ms ∙ rw (← e))
 
 and_assoc : (a b c : Bool) → (a && (b && c)) ≡ (a && b && c)
 and_assoc true b c = refl
@@ -99,39 +51,6 @@ kept_append : (ls ms : List Limit) → kept (ls ++ ms) ≡ (kept ls && kept ms)
 unfolding all
 kept_append [] ms = refl
 kept_append (l ∷ ls) ms = ap (l.kept &&◌) (kept_append ls ms) ∙ and_assoc l.kept (kept ls) (kept ms)
-
-named_append : (ls ms : List Limit) → named ls ≡ true → named ms ≡ true → named (ls ++ ms) ≡ true
-unfolding all
-named_append [] ms e f = f
-named_append (l ∷ ls) ms e f =
-    rw (both_left (speaks l.fault) (named ls) e) (named_append ls ms (both_right (speaks l.fault) (named ls) e) f)
-
--- ---- the limits of a setup
-
-pub axis_named : (axis : Axis) (low high start : ℤ) → named (axis_limits axis low high start) ≡ true
-unfolding axis_limits all
-axis_named axis low high start = refl
-
-pub travel_named : (low high start : Point) → named (travel_limits low high start) ≡ true
-unfolding travel_limits axis_limits all
-travel_named low high start = refl
-
-pub place_named : (offset : Offset) (p : Point) → named (place_limits offset p) ≡ true
-unfolding place_limits all
-place_named offset p = refl
-
-pub origins_named : (k : ℕ) (l : List Axes) → named (origin_limits k l) ≡ true
-unfolding origin_limits place_limits all
-origins_named k [] = refl
-origins_named k (a ∷ l) = origins_named (suc k) l
-
-numbers_named : (s : Setup) → named (number_limits s) ≡ true
-unfolding number_limits all
-numbers_named s = refl
-
-limits_named : (s : Setup) → named (limits s) ≡ true
-unfolding limits travel_limits axis_limits place_limits all
-limits_named s = named_append (origin_limits 0 s.origins) (number_limits s) (origins_named 0 s.origins) (numbers_named s)
 
 -- ---- the origins from a place on
 
@@ -147,60 +66,19 @@ module _ (l : List Axes) (i : ℕ) (d : Axes) where
   unfolding origin_limits first_broken
   origins_end h = rw (drop_of_length-le l h)
 
-  -- a fault that the test of the one there found, or found not
-  module _ (r : Fault) (p : Point) (h : i < length l) (at : p ≡ point_of (get_or l i d)) (e : r ≡ first_broken (place_limits (Origin i) p)) where
-    here : r ≡ first_broken (place_limits (Origin i) (point_of (get_or l i d)))
-    here = e ∙ ap (λ (q : Point). first_broken (place_limits (Origin i) q)) at
+  -- what the test of the one there found, or that it found nothing
+  module _ (r : Option Fault) (p : Point) (h : i < length l) (at : p ≡ point_of (get_or l i d)) (e : r ≡ first_broken (place_limits (Origin i) p)) where
+    here : first_broken (origin_limits i (drop i l)) ≡ option_or r (first_broken (origin_limits (i + 1) (drop (i + 1) l)))
+    here =
+        ap first_broken (one_more h)
+        ∙ broken_append (place_limits (Origin i) (point_of (get_or l i d))) (origin_limits (i + 1) (drop (i + 1) l))
+        ∙ rw (e, at)
 
-    pub origin_stops : OneOf (1 ∷ 2 ∷ 3 ∷ 4 ∷ 5 ∷ 6 ∷ 7 ∷ 8 ∷ []) (tag_of the_type r) → r ≡ first_broken (origin_limits i (drop i l))
-    origin_stops t =
-        stops r (place_limits (Origin i) (point_of (get_or l i d))) (origin_limits (i + 1) (drop (i + 1) l)) here t
-        ∙ sym (ap first_broken (one_more h))
+    pub origin_stops : (f : Fault) → r ≡ Some f → first_broken (origin_limits i (drop i l)) ≡ Some f
+    origin_stops f z = here ∙ rw z
 
     pub origin_passes : r ≡ None → first_broken (origin_limits i (drop i l)) ≡ first_broken (origin_limits (i + 1) (drop (i + 1) l))
-    origin_passes z =
-        ap first_broken (one_more h)
-        ∙ passes r (place_limits (Origin i) (point_of (get_or l i d))) (origin_limits (i + 1) (drop (i + 1) l)) here
-        (place_named (Origin i) (point_of (get_or l i d))) z
-
--- ---- the parts of a setup's limits, one after the other
-
-module _ (s : Setup) where
-  abbrev travel : List Limit
-  travel = travel_limits (point_of s.low) (point_of s.high) (point_of s.start)
-
-  abbrev others : List Limit
-  others = origin_limits 0 s.origins ++ number_limits s
-
-  module _
-      (r : Fault) (low high start : Point)
-      (l : low ≡ point_of s.low) (h : high ≡ point_of s.high) (b : start ≡ point_of s.start)
-      (e : r ≡ first_broken (travel_limits low high start)) where
-    moved_travel : r ≡ first_broken travel
-    moved_travel = e ∙ rw (l, h, b)
-
-    pub travel_stops : OneOf (1 ∷ 2 ∷ 3 ∷ 4 ∷ 5 ∷ 6 ∷ 7 ∷ 8 ∷ []) (tag_of the_type r) → r ≡ fault_of s
-    unfolding fault_of limits
-    travel_stops t = stops r travel (place_limits Common (point_of s.exofs) ++ others) moved_travel t
-
-    pub travel_passes : r ≡ None → fault_of s ≡ first_broken (place_limits Common (point_of s.exofs) ++ others)
-    unfolding fault_of limits
-    travel_passes z =
-        passes r travel (place_limits Common (point_of s.exofs) ++ others) moved_travel
-        (travel_named (point_of s.low) (point_of s.high) (point_of s.start)) z
-
-  module _ (r : Fault) (p : Point) (at : p ≡ point_of s.exofs) (e : r ≡ first_broken (place_limits Common p)) where
-    common : r ≡ first_broken (place_limits Common (point_of s.exofs))
-    common = e ∙ ap (λ (q : Point). first_broken (place_limits Common q)) at
-
-    pub common_stops :
-        OneOf (1 ∷ 2 ∷ 3 ∷ 4 ∷ 5 ∷ 6 ∷ 7 ∷ 8 ∷ []) (tag_of the_type r)
-        → r ≡ first_broken (place_limits Common (point_of s.exofs) ++ others)
-    common_stops t = stops r (place_limits Common (point_of s.exofs)) others common t
-
-    pub common_passes : r ≡ None → first_broken (place_limits Common (point_of s.exofs) ++ others) ≡ first_broken others
-    common_passes z =
-        passes r (place_limits Common (point_of s.exofs)) others common (place_named Common (point_of s.exofs)) z
+    origin_passes z = here ∙ rw z
 
 -- ---- a setup's limits are kept exactly where it is valid
 
@@ -271,19 +149,17 @@ limits_kept s =
     regroup true false c d = refl
     regroup true true c d = refl
 
--- no fault is found exactly where a run would not refuse the setup
-pub fault_none : (s : Setup) → fault_of s ≡ None → valid_setup s ≡ true
+-- a setup is valid exactly where it breaks no limit
+pub valid_is : (s : Setup) → valid_setup s ≡ not (is_some (fault_of s))
 unfolding fault_of
-fault_none s e = sym (limits_kept s) ∙ none_broken (limits s) (limits_named s) e
+valid_is s = sym (limits_kept s) ∙ kept_is (limits s)
+
+pub fault_none : (s : Setup) → fault_of s ≡ None → valid_setup s ≡ true
+fault_none s e = valid_is s ∙ rw e
 
 pub none_fault : (s : Setup) → valid_setup s ≡ true → fault_of s ≡ None
-unfolding fault_of
-none_fault s e = all_kept (limits s) (limits_kept s ∙ e)
-
-pub fault_some :
-    (s : Setup) (r : Fault) → r ≡ fault_of s → OneOf (1 ∷ 2 ∷ 3 ∷ 4 ∷ 5 ∷ 6 ∷ 7 ∷ 8 ∷ []) (tag_of the_type r) → valid_setup s ≡ false
-fault_some s r e h = by (valid_setup s) refl
+none_fault s e = go (fault_of s) (sym (valid_is s) ∙ e)
   where
-    by : (t : Bool) → valid_setup s ≡ t → t ≡ false
-    by true f = absurd (silent r (e ∙ none_fault s f) (told r h))
-    by false f = refl
+    go : (o : Option Fault) → not (is_some o) ≡ true → o ≡ None
+    go None f = refl
+    go (Some fault) f = cc

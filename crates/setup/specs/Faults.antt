@@ -1,12 +1,12 @@
 -- Which limit of document 01, "Lengths and the setup", a setup breaks first.
 use Rattle.std.specs.Prelude.{◌∷◌, ◌++◌, if◌then◌else◌}
-use Rattle.terms.specs.Common.{ℕ, suc, Bool, List, [], ℤ, le_z}
+use Rattle.terms.specs.Common.{ℕ, suc, Bool, Option, None, Some, List, [], ℤ, le_z}
 use Rattle.terms.specs.Terms.{between, within}
 use Rattle.lengths.specs.declared.Point.{Point}
 use Rattle.setup.specs.{declared.Axes.Axes, declared.Setup.Setup, Frame.point_of}
 use Rattle.setup.specs.declared.{Axis.Axis, Axis.TheVariants.X, Axis.TheVariants.Y, Axis.TheVariants.Z, Offset.Offset, Offset.TheVariants.Common, Offset.TheVariants.Origin, Fault.Fault}
 use Rattle.setup.specs.Limits.{travel_limit, offset_limit, feed_fits, range_fits, speed_fits, switch_fits}
-use Rattle.setup.specs.declared.Fault.TheVariants.{None, TravelOrder, TravelFar, StartOutside, OffsetFar, Feed, Speeds, Speed, Switch}
+use Rattle.setup.specs.declared.Fault.TheVariants.{TravelOrder, TravelFar, StartOutside, OffsetFar, Feed, Speeds, Speed, Switch}
 
 -- a limit: whether it is kept, and what is said where it is not
 pub record Limit : Type 0 where
@@ -16,9 +16,9 @@ pub record Limit : Type 0 where
 abbrev limit : Bool → Fault → Limit
 limit kept fault = record { kept = kept; fault = fault }
 
-unfoldable pub first_broken : List Limit → Fault
+unfoldable pub first_broken : List Limit → Option Fault
 first_broken [] = None
-first_broken (l ∷ ls) = if l.kept then first_broken ls else l.fault
+first_broken (l ∷ ls) = if l.kept then first_broken ls else Some l.fault
 
 -- of one axis of the travel
 unfoldable pub axis_limits : Axis → ℤ → ℤ → ℤ → List Limit
@@ -55,5 +55,5 @@ limits s =
     travel_limits (point_of s.low) (point_of s.high) (point_of s.start)
     ++ (place_limits Common (point_of s.exofs) ++ (origin_limits 0 s.origins ++ number_limits s))
 
-unfoldable pub fault_of : Setup → Fault
+unfoldable pub fault_of : Setup → Option Fault
 fault_of s = first_broken (limits s)

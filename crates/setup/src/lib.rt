@@ -66,10 +66,9 @@ pub enum Offset {
     Origin(usize),
 }
 
-// The limit that is broken, and on which axis; or none.
+// The limit that is broken, and on which axis.
 #[derive(Clone, Copy)]
 pub enum Fault {
-    None,
     TravelOrder(Axis),
     TravelFar(Axis),
     StartOutside(Axis),
@@ -103,7 +102,8 @@ pub fn is_between(low: Len, high: Len, v: Len) -> bool
     low.at_most(v) & v.at_most(high)
 }
 
-// The five numbers that belong to no axis, as lengths.
+// The five numbers that belong to no axis, as lengths. A function for each, since they differ in a field's name alone, and no
+// function takes one.
 pub fn feed_of(s: Setup) -> Len
     ensures { result ≡ len s.feed }
 {
@@ -166,10 +166,7 @@ pub fn switch_fits(s: Setup) -> bool
 pub fn is_valid(s: Setup) -> bool
     ensures { result ≡ valid_setup s }
 {
-    let Fault::None = fault_of(s) else {
-        return false;
-    };
-    true
+    fault_of(s).is_none()
 }
 
 pub fn skips(s: Setup) -> bool
@@ -200,14 +197,7 @@ fn travel_of(s: Setup) -> Travel
 fn origins_of(origins: [Axes; 6]) -> [Point; 6]
     ensures { result ≡ map point_of origins }
 {
-    let mut points = [point_of(origins[0]); 6];
-    let mut place = 0;
-    while place < 6 {
-        let origin = origins[place];
-        points[place] = point_of(origin);
-        place += 1;
-    }
-    points
+    origins.map(point_of)
 }
 
 // The machine's bed: the lengths of a valid setup in the frame of the common offset.

@@ -1,16 +1,16 @@
 -- How a setup file is read, number by number. Assumes nothing.
-use Rattle.std.specs.Prelude.{if◌then◌else◌}
-use Rattle.terms.proofs.Common.{ℕ, zero, suc, ◌+◌, ◌-◌, ◌≤◌, ◌<◌, ◌≡◌, refl, sym, ap, ◌∙◌, Bool, true, false, ◌||◌, List, [], ◌∷◌, ◌++◌, append_assoc, append-nil, arith, add-one, leb, ltb, length, take, drop, get_or, set, length-set, drop_of_length-le, List·getD-map, slice, drop-cons, take_all, take-suc-set, le-leb, lt-leb, leb-true, ltb-true, ne_eqb}
+use Rattle.std.specs.Prelude.{Result, Ok, Err, if◌then◌else◌}
+use Rattle.terms.proofs.Common.{ℕ, zero, suc, ◌+◌, ◌-◌, ◌≤◌, ◌<◌, ◌≡◌, refl, sym, ap, ◌∙◌, Bool, true, false, ◌||◌, Option, None, Some, List, [], ◌∷◌, ◌++◌, append_assoc, append-nil, arith, add-one, leb, ltb, length, take, drop, get_or, set, length-set, drop_of_length-le, List·getD-map, slice, drop-cons, take_all, take-suc-set, le-leb, lt-leb, leb-true, ltb-true, ne_eqb}
 use Rattle.terms.{specs.Terms.bytes, specs.Terms.from_to, proofs.Laws.both_left, proofs.Laws.every_place_lem}
 use Rattle.lengths.specs.declared.Len.{Len}
 use Rattle.lines.proofs.Lines.{at_place}
 use Rattle.setup.specs.declared.Setup.{Setup}
 use Rattle.words.specs.Numbers.{run, sign_of, sign_length}
-use Rattle.texts.specs.{Texts.next, Texts.in_word, Texts.word_at, Texts.same_bytes, Texts.is_lettered, Figures.digits_in, Figures.worth_by, Figures.worth_of, declared.Wrong.Wrong, declared.Worth.Worth}
-use Rattle.texts.{specs.declared.Worth.TheVariants.Fit, specs.declared.Worth.TheVariants.Unfit, proofs.Places.standing, proofs.Places.nothing_there, proofs.Places.same_lengths}
-use Rattle.texts.specs.declared.Wrong.TheVariants.{Nothing, OtherName, TooFew, TooMuch}
-use Rattle.setups.specs.declared.{Passed.Passed, Passed.TheVariants.To, Passed.TheVariants.Not, Entry.TheVariants.Is, Entry.TheVariants.Bad}
-use Rattle.setups.specs.Setups.{names, name_of, plan, is_named, wrong_in, name_at, placed, number_at, number_by, entry_at, Numbers, these, faulty, prepend, entry_then, ended, numbers_from, setup_of, refused, answered, setup_in}
+use Rattle.texts.specs.{Texts.next, Texts.in_word, Texts.word_at, Texts.same_bytes, Texts.is_lettered, Figures.digits_in, Figures.worth_by, Figures.worth_of, declared.Wrong.Wrong}
+use Rattle.texts.proofs.Places.{standing, nothing_there, same_lengths}
+use Rattle.texts.specs.declared.Wrong.TheVariants.{OtherName, TooFew, TooMuch}
+use Rattle.setups.specs.declared.{Entry.Entry, Misread.Misread}
+use Rattle.setups.specs.Setups.{names, name_of, plan, is_named, misread, wrong_in, name_at, placed, number_at, number_by, entry_at, Numbers, prepend, entry_then, ended, numbers_from, setup_of, answered, setup_in}
 
 -- ---- the first word
 
@@ -53,8 +53,8 @@ name_next :
     (text : List ℕ) (at : ℕ) (name : List ℕ) → 0 < length name
     → name_at name text at
     ≡ (if same_bytes (word_at text (next text at)) name
-    then To (next text at + length (word_at text (next text at)))
-    else Not (wrong_in OtherName (word_at text (next text at))) (next text at))
+    then Ok (next text at + length (word_at text (next text at)))
+    else Err (misread (wrong_in OtherName (word_at text (next text at))) (next text at)))
 unfolding name_at
 name_next text at [] k = absurd (omega arith)
 name_next text at (c ∷ cs) k = refl
@@ -64,47 +64,49 @@ module _ (text : List ℕ) (at from end : ℕ) (e : from ≡ next text at) (f : 
   unfolding number_at
   number_here = rw e
 
-  pub number_missing : from ≡ end → Bad TooFew from ≡ number_at text at
+  pub number_missing : from ≡ end → Err (misread TooFew from) ≡ number_at text at
   unfolding placed worth_of worth_by digits_in sign_of sign_length wrong_in
   number_missing h = sym (number_here ∙ rw (nothing_there text from end f h))
 
   module _ (h : from ≡ end → ⊥) where
-    word_worth : (r : Worth) → worth_of (slice from end text) ≡ r → number_at text at ≡ placed from (word_at text from) r
+    word_worth : (r : Result Len Wrong) → worth_of (slice from end text) ≡ r → number_at text at ≡ placed from (word_at text from) r
     word_worth r g = number_here ∙ ap (placed from (word_at text from)) (ap worth_of (sym (standing text from end f h).is) ∙ g)
 
-    pub number_fits : (z : Len) → worth_of (slice from end text) ≡ Fit z → Is z end ≡ number_at text at
+    pub number_fits : (z : Len) → worth_of (slice from end text) ≡ Ok z → Ok (record { value = z; after = end }) ≡ number_at text at
     unfolding placed
-    number_fits z g = sym (word_worth (Fit z) g ∙ ap (Is z) (sym f))
+    number_fits z g = sym (word_worth (Ok z) g ∙ rw f)
 
-    pub number_unfit : (wrong : Wrong) → worth_of (slice from end text) ≡ Unfit wrong → Bad wrong from ≡ number_at text at
+    pub number_unfit : (wrong : Wrong) → worth_of (slice from end text) ≡ Err wrong → Err (misread wrong from) ≡ number_at text at
     unfolding placed
     number_unfit wrong g =
         let word = standing text from end f h in
-        sym (word_worth (Unfit wrong) g ∙ ap (λ (w : Wrong). Bad w from) (fault_some wrong (word_at text from) (omega (arith, word.some, word.count))))
+        let wrong_there : wrong_in wrong (word_at text from) ≡ wrong = fault_some wrong (word_at text from) (omega (arith, word.some, word.count)) in
+        sym (word_worth (Err wrong) g ∙ rw wrong_there)
 
   module _ (name : List ℕ) (some : 0 < length name) where
     name_here :
         name_at name text at
-        ≡ (if same_bytes (word_at text from) name then To (from + length (word_at text from)) else Not (wrong_in OtherName (word_at text from)) from)
+        ≡ (if same_bytes (word_at text from) name then Ok (from + length (word_at text from)) else Err (misread (wrong_in OtherName (word_at text from)) from))
     name_here = rw e (name_next text at name some)
 
-    pub name_missing : from ≡ end → Not TooFew from ≡ name_at name text at
+    pub name_missing : from ≡ end → Err (misread TooFew from) ≡ name_at name text at
     unfolding wrong_in
     name_missing h =
         let other : same_bytes [] name ≡ false = same_lengths [] name (λ g. omega arith) in
         sym (name_here ∙ rw (nothing_there text from end f h) (rw other))
 
     module _ (h : from ≡ end → ⊥) where
-      pub name_passed : same_bytes (slice from end text) name ≡ true → To end ≡ name_at name text at
+      pub name_passed : same_bytes (slice from end text) name ≡ true → Ok end ≡ name_at name text at
       name_passed g =
           let same : same_bytes (word_at text from) name ≡ true = rw (standing text from end f h).is at g in
-          sym (name_here ∙ rw same (ap To (sym f)))
+          sym (name_here ∙ rw same (rw f))
 
-      pub name_other : same_bytes (slice from end text) name ≡ false → Not OtherName from ≡ name_at name text at
+      pub name_other : same_bytes (slice from end text) name ≡ false → Err (misread OtherName from) ≡ name_at name text at
       name_other g =
           let word = standing text from end f h in
           let same : same_bytes (word_at text from) name ≡ false = rw word.is at g in
-          sym (name_here ∙ rw same (ap (λ (w : Wrong). Not w from) (fault_some OtherName (word_at text from) (omega (arith, word.some, word.count)))))
+          let wrong_there : wrong_in OtherName (word_at text from) ≡ OtherName = fault_some OtherName (word_at text from) (omega (arith, word.some, word.count)) in
+          sym (name_here ∙ rw same (rw wrong_there))
 
 -- ---- the name before the number k
 
@@ -132,29 +134,33 @@ row = bytes "lowhighstartexofsg54g55g56g57g58g59feedlowesthighestspeedswitch"
 abbrev begins : List ℕ
 begins = 0 ∷ 3 ∷ 7 ∷ 12 ∷ 17 ∷ 20 ∷ 23 ∷ 26 ∷ 29 ∷ 32 ∷ 35 ∷ 39 ∷ 45 ∷ 52 ∷ 57 ∷ 63 ∷ []
 
+-- the one that is told by its place among them, or none
+abbrev named_by : Option ℕ → List ℕ
+named_by None = []
+named_by (Some j) = get_or (parts row begins) j []
+
 -- the names before so many numbers from one on
 before : ℕ → ℕ → List (List ℕ)
 before zero i = []
-before (suc n) i = get_or (parts row begins) (name_of i) [] ∷ before n (suc i)
+before (suc n) i = named_by (name_of i) ∷ before n (suc i)
 
-before_at : (n i k : ℕ) → k < n → get_or (before n i) k [] ≡ get_or (parts row begins) (name_of (k + i)) []
+before_at : (n i k : ℕ) → k < n → get_or (before n i) k [] ≡ named_by (name_of (k + i))
 unfolding before
 before_at zero i k h = absurd (omega arith)
-before_at (suc n) i zero h = ap (λ (j : ℕ). get_or (parts row begins) (name_of j) []) (omega arith)
+before_at (suc n) i zero h = ap (λ (j : ℕ). named_by (name_of j)) (omega arith)
 before_at (suc n) i (suc k) h =
     let e : k + suc i ≡ suc k + i = omega arith in
-    before_at n (suc i) k (omega arith) ∙ ap (λ (j : ℕ). get_or (parts row begins) (name_of j) []) e
+    before_at n (suc i) k (omega arith) ∙ ap (λ (j : ℕ). named_by (name_of j)) e
 
 -- one test of all 35
 names_are : before 35 0 ≡ names
 unfolding before parts name_of
 names_are = refl
 
-name_is : (k : ℕ) → k < 35 → get_or names k [] ≡ get_or (parts row begins) (name_of k) []
+name_is : (k : ℕ) → k < 35 → get_or names k [] ≡ named_by (name_of k)
 name_is k h =
     let e : k + 0 ≡ k = omega arith in
-    ap (λ (l : List (List ℕ)). get_or l k []) (sym names_are) ∙ before_at 35 0 k h
-    ∙ ap (λ (j : ℕ). get_or (parts row begins) (name_of j) []) e
+    ap (λ (l : List (List ℕ)). get_or l k []) (sym names_are) ∙ before_at 35 0 k h ∙ ap (λ (j : ℕ). named_by (name_of j)) e
 
 pub begins_order : (j : ℕ) → j < 15 → get_or begins j 0 < get_or begins (j + 1) 0
 begins_order j h =
@@ -165,12 +171,12 @@ pub begins_inside : (j : ℕ) → j < 16 → get_or begins j 0 ≤ 63
 begins_inside j h = leb-true (get_or begins j 0) 63 (every_place_lem (λ i b. leb b 63) begins refl j h)
 
 pub name_of_lem :
-    (text : List ℕ) (at k : ℕ) {j : ℕ} {r : Passed} → k < 35 → j ≡ name_of k → j < 15
+    (text : List ℕ) (at k : ℕ) {o : Option ℕ} {j : ℕ} {r : Result ℕ Misread} → k < 35 → o ≡ name_of k → o ≡ Some j → j < 15
     → r ≡ name_at (take (get_or begins (j + 1) 0 - get_or begins j 0) (drop (get_or begins j 0) row)) text at → r ≡ name_at (get_or names k []) text at
-name_of_lem text at k {j} h e g f = f ∙ ap (λ (name : List ℕ). name_at name text at) (sym (name_is k h ∙ rw (← e) (parts_at row begins j (omega arith))))
+name_of_lem text at k {o} {j} h e g l f = f ∙ ap (λ (name : List ℕ). name_at name text at) (sym (name_is k h ∙ rw (← e, g) (parts_at row begins j (omega arith))))
 
-pub no_name : (text : List ℕ) (at k : ℕ) {j : ℕ} → k < 35 → j ≡ name_of k → j ≡ 15 → To at ≡ name_at (get_or names k []) text at
-unfolding name_at parts
+pub no_name : (text : List ℕ) (at k : ℕ) {o : Option ℕ} → k < 35 → o ≡ name_of k → o ≡ None → Ok at ≡ name_at (get_or names k []) text at
+unfolding name_at
 no_name text at k h e f = rw (name_is k h, ← e, f)
 
 -- a file without names has none before any number
@@ -181,17 +187,17 @@ entry_plain text at k named e =
     rw e (rw none)
 
 pub entry_named :
-    (text : List ℕ) (at k : ℕ) (named : Bool) (p : Passed) → named ≡ true → p ≡ name_at (get_or names k []) text at
+    (text : List ℕ) (at k : ℕ) (named : Bool) (p : Result ℕ Misread) → named ≡ true → p ≡ name_at (get_or names k []) text at
     → entry_at (get_or (plan named) k []) text at ≡ number_by text p
 entry_named text at k named p e h = rw (e, h)
 
-pub by_passed : (text : List ℕ) (p : Passed) (at : ℕ) → p ≡ To at → number_by text p ≡ number_at text at
+pub by_passed : (text : List ℕ) (p : Result ℕ Misread) (at : ℕ) → p ≡ Ok at → number_by text p ≡ number_at text at
 unfolding number_by
 by_passed text p at e = rw e
 
-pub by_not : (text : List ℕ) (p : Passed) (wrong : Wrong) (at : ℕ) → p ≡ Not wrong at → number_by text p ≡ Bad wrong at
+pub by_not : (text : List ℕ) (p : Result ℕ Misread) (m : Misread) → p ≡ Err m → number_by text p ≡ Err m
 unfolding number_by
-by_not text p wrong at e = rw e
+by_not text p m e = rw e
 
 -- ---- all numbers
 
@@ -201,13 +207,13 @@ plan_length false = refl
 
 prepend_none : (n : Numbers) → prepend [] n ≡ n
 unfolding prepend
-prepend_none (these zs) = refl
-prepend_none (faulty wrong place) = refl
+prepend_none (Ok zs) = refl
+prepend_none (Err m) = refl
 
 prepend_more : (as' bs : List Len) (n : Numbers) → prepend as' (prepend bs n) ≡ prepend (as' ++ bs) n
 unfolding prepend
-prepend_more as' bs (these zs) = ap these (sym (append_assoc as' bs zs))
-prepend_more as' bs (faulty wrong place) = refl
+prepend_more as' bs (Ok zs) = rw (append_assoc as' bs zs)
+prepend_more as' bs (Err m) = refl
 
 prepend_ended : (text : List ℕ) (at : ℕ) (zs : List Len) → prepend zs (ended text at []) ≡ ended text at zs
 unfolding prepend ended
@@ -215,8 +221,8 @@ prepend_ended text at zs = go (leb (length text) (next text at))
   where
     go :
         (t : Bool)
-        → prepend zs (if t then these [] else faulty TooMuch (next text at)) ≡ (if t then these zs else faulty TooMuch (next text at))
-    go true = ap these (append-nil zs)
+        → prepend zs (if t then Ok [] else Err (misread TooMuch (next text at))) ≡ (if t then Ok zs else Err (misread TooMuch (next text at)))
+    go true = rw (append-nil zs)
     go false = refl
 
 -- the first k numbers are in their places, and the rest of the text gives the rest
@@ -239,7 +245,7 @@ module _
         rw (drop-cons left k [] there, add-one k)
 
     pub one_filled :
-        (z : Len) (after : ℕ) → k < 35 → entry_at (get_or left k []) text at ≡ Is z after → Filled left text (set numbers k z) (k + 1) after
+        (z : Len) (after : ℕ) → k < 35 → entry_at (get_or left k []) text at ≡ Ok (record { value = z; after = after }) → Filled left text (set numbers k z) (k + 1) after
     unfolding entry_then
     one_filled z after h e =
         let room : k < length numbers = omega (arith, t.places) in
@@ -257,10 +263,9 @@ module _
         taken room = rw (add-one k) (take-suc-set numbers k z room)
 
     pub stopped :
-        (wrong : Wrong) (place : ℕ) → k < 35 → entry_at (get_or left k []) text at ≡ Bad wrong place
-        → refused wrong place ≡ answered text (numbers_from left text 0)
+        (m : Misread) → k < 35 → entry_at (get_or left k []) text at ≡ Err m → Err m ≡ answered (numbers_from left text 0)
     unfolding entry_then prepend answered
-    stopped wrong place h e = rw (t.same, from_here h, e)
+    stopped m h e = rw (t.same, from_here h, e)
 
     pub all_filled : 35 ≤ k → numbers_from left text 0 ≡ ended text at numbers
     unfolding numbers_from
@@ -273,20 +278,20 @@ module _
 
 pub more_left :
     (text : List ℕ) (at place : ℕ) (zs : List Len) → place ≡ next text at → place < length text
-    → refused TooMuch place ≡ answered text (ended text at zs)
+    → Err (misread TooMuch place) ≡ answered (ended text at zs)
 unfolding ended answered
 more_left text at place zs e h =
     let past : next text at < length text = omega arith in
-    rw (lt-leb (length text) (next text at) past) (ap (refused TooMuch) e)
+    rw (lt-leb (length text) (next text at) past, e)
 
 pub nothing_left :
     (text : List ℕ) (at place : ℕ) (zs : List Len) (s : Setup) → place ≡ next text at → length text ≤ place → s ≡ setup_of zs
-    → record { wrong = Nothing; at = length text; setup = s } ≡ answered text (ended text at zs)
+    → Ok s ≡ answered (ended text at zs)
 unfolding ended answered
 nothing_left text at place zs s e h f =
     let past : length text ≤ next text at = omega arith in
     rw (le-leb (length text) (next text at) past, f)
 
-pub setup_in_lem : (text : List ℕ) (named : Bool) → named ≡ is_named text → answered text (numbers_from (plan named) text 0) ≡ setup_in text
+pub setup_in_lem : (text : List ℕ) (named : Bool) → named ≡ is_named text → answered (numbers_from (plan named) text 0) ≡ setup_in text
 unfolding setup_in
 setup_in_lem text named e = rw e

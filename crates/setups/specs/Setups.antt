@@ -1,14 +1,13 @@
 -- A setup file. Its words are 35 numbers in the order of the setup, and nothing else; or the same with a name before the
 -- first number of each group. A file is named where its first word begins with a small letter, and then every name stands.
-use Rattle.std.specs.Prelude.{◌+◌, ◌-◌, ◌/◌, ◌%◌, ◌∷◌, ◌++◌, if◌then◌else◌}
-use Rattle.terms.specs.Common.{ℕ, String, Bool, true, false, List, [], map, leb, eqb, ℤ, pos, length, get_or}
+use Rattle.std.specs.Prelude.{Result, Ok, Err, ◌+◌, ◌-◌, ◌/◌, ◌%◌, ◌∷◌, ◌++◌, if◌then◌else◌}
+use Rattle.terms.specs.Common.{ℕ, String, Bool, true, false, Option, None, Some, List, [], map, leb, eqb, ℤ, pos, length, get_or}
 use Rattle.terms.specs.Terms.{bytes}
 use Rattle.lengths.specs.{declared.Len.Len, Units.len}
 use Rattle.setup.specs.declared.{Axes.Axes, Setup.Setup}
 use Rattle.texts.specs.{Texts.next, Texts.word_at, Texts.same_bytes, Texts.is_lettered, Figures.worth_of, declared.Wrong.Wrong}
-use Rattle.texts.specs.declared.Worth.{Worth, TheVariants.Fit, TheVariants.Unfit}
-use Rattle.texts.specs.declared.Wrong.TheVariants.{Nothing, OtherName, TooFew, TooMuch}
-use Rattle.setups.specs.declared.{Passed.Passed, Passed.TheVariants.To, Passed.TheVariants.Not, Entry.Entry, Entry.TheVariants.Is, Entry.TheVariants.Bad, Reading.Reading}
+use Rattle.texts.specs.declared.Wrong.TheVariants.{OtherName, TooFew, TooMuch}
+use Rattle.setups.specs.declared.{Entry.Entry, Misread.Misread}
 
 -- ---- the order of the numbers
 
@@ -23,9 +22,9 @@ names =
     ++ three "g54" ++ three "g55" ++ three "g56" ++ three "g57" ++ three "g58" ++ three "g59"
     ++ bytes "feed" ∷ bytes "lowest" ∷ bytes "highest" ∷ bytes "speed" ∷ bytes "switch" ∷ []
 
--- which of the fifteen names stands before a number, or 15 where none does
-unfoldable pub name_of : ℕ → ℕ
-name_of k = if leb 30 k then k - 20 else (if eqb (k % 3) 0 then k / 3 else 15)
+-- which of the fifteen names stands before a number, where one does
+unfoldable pub name_of : ℕ → Option ℕ
+name_of k = if leb 30 k then Some (k - 20) else (if eqb (k % 3) 0 then Some (k / 3) else None)
 
 abbrev pub plan : Bool → List (List ℕ)
 plan true = names
@@ -37,52 +36,54 @@ is_named text = is_lettered (word_at text (next text 0))
 
 -- ---- a number, and the name before it
 
+abbrev pub misread : Wrong → ℕ → Misread
+misread wrong place = record { wrong = wrong; at = place }
+
 -- what is wrong with a word, or that there is none
 unfoldable pub wrong_in : Wrong → List ℕ → Wrong
 wrong_in wrong [] = TooFew
 wrong_in wrong (b ∷ bs) = wrong
 
 -- the place after the name, where one is expected
-unfoldable pub name_at : List ℕ → List ℕ → ℕ → Passed
-name_at [] text at = To at
+unfoldable pub name_at : List ℕ → List ℕ → ℕ → Result ℕ Misread
+name_at [] text at = Ok at
 name_at (c ∷ cs) text at =
     let place = next text at in
     let word = word_at text place in
-    if same_bytes word (c ∷ cs) then To (place + length word) else Not (wrong_in OtherName word) place
+    if same_bytes word (c ∷ cs) then Ok (place + length word) else Err (misread (wrong_in OtherName word) place)
 
-unfoldable pub placed : ℕ → List ℕ → Worth → Entry
-placed place word (Fit z) = Is z (place + length word)
-placed place word (Unfit wrong) = Bad (wrong_in wrong word) place
+unfoldable pub placed : ℕ → List ℕ → Result Len Wrong → Result Entry Misread
+placed place word (Ok z) = Ok (record { value = z; after = place + length word })
+placed place word (Err wrong) = Err (misread (wrong_in wrong word) place)
 
 -- the next number, and the place after it
-unfoldable pub number_at : List ℕ → ℕ → Entry
+unfoldable pub number_at : List ℕ → ℕ → Result Entry Misread
 number_at text at = let place = next text at in placed place (word_at text place) (worth_of (word_at text place))
 
-unfoldable pub number_by : List ℕ → Passed → Entry
-number_by text (To at) = number_at text at
-number_by text (Not wrong place) = Bad wrong place
+unfoldable pub number_by : List ℕ → Result ℕ Misread → Result Entry Misread
+number_by text (Ok at) = number_at text at
+number_by text (Err misread) = Err misread
 
-abbrev pub entry_at : List ℕ → List ℕ → ℕ → Entry
+abbrev pub entry_at : List ℕ → List ℕ → ℕ → Result Entry Misread
 entry_at name text at = number_by text (name_at name text at)
 
 -- ---- all of them
 
 -- the numbers of a file, or what is wrong with it and where
-pub data Numbers : Type 0 where
-  these : List Len → Numbers
-  faulty : Wrong → ℕ → Numbers
+abbrev pub Numbers : Type 0
+Numbers = Result (List Len) Misread
 
 unfoldable pub prepend : List Len → Numbers → Numbers
-prepend zs (these more) = these (zs ++ more)
-prepend zs (faulty wrong place) = faulty wrong place
+prepend zs (Ok more) = Ok (zs ++ more)
+prepend zs (Err misread) = Err misread
 
-unfoldable pub entry_then : Entry → (ℕ → Numbers) → Numbers
-entry_then (Is z at) rest = prepend (z ∷ []) (rest at)
-entry_then (Bad wrong place) rest = faulty wrong place
+unfoldable pub entry_then : Result Entry Misread → (ℕ → Numbers) → Numbers
+entry_then (Ok entry) rest = prepend (entry.value ∷ []) (rest entry.after)
+entry_then (Err misread) rest = Err misread
 
 -- nothing stands after the last number
 unfoldable pub ended : List ℕ → ℕ → List Len → Numbers
-ended text at zs = if leb (length text) (next text at) then these zs else faulty TooMuch (next text at)
+ended text at zs = if leb (length text) (next text at) then Ok zs else Err (misread TooMuch (next text at))
 
 -- a number for each place of the plan, and no more
 unfoldable pub numbers_from : List (List ℕ) → List ℕ → ℕ → Numbers
@@ -113,14 +114,9 @@ setup_of zs =
       skip = figure_at zs 34;
     }
 
--- where something is wrong, the setup is all zeros
-unfoldable pub refused : Wrong → ℕ → Reading
-refused wrong place = record { wrong = wrong; at = place; setup = setup_of [] }
+unfoldable pub answered : Numbers → Result Setup Misread
+answered (Ok zs) = Ok (setup_of zs)
+answered (Err misread) = Err misread
 
--- where nothing is wrong, the place is the text's end
-unfoldable pub answered : List ℕ → Numbers → Reading
-answered text (these zs) = record { wrong = Nothing; at = length text; setup = setup_of zs }
-answered text (faulty wrong place) = refused wrong place
-
-unfoldable pub setup_in : List ℕ → Reading
-setup_in text = answered text (numbers_from (plan (is_named text)) text 0)
+unfoldable pub setup_in : List ℕ → Result Setup Misread
+setup_in text = answered (numbers_from (plan (is_named text)) text 0)

@@ -15,17 +15,10 @@ use files::{LIST_ROOM, STDOUT_FILENO, complain, complain_record, complain_why};
 use limits::show_fault;
 use plotting::plot;
 use running::run;
-use setup::{Fault, Setup};
+use setup::Fault;
 use setup_files::setup_in;
 use std::io::Print;
 use std::rt::Files;
-
-// A setup is of use only where all is fine. Else a line has said what is wrong.
-#[derive(Clone, Copy)]
-pub struct Known {
-    pub fine: bool,
-    pub setup: Setup,
-}
 
 // What the first word asks for.
 #[derive(Clone, Copy, PartialEq, Eq)]
@@ -134,17 +127,15 @@ fn check(rt: &impl Files, line: &[u8], count: usize, err: i32) -> bool {
         complain(err, b"check", b"wants SETUP");
         return true;
     }
-    let known = setup_in(rt, word(line, 1), err);
-    if !known.fine {
+    let Some(setup) = setup_in(rt, word(line, 1), err) else {
         return true;
-    }
-    let setup = known.setup;
+    };
     show_check(setup::fault_of(setup))
 }
 
-fn show_check(fault: Fault) -> bool {
-    if let Fault::None = fault {
+fn show_check(broken: Option<Fault>) -> bool {
+    let Some(fault) = broken else {
         return io::write_all(STDOUT_FILENO, b"valid\n");
-    }
+    };
     io::write_all(STDOUT_FILENO, b"breaks a limit: ") && show_fault(fault)
 }

@@ -14,9 +14,7 @@ pub fn plot(rt: &impl Files, line: &[u8], count: usize, err: i32) {
     let Some(spot) = spot_for(rt, word(line, 3), word(line, 1), word(line, 2), err) else {
         return;
     };
-    let known = setup_in(rt, word(line, 2), err);
-    if known.fine {
-        let setup = known.setup;
+    if let Some(setup) = setup_in(rt, word(line, 2), err) {
         plot_file(rt, setup, line, spot, err);
     }
 }

@@ -44,15 +44,13 @@ fn spot_of(rt: &impl Files, line: &[u8], options: Options, err: i32) -> Option<S
 fn run_files(rt: &(impl Files + Print), line: &[u8], options: Options, spot: Spot, err: i32) -> bool
     requires { room_of options ≤ 1048576 }
 {
-    let known = setup_in(rt, word(line, 1), err);
-    if !known.fine {
+    let Some(setup) = setup_in(rt, word(line, 1), err) else {
         return true;
-    }
+    };
     let mut data = io::large_buffer();
     let Some(n) = files::read_start(rt, word(line, 2), &mut data, err) else {
         return true;
     };
-    let setup = known.setup;
     run_data(rt, setup, &data[..n], word(line, 3), options, spot, err)
 }
 

@@ -1,6 +1,7 @@
 -- The gaps and the words of a setup file by their places. Assumes nothing.
 use Rattle.std.specs.Prelude.{if◌then◌else◌}
 use Rattle.terms.proofs.Common.{ℕ, suc, ◌+◌, ◌-◌, ◌≤◌, ◌<◌, ◌≡◌, refl, sym, ap, ◌∙◌, Bool, true, false, ◌&&◌, List, [], ◌∷◌, arith, add-one, dec_lt, eqb, length, take, drop, get_or, drop_of_length-le, length-drop, slice, slice-cons, slice_empty, length-slice, length-take-le, drop-cons, drop_at, take-add, eq-eqb, ne_eqb}
+use lib.Pointwise.{pointwise}
 use Rattle.lines.proofs.Lines.{at_place}
 use Rattle.words.{specs.Numbers.run, proofs.Numbers.run_short}
 use Rattle.texts.specs.{Texts.space_of, Texts.gap_by, Texts.gap, Texts.in_word, Texts.word_at, Texts.same_bytes, declared.Space.TheVariants.Gap, declared.Space.TheVariants.Word}
@@ -84,6 +85,20 @@ module _ (l : List ℕ) (p e : ℕ) (end : e ≡ p + length (word_at l p)) where
 
 -- ---- the bytes of a name
 
+-- what `==` of two slices answers
+pub same_is : (a b : List ℕ) → pointwise eqb a b ≡ same_bytes a b
+unfolding same_bytes
+same_is [] [] = refl
+same_is [] (b ∷ bs) = refl
+same_is (a ∷ as') [] = refl
+same_is (a ∷ as') (b ∷ bs) = ap (eqb a b &&◌) (same_is as' bs)
+
+pub part_is : (s name : List ℕ) (from end : ℕ) → from ≤ end → end ≤ length s → pointwise eqb (take (end - from) (drop from s)) name ≡ same_bytes (slice from end s) name
+part_is s name from end h k =
+    let e : end ≡ from + (end - from) = omega arith in
+    same_is (take (end - from) (drop from s)) name
+    ∙ ap (λ (part : List ℕ). same_bytes part name) (sym (slice_take from (end - from) s (omega arith)) ∙ ap (λ (k : ℕ). slice from k s) (sym e))
+
 -- words of different lengths differ
 pub same_lengths : (a b : List ℕ) → (length a ≡ length b → ⊥) → same_bytes a b ≡ false
 unfolding same_bytes
@@ -95,21 +110,3 @@ same_lengths (a ∷ as') (b ∷ bs) h = go (eqb a b) (same_lengths as' bs (λ e.
     go : (t : Bool) → same_bytes as' bs ≡ false → (t && same_bytes as' bs) ≡ false
     go true e = e
     go false e = refl
-
-pub other_length : (s name : List ℕ) (from end : ℕ) → end ≤ length s → (end - from ≡ length name → ⊥) → same_bytes (slice from end s) name ≡ false
-other_length s name from end k h = same_lengths (slice from end s) name (λ e. h (sym (length-slice from end s k) ∙ e))
-
-module _ (s name : List ℕ) (f end i : ℕ) (h : f < end) (k : end ≤ length s) (j : i < length name) where
-  same_step : same_bytes (slice f end s) (drop i name) ≡ (eqb (get_or s f 0) (get_or name i 0) && same_bytes (slice (f + 1) end s) (drop (i + 1) name))
-  unfolding same_bytes
-  same_step = rw (slice-cons f end s 0 h k, drop-cons name i 0 j, add-one f, add-one i)
-
-  pub same_differ : (get_or s f 0 ≡ get_or name i 0 → ⊥) → same_bytes (slice f end s) (drop i name) ≡ false
-  same_differ e = same_step ∙ rw (ne_eqb (get_or s f 0) (get_or name i 0) e)
-
-  pub same_more : get_or s f 0 ≡ get_or name i 0 → same_bytes (slice f end s) (drop i name) ≡ same_bytes (slice (f + 1) end s) (drop (i + 1) name)
-  same_more e = same_step ∙ rw (eq-eqb (get_or s f 0) (get_or name i 0) e)
-
-pub same_all : (s name : List ℕ) (f end i : ℕ) → f ≡ end → length name ≤ i → same_bytes (slice f end s) (drop i name) ≡ true
-unfolding same_bytes
-same_all s name f end i e h = rw (e, slice_empty end s, drop_of_length-le name h)

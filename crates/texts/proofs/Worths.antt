@@ -1,17 +1,20 @@
 -- What a word is worth as a number, digit by digit. Assumes nothing.
-use Rattle.std.specs.Prelude.{if◌then◌else◌}
-use Rattle.terms.proofs.Common.{ℕ, suc, ◌+◌, ◌-◌, ◌*◌, ◌^◌, ◌≤◌, ◌<◌, ◌≡◌, sym, ap, ◌∙◌, Bool, true, false, and-false, List, [], ◌∷◌, arith, pow-le-pow_right, add-one, leb, length, take, get_or, slice, slice-cons, slice_empty, length-slice, drop-drop, le-leb, lt-leb}
+use Rattle.std.specs.Prelude.{if◌then◌else◌, MatchOption, Result, Ok, Err}
+use Rattle.std.specs.Option.{ok_or}
+use Rattle.std.specs.Option.{SomeIff, IsSomeAnd}
+use mir.{Syntax.w64, Val.SFits}
+use Rattle.terms.proofs.Common.{ℕ, suc, ◌+◌, ◌-◌, ◌*◌, ◌^◌, ◌≤◌, ◌<◌, ◌≡◌, sym, ap, ◌∙◌, Bool, true, false, and-false, Option, None, Some, List, [], ◌∷◌, arith, pow-le-pow_right, add-one, ℤ, pos, neg_ℤ, ◌-ℤ◌, +ℤ_idl, zero-add, refl, zero, leb, length, take, get_or, slice, slice-cons, slice_empty, length-slice, drop-drop, le-leb, lt-leb}
 use Rattle.terms.specs.Terms.{all}
+use Rattle.lengths.specs.{declared.Len.Len, Units.len}
 use Rattle.words.specs.{Numbers.is_digit, Numbers.sign_of, Numbers.sign_length, Numbers.digits_after, Values.signed, declared.Sign.Sign}
 use Rattle.words.{specs.declared.Sign.TheVariants.Plain, specs.declared.Sign.TheVariants.Plus, specs.declared.Sign.TheVariants.Minus, proofs.Numbers.sign_first, proofs.Numbers.ten_more}
-use Rattle.texts.specs.Figures.{digits_in, largest, fitted, worth_by, worth_of}
-use Rattle.texts.specs.declared.{Digits.Digits, Digits.TheVariants.Are, Digits.TheVariants.Others, Worth.Worth, Worth.TheVariants.Unfit, Wrong.TheVariants.NoNumber}
+use Rattle.texts.specs.{Figures.digits_in, Figures.largest, Figures.fitted, Figures.worth_by, Figures.worth_of, declared.Wrong.Wrong, declared.Wrong.TheVariants.NoNumber, declared.Wrong.TheVariants.TooLarge}
 
 -- ---- digits
 
 -- digits and nothing else, after others that make the number v
-abbrev counted_from : ℕ → List ℕ → Digits
-counted_from v bs = if all is_digit bs then Are (digits_after v bs) else Others
+abbrev counted_from : ℕ → List ℕ → Option ℕ
+counted_from v bs = if all is_digit bs then Some (digits_after v bs) else None
 
 digit_value :
     (v b : ℕ) (bs : List ℕ) → (if is_digit b then v * 10 + (b - 48) else v) ≡ v * 10 + (b - 48)
@@ -36,11 +39,11 @@ pub record Counting (s : List ℕ) (from end v i : ℕ) : Type 0 where
   pub left : digits_in (slice from end s) ≡ counted_from v (slice i end s)
 
 module _ (s : List ℕ) (from end : ℕ) (k : end ≤ length s) where
-  pub no_digits : from ≡ end → Others ≡ digits_in (slice from end s)
+  pub no_digits : from ≡ end → None ≡ digits_in (slice from end s)
   unfolding digits_in
   no_digits e = rw (e, slice_empty end s)
 
-  pub many_digits : 19 < end - from → Others ≡ digits_in (slice from end s)
+  pub many_digits : 19 < end - from → None ≡ digits_in (slice from end s)
   unfolding digits_in
   many_digits h = rw (length-slice from end s k, lt-leb (end - from) 19 h, and-false (leb 1 (end - from)))
 
@@ -77,17 +80,17 @@ module _ (s : List ℕ) (from end : ℕ) (k : end ≤ length s) where
                 ∙ rw (slice-cons i end s 0 h k, add-one i) (digit_next v (get_or s i 0) (slice (suc i) end s) (rw (le-leb 48 (get_or s i 0) p, le-leb (get_or s i 0) 57 q)));
           }
 
-      other_byte : is_digit (get_or s i 0) ≡ false → Others ≡ digits_in (slice from end s)
+      other_byte : is_digit (get_or s i 0) ≡ false → None ≡ digits_in (slice from end s)
       unfolding all
       other_byte e = sym (t.left ∙ rw (slice-cons i end s 0 h k) (rw e))
 
-      pub low_byte : get_or s i 0 < 48 → Others ≡ digits_in (slice from end s)
+      pub low_byte : get_or s i 0 < 48 → None ≡ digits_in (slice from end s)
       low_byte p = other_byte (rw (lt-leb 48 (get_or s i 0) p))
 
-      pub high_byte : 57 < get_or s i 0 → Others ≡ digits_in (slice from end s)
+      pub high_byte : 57 < get_or s i 0 → None ≡ digits_in (slice from end s)
       high_byte p = other_byte (rw (lt-leb (get_or s i 0) 57 p) (and-false (leb 48 (get_or s i 0))))
 
-    pub all_counted : end ≤ i → Are v ≡ digits_in (slice from end s)
+    pub all_counted : end ≤ i → Some v ≡ digits_in (slice from end s)
     unfolding all digits_after
     all_counted h =
         let e : i ≡ end = omega (arith, t.high) in
@@ -96,26 +99,51 @@ module _ (s : List ℕ) (from end : ℕ) (k : end ≤ length s) where
 -- ---- a word's worth, by its sign and its digits
 
 pub worth_is :
-    (s : List ℕ) (from end n : ℕ) (sign : Sign) (d : Digits) → from < end → end ≤ length s
+    (s : List ℕ) (from end n : ℕ) (sign : Sign) (d : Option ℕ) → from < end → end ≤ length s
     → sign ≡ sign_of (get_or s from 0 ∷ []) → n ≡ sign_length sign → d ≡ digits_in (slice (from + n) end s)
     → worth_by sign d ≡ worth_of (slice from end s)
 unfolding worth_of
 worth_is s from end n sign d h k e f g =
     rw (g, f, e, sign_first s from end h k, ← drop-drop (sign_length (sign_of (slice from end s))) from (take end s))
 
-pub worth_none : (sign : Sign) (d : Digits) → d ≡ Others → Unfit NoNumber ≡ worth_by sign d
+-- no digits are no number
+pub none_worth : (sign : Sign) (d : Option ℕ) (wrong : Wrong) → Err wrong ≡ ok_or d NoNumber → Err wrong ≡ worth_by sign d
 unfolding worth_by
-worth_none sign d e = rw e
+none_worth sign None wrong e = let same : wrong ≡ NoNumber = cc in rw same
+none_worth sign (Some n) wrong e = cc
 
-module _ {sign : Sign} {d : Digits} {n : ℕ} {r : Worth} where
-  pub worth_plain : sign ≡ Plain → d ≡ Are n → r ≡ fitted Plain n → r ≡ worth_by sign d
-  unfolding worth_by
-  worth_plain e f g = rw (e, f) g
+-- ---- a number that 64 bits with a sign hold
 
-  pub worth_plus : sign ≡ Plus → d ≡ Are n → r ≡ fitted Plain n → r ≡ worth_by sign d
-  unfolding worth_by fitted largest signed
-  worth_plus e f g = rw (e, f) g
+pub minus_is : (n : ℕ) → pos 0 -ℤ pos n ≡ signed Minus n
+unfolding signed
+minus_is n = +ℤ_idl (neg_ℤ (pos n))
 
-  pub worth_minus : sign ≡ Minus → d ≡ Are n → r ≡ fitted Minus n → r ≡ worth_by sign d
-  unfolding worth_by
-  worth_minus e f g = rw (e, f) g
+pub plus_is : (sign : Sign) (n : ℕ) → (sign ≡ Minus → ⊥) → pos (0 + n) ≡ signed sign n
+unfolding signed
+plus_is Plain n f = ap pos (zero-add n)
+plus_is Plus n f = ap pos (zero-add n)
+plus_is Minus n f = absurd (f refl)
+
+holds : (sign : Sign) (n : ℕ) → SFits w64 (signed sign n) → leb n (largest sign) ≡ true
+unfolding signed largest
+holds Plain n f = le-leb n (2 ^ 63 - 1) (omega (arith, f.sfits))
+holds Plus n f = le-leb n (2 ^ 63 - 1) (omega (arith, f.sfits))
+holds Minus zero f = refl
+holds Minus (suc n) f = le-leb (suc n) (2 ^ 63) (omega (arith, f.sfits))
+
+holds_not : (sign : Sign) (n : ℕ) → (SFits w64 (signed sign n) → ⊥) → leb n (largest sign) ≡ false
+unfolding signed largest
+holds_not Plain n f = let g : n < 2 ^ 63 → ⊥ = λ h. f (record { sfits = h }) in lt-leb n (2 ^ 63 - 1) (omega arith)
+holds_not Plus n f = let g : n < 2 ^ 63 → ⊥ = λ h. f (record { sfits = h }) in lt-leb n (2 ^ 63 - 1) (omega arith)
+holds_not Minus zero f = absurd (f (record { sfits = omega arith }))
+holds_not Minus (suc n) f = let g : n < 2 ^ 63 → ⊥ = λ h. f (record { sfits = h }) in lt-leb (suc n) (2 ^ 63) (omega arith)
+
+-- what was computed, where it fits, as a length
+pub settled :
+    (sign : Sign) (n : ℕ) (z : ℤ) (fit : Option ℤ) (made : Option Len) {P : ℤ → Len → Type 0}
+    → z ≡ signed sign n → SomeIff fit (SFits w64 z) z → MatchOption fit (made ≡ None) (λ x. IsSomeAnd made (P x))
+    → ((x : ℤ) (r : Len) → P x r → r ≡ len x) → ok_or made TooLarge ≡ fitted sign n
+unfolding fitted
+settled sign n z None made e h m is = rw (m, holds_not sign n (rw e at h))
+settled sign n z (Some x) None e h m is = absurd m
+settled sign n z (Some x) (Some r) e h m is = rw (holds sign n (rw e at h.0), is x r m, h.1, e)

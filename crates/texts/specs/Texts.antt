@@ -3,16 +3,7 @@ use Rattle.std.specs.Prelude.{◌+◌, ◌&&◌, ◌||◌, ◌∷◌, if◌then�
 use Rattle.terms.specs.Common.{ℕ, suc, Bool, true, false, not, List, [], eqb, drop}
 use Rattle.terms.specs.Terms.{byte, from_to}
 use Rattle.words.specs.Numbers.{run}
-use Rattle.texts.specs.declared.{Wrong.Wrong, Space.Space, Space.TheVariants.Gap, Space.TheVariants.Word}
-use Rattle.texts.specs.declared.Wrong.TheVariants.{Nothing, NoNumber, TooLarge, OtherName, TooFew, TooMuch}
-
-abbrev pub none_wrong : Wrong → Bool
-none_wrong Nothing = true
-none_wrong NoNumber = false
-none_wrong TooLarge = false
-none_wrong OtherName = false
-none_wrong TooFew = false
-none_wrong TooMuch = false
+use Rattle.texts.specs.declared.{Space.Space, Space.TheVariants.Gap, Space.TheVariants.Word}
 
 -- blanks, tabs, CR and LF separate words
 abbrev pub is_blank : ℕ → Bool

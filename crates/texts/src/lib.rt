@@ -4,8 +4,7 @@
 ghost use Rattle.std.specs.Prelude.{◌≡◌, ◌+◌, ◌^◌, ◌≤◌, ◌<◌};
 ghost use Rattle.std.proofs.Math.Seq.{slice};
 ghost use Rattle.terms.specs.Common.{length};
-ghost use Rattle.words.specs.declared.Sign.TheVariants.{Plain, Minus};
-ghost use Rattle.texts.specs.Texts.{none_wrong, is_blank, space_of, next, in_word, word_at, same_bytes};
+ghost use Rattle.texts.specs.Texts.{is_blank, space_of, next, in_word, word_at, same_bytes};
 ghost use Rattle.texts.specs.Figures.{digits_in, fitted, worth_of};
 
 use lengths::Len;
@@ -14,7 +13,6 @@ use words::Sign;
 // What is wrong with a setup file.
 #[derive(Clone, Copy)]
 pub enum Wrong {
-    Nothing,
     NoNumber,
     TooLarge,
     OtherName,
@@ -22,38 +20,12 @@ pub enum Wrong {
     TooMuch,
 }
 
-// A byte between words, with a comment open after it or not; or the first of a word.
+// A byte between words, with a comment open after it or not; or the first of a word. No Option: what is there would be a bool
+// that does not say of what.
 #[derive(Clone, Copy)]
 pub enum Space {
     Gap(bool),
     Word,
-}
-
-// The digits of a number as one whole number, or bytes that are no such digits.
-#[derive(Clone, Copy)]
-pub enum Digits {
-    Are(u64),
-    Others,
-}
-
-// What a word is worth as a number.
-#[derive(Clone, Copy)]
-pub enum Worth {
-    Fit(Len),
-    Unfit(Wrong),
-}
-
-pub fn none_wrong(wrong: Wrong) -> bool
-    ensures { result ≡ none_wrong wrong }
-{
-    match wrong {
-        Wrong::Nothing => true,
-        Wrong::NoNumber => false,
-        Wrong::TooLarge => false,
-        Wrong::OtherName => false,
-        Wrong::TooFew => false,
-        Wrong::TooMuch => false,
-    }
 }
 
 fn is_blank(b: u8) -> bool
@@ -88,29 +60,25 @@ pub fn next_word(s: &[u8], at: usize) -> usize
     ensures { result ≡ next s.now at }
 {
     let mut inside = false;
-    let mut i = at;
-    while i < s.len() {
+    for i in at..s.len() {
         let Space::Gap(after) = space_of(inside, s[i]) else {
             return i;
         };
         inside = after;
-        i += 1;
     }
-    i
+    at.max(s.len())
 }
 
 // The place after the word that begins at a place.
 pub fn word_end(s: &[u8], at: usize) -> usize
     ensures { result ≡ at + length (word_at s.now at) }
 {
-    let mut i = at;
-    while i < s.len() {
+    for i in at..s.len() {
         if !in_word(s[i]) {
             return i;
         }
-        i += 1;
     }
-    i
+    at.max(s.len())
 }
 
 // Whether the bytes from a place to another are those of a name.
@@ -118,81 +86,51 @@ pub fn is_word(s: &[u8], from: usize, end: usize, name: &[u8]) -> bool
     requires { (from ≤ end) × (end ≤ length s.now) }
     ensures { result ≡ same_bytes (slice from end s.now) name.now }
 {
-    if end - from != name.len() {
-        return false;
-    }
-    let mut i = 0;
-    while i < name.len() {
-        if s[from + i] != name[i] {
-            return false;
-        }
-        i += 1;
-    }
-    true
+    &s[from..end] == name
 }
 
 // Nineteen digits are below 2 ^ 64, so that their value is counted without a test at each.
-pub fn digits_at(s: &[u8], from: usize, end: usize) -> Digits
+pub fn digits_at(s: &[u8], from: usize, end: usize) -> Option<u64>
     requires { (from ≤ end) × (end ≤ length s.now) }
     ensures { result ≡ digits_in (slice from end s.now) }
 {
     if from == end {
-        return Digits::Others;
+        return None;
     }
     if 19 < end - from {
-        return Digits::Others;
+        return None;
     }
     let mut value: u64 = 0;
-    let mut i = from;
-    while i < end {
+    for i in from..end {
         let b = s[i];
         if b < b'0' {
-            return Digits::Others;
+            return None;
         }
         if b'9' < b {
-            return Digits::Others;
+            return None;
         }
-        value = value * 10 + (b - b'0') as u64;
-        i += 1;
+        value = value * 10 + u64::from(b - b'0');
     }
-    Digits::Are(value)
+    Some(value)
 }
 
-fn positive(n: u64) -> Worth
-    ensures { result ≡ fitted Plain n }
+// A whole number with its sign, where 64 bits hold it.
+fn fitted(sign: Sign, n: u64) -> Result<Len, Wrong>
+    ensures { result ≡ fitted sign n }
 {
-    if n <= 9223372036854775807 {
-        Worth::Fit(Len::of_count(n))
-    } else {
-        Worth::Unfit(Wrong::TooLarge)
-    }
-}
-
-// The least number of 64 bits is no negated one.
-fn negative(n: u64) -> Worth
-    ensures { result ≡ fitted Minus n }
-{
-    if n <= 9223372036854775807 {
-        return Worth::Fit(Len::of_count(n).negated());
-    }
-    if n == 9223372036854775808 {
-        return Worth::Fit(Len::of(-9223372036854775808));
-    }
-    Worth::Unfit(Wrong::TooLarge)
+    let fit = match sign {
+        Sign::Minus => 0i64.checked_sub_unsigned(n),
+        _ => 0i64.checked_add_unsigned(n),
+    };
+    fit.map(Len::of).ok_or(Wrong::TooLarge)
 }
 
 // What the word from a place to another is worth as a number.
-pub fn worth_at(s: &[u8], from: usize, end: usize) -> Worth
+pub fn worth_at(s: &[u8], from: usize, end: usize) -> Result<Len, Wrong>
     requires { (from < end) × (end ≤ length s.now) }
     ensures { result ≡ worth_of (slice from end s.now) }
 {
     let sign = words::sign_of(s[from]);
-    let Digits::Are(n) = digits_at(s, from + words::sign_length(sign), end) else {
-        return Worth::Unfit(Wrong::NoNumber);
-    };
-    match sign {
-        Sign::Plain => positive(n),
-        Sign::Plus => positive(n),
-        Sign::Minus => negative(n),
-    }
+    let n = digits_at(s, from + words::sign_length(sign), end).ok_or(Wrong::NoNumber)?;
+    fitted(sign, n)
 }

@@ -2,10 +2,10 @@
 use Rattle.cases.specs.Budgets.{budget_by}
 use Rattle.cases.proofs.report_to.Goals as goal
 
-pub returns-in-Are : goal.returns-in-Are
+pub returns-in-Some : goal.returns-in-Some
 unfolding budget_by
-returns-in-Are c = rw c.in-Are.is c.run_blocks.ensures
+returns-in-Some c = rw c.in-Some.is c.run_blocks.ensures
 
-pub returns-in-Others : goal.returns-in-Others
+pub returns-in-None : goal.returns-in-None
 unfolding budget_by
-returns-in-Others c = rw c.in-Others.is c.run.ensures
+returns-in-None c = rw c.in-None.is c.run.ensures

@@ -1,12 +1,11 @@
 -- `setup::is_valid` meets its contract: no limit is broken.
-use Rattle.terms.proofs.Common.{sym, ◌∙◌}
-use Rattle.setup.proofs.{Broken.fault_none, Broken.fault_some}
-use borrow.Enum.Refused.{opened}
+use Rattle.terms.proofs.Common.{◌≡◌, sym, ap, ◌∙◌, Bool, true, false, not, refl}
+use Rattle.setup.proofs.{Broken.valid_is}
 use Rattle.setup.proofs.is_valid.Goals as goal
 
-pub returns-in_default : goal.returns-in_default
-returns-in_default c = sym (fault_some c.args.s c.fault_of.result c.fault_of.ensures (opened c.in_default.in_default-own.keys2))
+twice : (r : Bool) → r ≡ not (not r)
+twice true = refl
+twice false = refl
 
 pub returns : goal.returns
-returns c =
-    sym (fault_none c.args.s (sym c.fault_of.ensures ∙ c.in-None.is))
+returns c = twice c.is_none.result ∙ rw (← c.is_none.ensures, c.fault_of.ensures) (sym (valid_is c.args.s))

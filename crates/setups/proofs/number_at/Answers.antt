@@ -13,10 +13,10 @@ worth_at-requires c =
     let word = standing c.args.s.now c.next_word-from.result c.word_end-end.result c.word_end-end.ensures c.if-from-end.false in
     (word.some, word.within)
 
-pub returns-in-Fit : goal.returns-in-Fit
-returns-in-Fit c =
-    number_fits c.args.s.now c.args.at c.next_word-from.result c.word_end-end.result c.next_word-from.ensures c.word_end-end.ensures c.if-from-end.false _ (sym c.worth_at.ensures ∙ c.in-Fit.is)
+pub returns-in-Ok : goal.returns-in-Ok
+returns-in-Ok c =
+    number_fits c.args.s.now c.args.at c.next_word-from.result c.word_end-end.result c.next_word-from.ensures c.word_end-end.ensures c.if-from-end.false _ (sym c.worth_at.ensures ∙ c.in-Ok.is)
 
-pub returns-in-Unfit : goal.returns-in-Unfit
-returns-in-Unfit c =
-    number_unfit c.args.s.now c.args.at c.next_word-from.result c.word_end-end.result c.next_word-from.ensures c.word_end-end.ensures c.if-from-end.false _ (sym c.worth_at.ensures ∙ c.in-Unfit.is)
+pub returns-in-Err : goal.returns-in-Err
+returns-in-Err c =
+    number_unfit c.args.s.now c.args.at c.next_word-from.result c.word_end-end.result c.next_word-from.ensures c.word_end-end.ensures c.if-from-end.false _ (sym c.worth_at.ensures ∙ c.in-Err.is)

@@ -33,7 +33,7 @@ overflow_add-value c =
 
 pub loop-i-preserved : goal.loop-i-preserved
 loop-i-preserved c =
-    digit_counted c.args.s.now c.args.from c.args.end c.requires.1 c.loop-i.value c.loop-i.i c.loop-i.invariant (omega arith) (omega arith) (omega arith)
+    rw c.from.ensures (digit_counted c.args.s.now c.args.from c.args.end c.requires.1 c.loop-i.value c.loop-i.i c.loop-i.invariant (omega arith) (omega arith) (omega arith))
 
 pub returns : goal.returns
 returns c =

@@ -1,5 +1,5 @@
 -- `texts::next_word` meets its contract. What is left gives the same: the place and the gap there.
-use Rattle.terms.proofs.Common.{refl, sym, ◌∙◌, arith}
+use Rattle.terms.proofs.Common.{refl, sym, ◌∙◌, false, dec_le, length, arith}
 use Rattle.texts.specs.Texts.{next}
 use Rattle.texts.proofs.{Places.gap_end, Places.gap_more, Places.gap_over}
 use Rattle.texts.proofs.next_word.Goals as goal
@@ -17,5 +17,10 @@ loop-i-preserved c =
     omega (arith, c.loop-i.invariant, gap_more c.args.s.now c.loop-i.inside c.loop-i.i c.in-Gap.after (omega arith) (sym c.space_of.ensures ∙ c.in-Gap.is))
 
 pub returns : goal.returns
+unfolding next
 returns c =
-    omega (arith, c.loop-i.invariant, gap_end c.args.s.now c.loop-i.inside c.loop-i.i (omega arith))
+    let s = c.args.s.now in
+    elim (dec_le (length s) c.args.at) [
+      | yes past ↦ omega (arith, gap_end s false c.args.at past)
+      | no before ↦ omega (arith, c.loop-i.invariant, c.loop-i.auto.i-end (omega arith), gap_end s c.loop-i.inside c.loop-i.i (omega arith))
+    ]

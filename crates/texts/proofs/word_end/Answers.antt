@@ -1,5 +1,5 @@
 -- `texts::word_end` meets its contract. What is left gives the same.
-use Rattle.terms.proofs.Common.{◌≡◌, refl, sym, ◌∙◌, true, false, arith, get_or}
+use Rattle.terms.proofs.Common.{◌≡◌, refl, sym, ◌∙◌, true, false, dec_le, length, arith, get_or}
 use Rattle.texts.specs.Texts.{in_word}
 use Rattle.texts.proofs.{Places.word_end, Places.word_more, Places.word_over}
 use Rattle.texts.proofs.word_end.Goals as goal
@@ -21,4 +21,8 @@ loop-i-preserved c =
 
 pub returns : goal.returns
 returns c =
-    omega (arith, c.loop-i.invariant, word_end c.args.s.now c.loop-i.i (omega arith))
+    let s = c.args.s.now in
+    elim (dec_le (length s) c.args.at) [
+      | yes past ↦ omega (arith, word_end s c.args.at past)
+      | no before ↦ omega (arith, c.loop-i.invariant, c.loop-i.auto.i-end (omega arith), word_end s c.loop-i.i (omega arith))
+    ]

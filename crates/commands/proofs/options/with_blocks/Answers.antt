@@ -19,4 +19,4 @@ pub returns : goal.returns
 returns c =
     let a = c.args in
     sym
-    (blocks_are a.options (digits_known a.number.now c.digits_at.ensures c.in-Are.is) (sym c.is_some.ensures ∙ c.if-is_some.false))
+    (blocks_are a.options (digits_known a.number.now c.digits_at.ensures c.in-Some.is) (sym c.is_some.ensures ∙ c.if-is_some.false))

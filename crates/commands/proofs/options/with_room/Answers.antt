@@ -20,10 +20,10 @@ returns-then-n-gt1048576 c =
     let a = c.args in
     c.no_room-then-n-gt1048576.ensures
     ∙ sym
-    (room_above a.options (digits_known a.number.now c.digits_at.ensures c.in-Are.is) (sym c.is_some.ensures ∙ c.if-is_some.false) c.if-n-gt1048576.true)
+    (room_above a.options (digits_known a.number.now c.digits_at.ensures c.in-Some.is) (sym c.is_some.ensures ∙ c.if-is_some.false) c.if-n-gt1048576.true)
 
 pub returns : goal.returns
 returns c =
     let a = c.args in
     sym
-    (room_is a.options (digits_known a.number.now c.digits_at.ensures c.in-Are.is) (sym c.is_some.ensures ∙ c.if-is_some.false) c.if-n-gt1048576.false)
+    (room_is a.options (digits_known a.number.now c.digits_at.ensures c.in-Some.is) (sym c.is_some.ensures ∙ c.if-is_some.false) c.if-n-gt1048576.false)

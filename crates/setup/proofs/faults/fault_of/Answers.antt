@@ -1,27 +1,20 @@
 -- `setup::faults::fault_of` meets its contract: a part of the limits after the other.
-use Rattle.terms.proofs.Common.{sym, ◌∙◌}
-use Rattle.setup.specs.Faults.{origin_limits, number_limits}
-use Rattle.setup.proofs.Broken.{origins_named, stops, passes, travel_stops, travel_passes, common_stops, common_passes}
-use borrow.Enum.Refused.{opened}
+use Rattle.terms.proofs.Common.{◌∙◌, ◌++◌, ◌≡◌, ap, append_assoc, rules}
+use Rattle.setup.specs.{declared.Offset.TheVariants.Common, Frame.point_of}
+use Rattle.setup.specs.Faults.{first_broken, travel_limits, place_limits, origin_limits, number_limits, limits, fault_of}
+use Rattle.setup.proofs.Broken.{or_next}
 use Rattle.setup.proofs.faults.fault_of.Goals as goal
 
-pub returns-in_default : goal.returns-in_default
-returns-in_default c = travel_stops c.args.s c.travel_fault-travel.result c.point_of.result c.point_of-2.result c.point_of-3.result c.point_of.ensures c.point_of-2.ensures c.point_of-3.ensures c.travel_fault-travel.ensures (opened c.in_default.in_default-own.keys2)
-
-pub returns-in_default-common : goal.returns-in_default-common
-returns-in_default-common c =
-    common_stops c.args.s c.place_fault-common.result c.point_of-4.result c.point_of-4.ensures c.place_fault-common.ensures (opened c.in_default-common.in_default-common-own.keys2)
-    ∙ sym (travel_passes c.args.s c.travel_fault-travel.result c.point_of.result c.point_of-2.result c.point_of-3.result c.point_of.ensures c.point_of-2.ensures c.point_of-3.ensures c.travel_fault-travel.ensures c.in-None.is)
-
-pub returns-in_default-origins : goal.returns-in_default-origins
-returns-in_default-origins c =
-    stops c.origins_fault-origins.result (origin_limits 0 c.args.s.origins) (number_limits c.args.s) c.origins_fault-origins.ensures (opened c.in_default-origins.in_default-origins-own.keys2)
-    ∙ sym (common_passes c.args.s c.place_fault-common.result c.point_of-4.result c.point_of-4.ensures c.place_fault-common.ensures c.in-None-common.is)
-    ∙ sym (travel_passes c.args.s c.travel_fault-travel.result c.point_of.result c.point_of-2.result c.point_of-3.result c.point_of.ensures c.point_of-2.ensures c.point_of-3.ensures c.travel_fault-travel.ensures c.in-None.is)
-
 pub returns : goal.returns
+unfolding fault_of limits
 returns c =
-    c.number_fault.ensures
-    ∙ sym (passes c.origins_fault-origins.result (origin_limits 0 c.args.s.origins) (number_limits c.args.s) c.origins_fault-origins.ensures (origins_named 0 c.args.s.origins) c.in-None-origins.is)
-    ∙ sym (common_passes c.args.s c.place_fault-common.result c.point_of-4.result c.point_of-4.ensures c.place_fault-common.ensures c.in-None-common.is)
-    ∙ sym (travel_passes c.args.s c.travel_fault-travel.result c.point_of.result c.point_of-2.result c.point_of-3.result c.point_of.ensures c.point_of-2.ensures c.point_of-3.ensures c.travel_fault-travel.ensures c.in-None.is)
+    let s = c.args.s in
+    let travel = travel_limits (point_of s.low) (point_of s.high) (point_of s.start) in
+    let common = place_limits Common (point_of s.exofs) in
+    let origins = origin_limits 0 s.origins in
+    let numbers = number_limits s in
+    let one : c.travel_fault.result ≡ first_broken travel = c.travel_fault.ensures ∙ rw (c.point_of.ensures, c.point_of-2.ensures, c.point_of-3.ensures) in
+    let two : c.or_else.result ≡ first_broken (travel ++ common) = or_next _ _ travel common one c.or_else.ensures (λ p. search rules) in
+    let three : c.or_else-2.result ≡ first_broken (travel ++ common ++ origins) = or_next _ _ (travel ++ common) origins two c.or_else-2.ensures (λ p. search rules) in
+    or_next _ _ (travel ++ common ++ origins) numbers three c.or_else-3.ensures (λ p. search rules)
+    ∙ ap first_broken (append_assoc (travel ++ common) origins numbers ∙ append_assoc travel common (origins ++ numbers))

@@ -1,16 +1,11 @@
 -- `shop::setup_files::line_of` meets its contract. What is left gives the same.
-use Rattle.terms.proofs.Common.{arith}
+use Rattle.terms.proofs.Common.{arith, dec_le}
 use Rattle.shop.proofs.{Counting.all_ending, Counting.none_past, Counting.none_more, Counting.one_ends, Counting.goes_on}
 use Rattle.shop.proofs.setup_files.line_of.Goals as goal
 use Rattle.shop.proofs.setup_files.line_of.Goals.{then-text-i-eq10, else-text-i-eq10}
 
 pub loop-i-init : goal.loop-i-init
 loop-i-init c = let a = c.args in omega (arith, all_ending a.text.now a.at)
-
-pub returns-then-at-i : goal.returns-then-at-i
-returns-then-at-i c =
-    let a = c.args in
-    omega (arith, none_past a.text.now a.at c.loop-i.i c.if-at-i.true)
 
 pub loop-i-preserved : goal.loop-i-preserved
 loop-i-preserved c =
@@ -23,4 +18,7 @@ loop-i-preserved c =
 pub returns : goal.returns
 returns c =
     let a = c.args in
-    omega (arith, none_more a.text.now a.at c.loop-i.i (omega arith))
+    elim (dec_le a.at c.loop-i.i) [
+      | yes past ↦ omega (arith, none_past a.text.now a.at c.loop-i.i past)
+      | no before ↦ omega (arith, none_more a.text.now a.at c.loop-i.i (omega arith))
+    ]
