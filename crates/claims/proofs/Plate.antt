@@ -98,16 +98,16 @@ module _ (machine : Machine) (calls : Calls) (cycle : Cycle) (n : Naming) (is : 
   drilling m = record { motion = Drilling cycle; plane = m.plane; unit = m.unit; distance = m.distance; origin = m.origin; back = m.back }
 
   -- the values of a place's words, and those of Z and R
-  abbrev x : Modes → Spot → Value
+  abbrev x : Modes → Spot → Option Len
   x m p = value_in (drilling m) (byte "X") p.x
 
-  abbrev y : Modes → Spot → Value
+  abbrev y : Modes → Spot → Option Len
   y m p = value_in (drilling m) (byte "Y") p.y
 
-  abbrev z : Modes → Value
+  abbrev z : Modes → Option Len
   z m = value_in (drilling m) (byte "Z") n.z
 
-  abbrev r : Modes → Value
+  abbrev r : Modes → Option Len
   r m = value_in (drilling m) (byte "R") n.r
 
   said_full : (m : Modes) (p : Spot) → said_by machine m (in_full n p) ≡ said true (drilling m) (given_by (x m p)) (given_by (y m p)) (given_by (z m)) (given_by (r m))
@@ -245,7 +245,7 @@ module _ (machine : Machine) (calls : Calls) (cycle : Cycle) (n : Naming) (is : 
       abbrev full_verdict : Verdict
       full_verdict = exec_words machine calls room here 0 (these (in_full n p))
 
-      module _ {vx vy : Value} (ex : x m p ≡ vx) (ey : y m p ≡ vy) where
+      module _ {vx vy : Option Len} (ex : x m p ≡ vx) (ey : y m p ≡ vy) where
         abbrev short_said : Said
         short_said = said false (drilling m) (given_by vx) (given_by vy) missing missing
 

@@ -1,4 +1,5 @@
 -- The order of refusals, step by step. Assumes nothing.
+use Rattle.std.specs.Prelude.{Result, Ok, Err}
 use Rattle.terms.proofs.Common.{ℕ, ◌+◌, ◌≡◌, refl, sym, ◌∙◌, ap, Bool, true, false, not, Option, None, Some, List, [], ◌∷◌, map, arith, ltb, length}
 use Rattle.terms.specs.Terms.{all, first_of}
 use Rattle.refusals.specs.declared.Refusal.{Refusal}

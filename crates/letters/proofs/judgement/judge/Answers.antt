@@ -1,5 +1,5 @@
 -- `letters::judgement::judge` meets its contract. The invariant: what is left gives the judgement of all.
-use Rattle.terms.proofs.Common.{◌≡◌, sym, ◌∙◌, arith, get_or, not-true, not-false}
+use Rattle.terms.proofs.Common.{◌≡◌, sym, ◌∙◌, arith, get_or}
 use Rattle.words.{specs.Packed.words_in, proofs.Packed.word_at}
 use Rattle.letters.proofs.{Judging.judge_unused}
 use Rattle.letters.proofs.Places.{so_far, kept_first, past_bad, past_fit, ended_bad, ended_fine}
