@@ -9,7 +9,7 @@ ghost use Rattle.execution.specs.BlockReading.{JudgedAs, BlockReadAs};
 
 use crate::BlockRead;
 use blocks::Said;
-use letters::{Judged, Speeds};
+use letters::{Speeds, Unfit};
 use reading::Reading;
 use refusals::{Blame, Refusal};
 use settings::State;
@@ -38,15 +38,15 @@ fn judge_words(
     let plane = modes.plane;
     let centred = letters::has_centre(code, plane, stood[8], stood[9], stood[10]);
     match letters::judge(speeds, modes, code, centred, words, places, read.count) {
-        Judged::Unused(byte) => Err(Blame {
+        Err(Unfit::Unused(byte)) => Err(Blame {
             refusal: Refusal::AddressUndefined,
             byte,
         }),
-        Judged::Bad(byte) => Err(Blame {
+        Err(Unfit::Bad(byte)) => Err(Blame {
             refusal: Refusal::BadParameter,
             byte,
         }),
-        Judged::Fine(values) => {
+        Ok(values) => {
             let said = Said {
                 modes,
                 code,

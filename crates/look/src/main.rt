@@ -13,12 +13,12 @@ ghost use Rattle.letters.specs.{Letters.code_under, Letters.has_centre, Judging.
 
 use files::STDIN_FILENO;
 use lengths::{Len, Point};
-use letters::{Judged, Speeds};
+use letters::{Speeds, Unfit};
 use programs::Programs;
 use reading::Reading;
 use refusals::{Place, Refusal};
 use settings::Modes;
-use std::io::{Print, Result};
+use std::io::Print;
 use words::{Given, Values};
 
 fn main(rt: HostRuntime) {
@@ -32,7 +32,7 @@ fn main(rt: HostRuntime) {
 }
 
 // Without the first `%` nothing else is looked at.
-fn show_data(rt: &impl Print, s: &[u8]) -> Result<()> {
+fn show_data(rt: &impl Print, s: &[u8]) -> std::io::Result<()> {
     if s.len() == 0 {
         return show_first_block(rt);
     }
@@ -44,15 +44,15 @@ fn show_data(rt: &impl Print, s: &[u8]) -> Result<()> {
     }
 }
 
-fn show_first_block(rt: &impl Print) -> Result<()> {
+fn show_first_block(rt: &impl Print) -> std::io::Result<()> {
     show_bad_opening(rt, Refusal::FirstBlock, Place { block: 1, byte: 0 })
 }
 
-fn show_bad_opening(rt: &impl Print, refusal: Refusal, place: Place) -> Result<()> {
+fn show_bad_opening(rt: &impl Print, refusal: Refusal, place: Place) -> std::io::Result<()> {
     println!(rt; "openings refused {} {place}", refusals::number(refusal))
 }
 
-fn show_openings(rt: &impl Print, s: &[u8]) -> Result<()>
+fn show_openings(rt: &impl Print, s: &[u8]) -> std::io::Result<()>
     requires { 0 < length s.now }
 {
     match programs::find_programs(s) {
@@ -62,7 +62,7 @@ fn show_openings(rt: &impl Print, s: &[u8]) -> Result<()>
 }
 
 // The main program, and the subprograms that are in use.
-fn show_programs(rt: &impl Print, t: Programs) -> Result<()> {
+fn show_programs(rt: &impl Print, t: Programs) -> std::io::Result<()> {
     println!(rt; "openings main {} {}", t.main.block, t.main.byte)?;
     for p in t.subs.iter().take(t.count) {
         println!(rt; "sub {} {} {}", p.number, p.block, p.byte)?;
@@ -71,7 +71,7 @@ fn show_programs(rt: &impl Print, t: Programs) -> Result<()> {
 }
 
 // The blocks after the first, up to the closing `%`. An opening is no block that is read.
-fn show_blocks(rt: &impl Print, s: &[u8]) -> Result<()> {
+fn show_blocks(rt: &impl Print, s: &[u8]) -> std::io::Result<()> {
     let mut at = lines::next_block(s, 0);
     let mut modes = first_modes();
     for number in 2..usize::MAX {
@@ -101,7 +101,7 @@ fn first_modes() -> Modes
 }
 
 // What a block comes to, and the modes that hold after it. A refused block leaves them as they were.
-fn show_block(rt: &impl Print, s: &[u8], at: usize, modes: Modes) -> Result<Modes>
+fn show_block(rt: &impl Print, s: &[u8], at: usize, modes: Modes) -> std::io::Result<Modes>
     requires { at < length s.now }
 {
     let mut words = [0u64; 13];
@@ -133,7 +133,12 @@ fn after_slash(s: &[u8], at: usize) -> usize
 }
 
 // What the block's code makes of its words. The codes' group 7 is G04 alone.
-fn judged(range: Speeds, read: Reading, words: &[u64; 13], places: &[usize; 13]) -> Judged
+fn judged(
+    range: Speeds,
+    read: Reading,
+    words: &[u64; 13],
+    places: &[usize; 13],
+) -> Result<Values, Unfit>
     requires { Stored (words_in words.now places.now) read.count }
     ensures { (ws : List Word) → CentreSeen ws (get_or read.seen.letters 8 false) (get_or read.seen.letters 9 false) (get_or read.seen.letters 10 false) → result ≡ judged_by range read.seen.modes (code_under read.seen.misc (get_or read.seen.groups 7 false) read.seen.modes.motion) (has_centre (code_under read.seen.misc (get_or read.seen.groups 7 false) read.seen.modes.motion) read.seen.modes.plane ws) (take read.count (words_in words.now places.now)) }
 {
@@ -160,17 +165,22 @@ fn speeds() -> Speeds
 }
 
 // Answers with the modes that hold after the block.
-fn show_judged(rt: &impl Print, verdict: Judged, before: Modes, after: Modes) -> Result<Modes> {
+fn show_judged(
+    rt: &impl Print,
+    verdict: Result<Values, Unfit>,
+    before: Modes,
+    after: Modes,
+) -> std::io::Result<Modes> {
     match verdict {
-        Judged::Unused(place) => {
+        Err(Unfit::Unused(place)) => {
             show_refused(rt, Refusal::AddressUndefined, place)?;
             Ok(before)
         }
-        Judged::Bad(place) => {
+        Err(Unfit::Bad(place)) => {
             show_refused(rt, Refusal::BadParameter, place)?;
             Ok(before)
         }
-        Judged::Fine(values) => {
+        Ok(values) => {
             show_values(rt, values)?;
             Ok(after)
         }
@@ -178,11 +188,11 @@ fn show_judged(rt: &impl Print, verdict: Judged, before: Modes, after: Modes) ->
 }
 
 // A block's refusal and its place, on the block's line.
-fn show_refused(rt: &impl Print, refusal: Refusal, byte: usize) -> Result<()> {
+fn show_refused(rt: &impl Print, refusal: Refusal, byte: usize) -> std::io::Result<()> {
     println!(rt; " {} {byte}", refusals::number(refusal))
 }
 
-fn show_values(rt: &impl Print, v: Values) -> Result<()> {
+fn show_values(rt: &impl Print, v: Values) -> std::io::Result<()> {
     rt.print(" words")?;
     show_value(rt, "X", v.x)?;
     show_value(rt, "Y", v.y)?;
@@ -198,7 +208,7 @@ fn show_values(rt: &impl Print, v: Values) -> Result<()> {
 }
 
 // A letter whose word does not stand is left out.
-fn show_value(rt: &impl Print, letter: &str, g: Given) -> Result<()> {
+fn show_value(rt: &impl Print, letter: &str, g: Given) -> std::io::Result<()> {
     if !g.stands {
         return Ok(());
     }
