@@ -1,7 +1,7 @@
 -- How blocks follow each other, byte by byte: what a walk over places needs.
 use Rattle.std.specs.Prelude.{if◌then◌else◌}
 use Rattle.std.specs.List.{list_any}
-use Rattle.terms.proofs.Common.{ℕ, zero, suc, ◌+◌, ◌-◌, ◌≤◌, ◌<◌, ◌≡◌, refl, sym, ◌∙◌, ap, true, false, ◌&&◌, ◌||◌, List, [], ◌∷◌, arith, add-one, ℕ_discrete, eq-eqb, ne_eqb, eqb, length, take, drop, get_or, drop_of_length-le, drop-cons, drop-drop}
+use Rattle.terms.proofs.Common.{ℕ, zero, suc, ◌+◌, ◌-◌, ◌≤◌, ◌<◌, ◌≡◌, refl, sym, ◌∙◌, ap, true, false, ◌&&◌, ◌||◌, List, [], ◌∷◌, arith, add-one, ℕ_discrete, eq-eqb, ne_eqb, eqb, length, take, drop, get_or, drop_of_length-le, drop-cons, drop-drop, length-drop}
 use Rattle.terms.{proofs.Laws.either_left, proofs.Laws.either_right}
 use Rattle.lines.specs.{Blocks.begins_with, Blocks.text_from, Blocks.no_text, Blocks.length_from, Blocks.block_from, Blocks.blocks_after, Blocks.is_percent, Serving.blocks_from}
 
@@ -29,13 +29,19 @@ pub length_at_more :
 length_at_more l at h e = rw (at_place l at) (length_more (get_or l at 0) (drop (at + 1) l) e)
 
 -- so many bytes have no LF among them
-pub none_soon : (k : ℕ) (bs : List ℕ) → k ≤ length bs → list_any (λ b. eqb b 10) (take k bs) ≡ false → length_from bs ≡ k + length_from (drop k bs)
+none_soon : (k : ℕ) (bs : List ℕ) → k ≤ length bs → list_any (λ b. eqb b 10) (take k bs) ≡ false → length_from bs ≡ k + length_from (drop k bs)
 unfolding length_from
 none_soon zero bs h e = omega arith
 none_soon (suc k) [] h e = absurd (omega arith)
 none_soon (suc k) (b ∷ bs) h e =
     let rest = none_soon k bs (omega arith) (either_right (eqb b 10) _ e) in
     rw (either_left (eqb b 10) _ e) (omega (arith, rest))
+
+pub eight_passed :
+    (l : List ℕ) (at n : ℕ) → list_any (λ b. eqb b 10) (take n (drop at l)) ≡ false → n ≡ 8 → at + 8 ≤ length l
+    → length_from (drop at l) ≡ 8 + length_from (drop (at + 8) l)
+eight_passed l at n e is h =
+    rw (← drop-drop 8 at l) (none_soon 8 (drop at l) (omega (arith, length-drop at l)) (rw is at e))
 
 pub length_at_end : (l : List ℕ) (at : ℕ) → length l ≤ at → length_from (drop at l) ≡ 0
 unfolding length_from
