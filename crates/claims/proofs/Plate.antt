@@ -1,6 +1,6 @@
 -- Document 02, #102, "Holes after the first": a block that names a cycle with Z and R, and then blocks of X and Y, give the records of
 -- blocks that name all of it each. So it is in G90 and in G91, under G98 and under G99, with every cycle. Assumes nothing.
-use Rattle.terms.proofs.Common.{ℕ, ◌-◌, ◌≡◌, refl, sym, ◌∙◌, ap, Bool, true, false, not, ◌&&◌, None, Some, List, [], ◌∷◌, map, arith, eq-eqb}
+use Rattle.terms.proofs.Common.{ℕ, ◌-◌, ◌≡◌, refl, sym, ◌∙◌, ap, Bool, true, false, not, ◌&&◌, Option, None, Some, List, [], ◌∷◌, map, arith, eq-eqb}
 use Rattle.terms.specs.Terms.{byte, any, first, first_of, lookup}
 use Rattle.refusals.specs.declared.Refusal.TheVariants.{BadParameter}
 use Rattle.refusals.specs.declared.Blame.{Blame}
@@ -8,7 +8,7 @@ use Rattle.lengths.specs.{declared.Len.Len, declared.Point.Point, Points.at_heig
 use Rattle.codes.specs.Codes.{group_of, is_group_a, is_g04, clash, misc_number, is_m, cycle_number}
 use Rattle.codes.specs.declared.{Cycle.Cycle, Motion.TheVariants.Drilling, Plane.Plane, Code.TheVariants.GroupA, Misc.TheVariants.Other}
 use Rattle.codes.specs.declared.Cycle.TheVariants.{G81, G82, G85, G89}
-use Rattle.words.specs.{declared.Number.Number, declared.Word.Word, declared.Given.Given, declared.Value.Value, declared.Value.TheVariants.Fit, declared.Value.TheVariants.Bad, Values.missing, Values.value_of, Words.these}
+use Rattle.words.specs.{declared.Number.Number, declared.Word.Word, declared.Given.Given, Values.missing, Values.value_of, Words.these}
 use Rattle.records.specs.{declared.Record.Record, Layout.room_of, Path.end_of}
 use Rattle.settings.specs.{declared.Modes.Modes, declared.State.State, Settings.switched, Settings.or_else}
 use Rattle.settings.specs.CycleWords.{same_cycle, kept_before, under_by, stands_with, under_with, kept_with, kept_under}
@@ -58,10 +58,10 @@ module _ (machine : Machine) (calls : Calls) (room : ℕ) (s : State) (ws : List
       let passed = all_none (blames machine calls room s 0 ws b) h.0 in
       (word_none BadParameter (first_bad_value machine.speeds b.modes b.code ws) passed.1.1.0, cc)
 
-fit_of : (v : Value) → is_bad v ≡ false → (l : Len) × (v ≡ Fit l)
+fit_of : (v : Option Len) → is_bad v ≡ false → (l : Len) × (v ≡ Some l)
 unfolding is_bad
-fit_of (Fit l) e = (l, refl)
-fit_of Bad e = let no : ◌≡◌ {A = ℕ} 0 1 = cc in absurd (omega arith)
+fit_of (Some l) e = (l, refl)
+fit_of None e = let no : ◌≡◌ {A = ℕ} 0 1 = cc in absurd (omega arith)
 
 -- ---- what the words of both kinds of block say
 
@@ -69,7 +69,7 @@ module _ (machine : Machine) (calls : Calls) (cycle : Cycle) (n : Naming) (is : 
   abbrev code : BlockCode
   code = Moving (Drilling cycle)
 
-  abbrev value_in : Modes → ℕ → Number → Value
+  abbrev value_in : Modes → ℕ → Number → Option Len
   value_in m letter k = word_value machine.speeds m code (word letter k)
 
   abbrev said : Bool → Modes → Given → Given → Given → Given → Said
@@ -98,16 +98,16 @@ module _ (machine : Machine) (calls : Calls) (cycle : Cycle) (n : Naming) (is : 
   drilling m = record { motion = Drilling cycle; plane = m.plane; unit = m.unit; distance = m.distance; origin = m.origin; back = m.back }
 
   -- the values of a place's words, and those of Z and R
-  abbrev x : Modes → Spot → Value
+  abbrev x : Modes → Spot → Option Len
   x m p = value_in (drilling m) (byte "X") p.x
 
-  abbrev y : Modes → Spot → Value
+  abbrev y : Modes → Spot → Option Len
   y m p = value_in (drilling m) (byte "Y") p.y
 
-  abbrev z : Modes → Value
+  abbrev z : Modes → Option Len
   z m = value_in (drilling m) (byte "Z") n.z
 
-  abbrev r : Modes → Value
+  abbrev r : Modes → Option Len
   r m = value_in (drilling m) (byte "R") n.r
 
   said_full : (m : Modes) (p : Spot) → said_by machine m (in_full n p) ≡ said true (drilling m) (given_by (x m p)) (given_by (y m p)) (given_by (z m)) (given_by (r m))
@@ -149,7 +149,7 @@ module _ (machine : Machine) (calls : Calls) (cycle : Cycle) (n : Naming) (is : 
 
   -- ---- on a plate: the cycle is on, and its Z and R were written under the G90 or G91 that is on
 
-  module _ (m : Modes) {zv rv : Len} (ez : z m ≡ Fit zv) (er : r m ≡ Fit rv) where
+  module _ (m : Modes) {zv rv : Len} (ez : z m ≡ Some zv) (er : r m ≡ Some rv) where
     abbrev state_of : Ground → State
     state_of g =
         record {
@@ -245,7 +245,7 @@ module _ (machine : Machine) (calls : Calls) (cycle : Cycle) (n : Naming) (is : 
       abbrev full_verdict : Verdict
       full_verdict = exec_words machine calls room here 0 (these (in_full n p))
 
-      module _ {vx vy : Value} (ex : x m p ≡ vx) (ey : y m p ≡ vy) where
+      module _ {vx vy : Option Len} (ex : x m p ≡ vx) (ey : y m p ≡ vy) where
         abbrev short_said : Said
         short_said = said false (drilling m) (given_by vx) (given_by vy) missing missing
 
@@ -297,14 +297,14 @@ module _ (machine : Machine) (calls : Calls) (cycle : Cycle) (n : Naming) (is : 
       unfolding first_bad_value first is_bad given_by
       alike = go (x m p) (y m p) refl refl
         where
-          go : (vx vy : Value) → x m p ≡ vx → y m p ≡ vy → Alike
-          go Bad vy ex ey =
+          go : (vx vy : Option Len) → x m p ≡ vx → y m p ≡ vy → Alike
+          go None vy ex ey =
               let bad : first_bad_value machine.speeds (drilling m) code (placed p) ≡ Some (word (byte "X") p.x) = rw ex in
               refused_alike (short_bad ex ey bad) (full_bad ex ey bad)
-          go (Fit xv) Bad ex ey =
+          go (Some xv) None ex ey =
               let bad : first_bad_value machine.speeds (drilling m) code (placed p) ≡ Some (word (byte "Y") p.y) = rw (ex, ey) in
               refused_alike (short_bad ex ey bad) (full_bad ex ey bad)
-          go (Fit xv) (Fit yv) ex ey =
+          go (Some xv) (Some yv) ex ey =
               record {
                 same = short_is ex ey ∙ judged_same xv yv ∙ sym (full_is ex ey);
                 leads =
@@ -351,7 +351,7 @@ module _ (machine : Machine) (calls : Calls) (cycle : Cycle) (n : Naming) (is : 
     both blocks v = came_by v room (λ left next. came_to machine calls left next blocks)
 
     -- an accepted one leaves a plate's settings
-    first_leaves : {zv rv : Len} (ez : z m₀ ≡ Fit zv) (er : r m₀ ≡ Fit rv) → (g : Ground) × (settled machine before first_said ≡ state_of m₀ ez er g)
+    first_leaves : {zv rv : Len} (ez : z m₀ ≡ Some zv) (er : r m₀ ≡ Some rv) → (g : Ground) × (settled machine before first_said ≡ state_of m₀ ez er g)
     unfolding settled working or_else kept_by kept_under kept_with stands_with under_with under_by given_by
     first_leaves ez er =
         let k = kept_before cycle m₀.motion before.at.z before.kept in (

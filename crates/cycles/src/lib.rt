@@ -110,8 +110,7 @@ pub fn levels_hold(h: Hole) -> bool
 pub fn return_level(h: Hole) -> Len
     ensures { result ≡ return_level h }
 {
-    let back = h.back;
-    match back {
+    match h.back {
         Return::ToInitial => h.initial,
         Return::ToR => h.r,
     }
@@ -130,8 +129,7 @@ fn up_count(cycle: Cycle, back: Return) -> usize
     ensures { UpLength cycle back result }
 {
     match cycle {
-        Cycle::G81 => 1,
-        Cycle::G82 => 1,
+        Cycle::G81 | Cycle::G82 => 1,
         _ => match back {
             Return::ToInitial => 2,
             Return::ToR => 1,
@@ -143,15 +141,13 @@ fn up_count(cycle: Cycle, back: Return) -> usize
 pub fn row_count(h: Hole) -> usize
     ensures { PassLength h result }
 {
-    let cycle = h.cycle;
-    let back = h.back;
     if !h.z.stands {
         return 1;
     }
     if h.dwell.stands {
-        return 4 + up_count(cycle, back);
+        return 4 + up_count(h.cycle, h.back);
     }
-    3 + up_count(cycle, back)
+    3 + up_count(h.cycle, h.back)
 }
 
 // The records of the way back up: the second one is the rapid that G98 adds to G85 and G89.
@@ -159,16 +155,12 @@ fn row_up(h: Hole, i: usize, p: Point) -> Row
     requires { i < length (leaving h.cycle h p) }
     ensures { Stands (leaving h.cycle h p) i (row_record result) }
 {
-    let cycle = h.cycle;
-    let feed = h.feed;
     if i == 1 {
         return Row::Rapid(lengths::at_height(p, h.initial));
     }
-    match cycle {
-        Cycle::G81 => Row::Rapid(lengths::at_height(p, return_level(h))),
-        Cycle::G82 => Row::Rapid(lengths::at_height(p, return_level(h))),
-        Cycle::G85 => Row::Cut(lengths::at_height(p, h.r), feed),
-        Cycle::G89 => Row::Cut(lengths::at_height(p, h.r), feed),
+    match h.cycle {
+        Cycle::G81 | Cycle::G82 => Row::Rapid(lengths::at_height(p, return_level(h))),
+        Cycle::G85 | Cycle::G89 => Row::Cut(lengths::at_height(p, h.r), h.feed),
     }
 }
 

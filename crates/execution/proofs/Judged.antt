@@ -1,10 +1,11 @@
 -- What was read of a block's words is what the rules say of them. Assumes nothing.
+use Rattle.std.specs.Prelude.{Result, Ok}
 use Rattle.terms.proofs.Common.{ℕ, ◌≡◌, ◌∙◌, Bool, false, List, arith, get_or, take}
 use Rattle.codes.specs.Codes.{is_group_a, is_g04}
 use Rattle.words.specs.declared.{Word.Word, Values.Values}
 use Rattle.setup.specs.{declared.Bed.Bed, Fair.Fair}
 use Rattle.settings.specs.declared.State.{State}
-use Rattle.letters.specs.declared.{BlockCode.BlockCode, Judged.Judged, Judged.TheVariants.Fine}
+use Rattle.letters.specs.declared.{BlockCode.BlockCode, Unfit.Unfit}
 use Rattle.letters.{specs.Judging.CentreSeen, specs.Judging.judged_by, proofs.Valued.judged_valued}
 use Rattle.letters.specs.Letters.{modes_in, names_group_a, names_g04, code_under, block_code, has_centre}
 use Rattle.reading.specs.declared.Reading.{Reading}
@@ -40,7 +41,7 @@ module _ (bed : Bed) (s : State) (read : Reading) (ws held : List Word) (says : 
 
     -- the judgement of the words that were kept is that of all words
     pub judged_is :
-        {centred : Bool} {j : Judged}
+        {centred : Bool} {j : Result Values Unfit}
         → ((us : List Word) → CentreSeen us (stood 8) (stood 9) (stood 10) → centred ≡ has_centre code read.seen.modes.plane us)
         → j ≡ judged_by (record { lowest = bed.lowest; highest = bed.highest }) read.seen.modes code centred (take read.count held)
         → j ≡ judged_by (machine_of bed).speeds said.modes said.code (has_centre said.code said.modes.plane ws) ws
@@ -53,7 +54,7 @@ module _ (bed : Bed) (s : State) (read : Reading) (ws held : List Word) (says : 
 
     module _
         {values : Values}
-        (e : Fine values ≡ judged_by (machine_of bed).speeds said.modes said.code (has_centre said.code said.modes.plane ws) ws)
+        (e : Ok values ≡ judged_by (machine_of bed).speeds said.modes said.code (has_centre said.code said.modes.plane ws) ws)
       where
         abbrev found : Said
         found =

@@ -1,4 +1,5 @@
 -- The order of refusals, step by step. Assumes nothing.
+use Rattle.std.specs.Prelude.{Result, Ok, Err}
 use Rattle.terms.proofs.Common.{ℕ, ◌+◌, ◌≡◌, refl, sym, ◌∙◌, ap, Bool, true, false, not, Option, None, Some, List, [], ◌∷◌, map, arith, ltb, length}
 use Rattle.terms.specs.Terms.{all, first_of}
 use Rattle.refusals.specs.declared.Refusal.{Refusal}
@@ -10,7 +11,7 @@ use Rattle.records.specs.{Layout.list_bytes, Layout.room_of, Path.path_stays_in,
 use Rattle.records.proofs.{Laid.list_length, Written.wrote_none, Moved.moved_room}
 use Rattle.settings.specs.declared.State.{State}
 use Rattle.letters.specs.{Letters.first_that_may_not, Letters.has_centre, Letters.first_unused, Letters.first_bad_value, Letters.values_of, Judging.unused_or, Judging.bad_or, Judging.judged_by}
-use Rattle.letters.specs.declared.Judged.{Judged, TheVariants.Fine, TheVariants.Unused, TheVariants.Bad}
+use Rattle.letters.specs.declared.Unfit.{Unfit, TheVariants.Unused, TheVariants.Bad}
 use Rattle.reading.specs.Whole.{standing, status_of}
 use Rattle.blocks.specs.declared.{Said.Said, Control.Control, Executed.Executed, Executed.TheVariants.Refused, Executed.TheVariants.Accepted}
 use Rattle.blocks.{specs.Machine.Machine, specs.Doing.made_of, specs.Doing.executed, specs.Doing.Does, proofs.Accepting.past_all}
@@ -135,14 +136,14 @@ module _ (o p : Option Word) (v : Values) where
     pub good : p ≡ None
     pub are : values ≡ v
 
-fine_both : (o p : Option Word) (v values : Values) → unused_or o (bad_or p v) ≡ Fine values → Passed o p v values
+fine_both : (o p : Option Word) (v values : Values) → unused_or o (bad_or p v) ≡ Ok values → Passed o p v values
 unfolding unused_or bad_or
 fine_both None None v values e = record { used = refl; good = refl; are = cc }
 fine_both None (Some w) v values e = let no : ◌≡◌ {A = ℕ} 0 1 = cc in absurd (omega arith)
 fine_both (Some w) p v values e = let no : ◌≡◌ {A = ℕ} 0 1 = cc in absurd (omega arith)
 
 unused_stop :
-    (o p : Option Word) (v : Values) (byte : ℕ) → unused_or o (bad_or p v) ≡ Unused byte
+    (o p : Option Word) (v : Values) (byte : ℕ) → unused_or o (bad_or p v) ≡ Err (Unused byte)
     → at_word AddressUndefined o ≡ Some (record { refusal = AddressUndefined; byte = byte })
 unfolding unused_or bad_or at_word
 unused_stop None None v byte e = let no : ◌≡◌ {A = ℕ} 0 1 = cc in absurd (omega arith)
@@ -153,7 +154,7 @@ pub record Stopped (o p : Option Word) (byte : ℕ) : Type 0 where
   pub used : o ≡ None
   pub named : at_word BadParameter p ≡ Some (record { refusal = BadParameter; byte = byte })
 
-bad_stop : (o p : Option Word) (v : Values) (byte : ℕ) → unused_or o (bad_or p v) ≡ Bad byte → Stopped o p byte
+bad_stop : (o p : Option Word) (v : Values) (byte : ℕ) → unused_or o (bad_or p v) ≡ Err (Bad byte) → Stopped o p byte
 unfolding unused_or bad_or at_word
 bad_stop None None v byte e = let no : ◌≡◌ {A = ℕ} 0 1 = cc in absurd (omega arith)
 bad_stop None (Some w) v byte e = let same : w.at ≡ byte = cc in record { used = refl; named = rw same }
@@ -172,11 +173,11 @@ module _ (machine : Machine) (calls : Calls) (room : ℕ) (s : State) (start : �
   abbrev bad : Option Word
   bad = first_bad_value machine.speeds b.modes b.code ws
 
-  abbrev judgement : Judged
+  abbrev judgement : Result Values Unfit
   judgement = judged_by machine.speeds b.modes b.code centred ws
 
   pub values_past :
-      {values : Values} → Fine values ≡ judgement
+      {values : Values} → Ok values ≡ judgement
       → (judged_from 1 machine calls room s start ws b ≡ judged_from 3 machine calls room s start ws b)
       × (Passed unused bad (values_of machine.speeds b.modes b.code ws) values)
   unfolding judged_from blames judged_by
@@ -184,12 +185,12 @@ module _ (machine : Machine) (calls : Calls) (room : ℕ) (s : State) (start : �
       let f = fine_both unused bad (values_of machine.speeds b.modes b.code ws) values (sym e) in
       (past _ _ _ (word_past AddressUndefined unused f.used) ∙ past _ _ _ (word_past BadParameter bad f.good), f)
 
-  pub unused_stops : {byte : ℕ} → Unused byte ≡ judgement → judged_from 1 machine calls room s start ws b ≡ refused (record { refusal = AddressUndefined; byte = byte })
+  pub unused_stops : {byte : ℕ} → Err (Unused byte) ≡ judgement → judged_from 1 machine calls room s start ws b ≡ refused (record { refusal = AddressUndefined; byte = byte })
   unfolding judged_from blames judged_by
   unused_stops {byte} e =
       stop _ _ _ _ (unused_stop unused bad (values_of machine.speeds b.modes b.code ws) byte (sym e))
 
-  pub bad_stops : {byte : ℕ} → Bad byte ≡ judgement → judged_from 1 machine calls room s start ws b ≡ refused (record { refusal = BadParameter; byte = byte })
+  pub bad_stops : {byte : ℕ} → Err (Bad byte) ≡ judgement → judged_from 1 machine calls room s start ws b ≡ refused (record { refusal = BadParameter; byte = byte })
   unfolding judged_from blames judged_by
   bad_stops {byte} e =
       let f = bad_stop unused bad (values_of machine.speeds b.modes b.code ws) byte (sym e) in

@@ -9,7 +9,7 @@ ghost use Rattle.execution.specs.BlockReading.{JudgedAs, BlockReadAs};
 
 use crate::BlockRead;
 use blocks::Said;
-use letters::{Judged, Speeds};
+use letters::{Speeds, Unfit};
 use reading::{Reading, Status};
 use refusals::Refusal;
 use settings::State;
@@ -33,9 +33,9 @@ fn judge_words(bed: Bed, read: Reading, words: &[u64; 13], places: &[usize; 13])
     let plane = modes.plane;
     let centred = letters::has_centre(code, plane, stood[8], stood[9], stood[10]);
     match letters::judge(speeds, modes, code, centred, words, places, read.count) {
-        Judged::Unused(byte) => BlockRead::Refused(Refusal::AddressUndefined, byte),
-        Judged::Bad(byte) => BlockRead::Refused(Refusal::BadParameter, byte),
-        Judged::Fine(values) => {
+        Err(Unfit::Unused(byte)) => BlockRead::Refused(Refusal::AddressUndefined, byte),
+        Err(Unfit::Bad(byte)) => BlockRead::Refused(Refusal::BadParameter, byte),
+        Ok(values) => {
             let said = Said {
                 modes,
                 code,

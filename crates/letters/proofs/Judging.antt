@@ -1,15 +1,15 @@
 -- The judgement of a block's words, word by word: what the words that are left make of it is the same at every word. Assumes
 -- nothing.
-use Rattle.std.specs.Prelude.{if◌then◌else◌}
-use Rattle.terms.proofs.Common.{ℕ, ◌+◌, ◌≤◌, ◌<◌, ◌≡◌, refl, sym, ◌∙◌, Bool, true, false, ◌&&◌, ◌||◌, Some, List, [], ◌∷◌, arith, add-one, eqb, length, take, drop, get_or, drop_of_length-le, length-take-le, drop-cons, get_or-take, ne_eqb}
+use Rattle.std.specs.Prelude.{if◌then◌else◌, Result, Ok, Err}
+use Rattle.terms.proofs.Common.{ℕ, ◌+◌, ◌≤◌, ◌<◌, ◌≡◌, refl, sym, ◌∙◌, Bool, true, false, ◌&&◌, ◌||◌, Option, None, Some, List, [], ◌∷◌, arith, add-one, eqb, length, take, drop, get_or, drop_of_length-le, length-take-le, drop-cons, get_or-take, ne_eqb}
 use Rattle.terms.specs.Terms.{byte, bytes, first}
 use Rattle.codes.proofs.Tables.{Others}
-use Rattle.words.specs.{declared.Word.Word, declared.Given.Given, declared.Use.Use, declared.Value.Value, declared.Values.Values, Values.no_values}
+use Rattle.words.specs.{declared.Word.Word, declared.Given.Given, declared.Use.Use, declared.Values.Values, Values.no_values}
 use Rattle.settings.specs.declared.Modes.{Modes}
-use Rattle.letters.specs.declared.{Speeds.Speeds, BlockCode.BlockCode, Judged.Judged, Judged.TheVariants.Fine, Judged.TheVariants.Unused, Judged.TheVariants.Bad}
+use Rattle.letters.specs.declared.{Speeds.Speeds, BlockCode.BlockCode, Unfit.Unfit, Unfit.TheVariants.Unused, Unfit.TheVariants.Bad}
 use Rattle.letters.specs.Letters.{use_of, is_nothing, is_unused, first_unused, word_value, is_bad, first_bad_value, given_by, with_value, values_after}
 use Rattle.letters.specs.Judging.{unused_or, bad_or, judged_by, value_next, judged_next, judged_all, judged_after}
-use Rattle.words.specs.declared.Value.TheVariants as value
+use Rattle.lengths.specs.declared.Len.{Len}
 
 -- a letter that is none of a value's
 pub no_value : (v : Values) (g : Given) (n : ℕ) → Others n (bytes "SFPRKJIZYX") → v ≡ with_value v n g
@@ -31,25 +31,25 @@ no_value v g n h =
 module _ (speeds : Speeds) (m : Modes) (code : BlockCode) where
   -- ---- the first bad value, and the values
 
-  stays_bad : (ws : List Word) (at : ℕ) → judged_all speeds m code (Bad at) ws ≡ Bad at
+  stays_bad : (ws : List Word) (e : Unfit) → judged_all speeds m code (Err e) ws ≡ Err e
   unfolding judged_all judged_next
-  stays_bad [] at = refl
-  stays_bad (w ∷ ws) at = stays_bad ws at
+  stays_bad [] e = refl
+  stays_bad (w ∷ ws) e = stays_bad ws e
 
-  abbrev by_values : List Word → Values → Judged
+  abbrev by_values : List Word → Values → Result Values Unfit
   by_values ws v = bad_or (first_bad_value speeds m code ws) (values_after v speeds m code ws)
 
   value_next_lem :
-      (v : Values) (w : Word) (ws : List Word) (x : Value)
-      → ((u : Values) → judged_all speeds m code (Fine u) ws ≡ by_values ws u)
+      (v : Values) (w : Word) (ws : List Word) (x : Option Len)
+      → ((u : Values) → judged_all speeds m code (Ok u) ws ≡ by_values ws u)
       → judged_all speeds m code (value_next v w x) ws
       ≡ bad_or (if is_bad x then Some w else first_bad_value speeds m code ws)
       (values_after (with_value v w.letter (given_by x)) speeds m code ws)
   unfolding value_next bad_or is_bad given_by
-  value_next_lem v w ws (value.Fit x) rest = rest (with_value v w.letter (given_by (value.Fit x)))
-  value_next_lem v w ws value.Bad rest = stays_bad ws w.at
+  value_next_lem v w ws (Some x) rest = rest (with_value v w.letter (given_by (Some x)))
+  value_next_lem v w ws None rest = stays_bad ws (Bad w.at)
 
-  all_values : (ws : List Word) (v : Values) → judged_all speeds m code (Fine v) ws ≡ by_values ws v
+  all_values : (ws : List Word) (v : Values) → judged_all speeds m code (Ok v) ws ≡ by_values ws v
   unfolding judged_all judged_next bad_or first_bad_value first values_after
   all_values [] v = refl
   all_values (w ∷ ws) v = value_next_lem v w ws (word_value speeds m code w) (all_values ws)
@@ -61,15 +61,15 @@ module _ (speeds : Speeds) (m : Modes) (code : BlockCode) where
     ws = take count words
 
     -- what is left from place i on gives the judgement of all
-    abbrev pub LeftFrom : Judged → ℕ → Type 0
+    abbrev pub LeftFrom : Result Values Unfit → ℕ → Type 0
     LeftFrom passed i = judged_by speeds m code centred ws ≡ judged_after speeds m code centred passed (drop i ws)
 
-    pub judge_start : (v : Values) → v ≡ no_values → LeftFrom (Fine v) 0
+    pub judge_start : (v : Values) → v ≡ no_values → LeftFrom (Ok v) 0
     unfolding judged_by judged_after
     judge_start v e = rw (e, all_values ws no_values)
 
     pub judge_done :
-        (passed : Judged) (i : ℕ) → count ≤ length words → count ≤ i → LeftFrom passed i
+        (passed : Result Values Unfit) (i : ℕ) → count ≤ length words → count ≤ i → LeftFrom passed i
         → passed ≡ judged_by speeds m code centred ws
     unfolding judged_after judged_all first_unused first unused_or
     judge_done passed i few h left =
@@ -77,7 +77,7 @@ module _ (speeds : Speeds) (m : Modes) (code : BlockCode) where
         sym (left ∙ rw (drop_of_length-le ws past))
 
     module _
-        (passed : Judged) (i : ℕ) (w : Word) (is : get_or words i w ≡ w) (few : count ≤ length words) (h : i < count) (left : LeftFrom passed i)
+        (passed : Result Values Unfit) (i : ℕ) (w : Word) (is : get_or words i w ≡ w) (few : count ≤ length words) (h : i < count) (left : LeftFrom passed i)
       where
         next : drop i ws ≡ w ∷ drop (i + 1) ws
         next = rw (add-one, drop-cons ws i w (omega (arith, length-take-le count words few)), get_or-take count words i w h, is)
@@ -86,11 +86,11 @@ module _ (speeds : Speeds) (m : Modes) (code : BlockCode) where
             (u : Use) (t : Bool) (meaning : u ≡ use_of code m.plane w.letter)
             (test : t ≡ (is_nothing u || centred && eqb w.letter (byte "R")))
           where
-            pub judge_unused : t ≡ true → Unused w.at ≡ judged_by speeds m code centred ws
+            pub judge_unused : t ≡ true → Err (Unused w.at) ≡ judged_by speeds m code centred ws
             unfolding judged_after first_unused is_unused first unused_or
             judge_unused e = sym (left ∙ rw (next, ← meaning, ← test, e))
 
             pub judge_past :
-                (new : Judged) → t ≡ false → new ≡ judged_next speeds m code passed w → LeftFrom new (i + 1)
+                (new : Result Values Unfit) → t ≡ false → new ≡ judged_next speeds m code passed w → LeftFrom new (i + 1)
             unfolding judged_after judged_all first_unused is_unused first
             judge_past new e f = left ∙ rw (next, ← meaning, ← test, e, f)

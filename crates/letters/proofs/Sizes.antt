@@ -1,14 +1,14 @@
 -- How large the values of a block's words are, none of them being refused: each is within the limit of its letter's use. Assumes
 -- nothing.
 use Rattle.std.specs.Prelude.{if◌then◌else◌}
-use Rattle.terms.proofs.Common.{ℕ, ◌≤◌, min, ◌≡◌, refl, ◌∙◌, ap, Bool, true, false, not, ◌&&◌, None, Some, List, [], ◌∷◌, arith, leb, eqb, ℤ, pos, lt_z, leb-true, eqb-true}
+use Rattle.terms.proofs.Common.{ℕ, ◌≤◌, min, ◌≡◌, refl, ◌∙◌, ap, Bool, true, false, not, ◌&&◌, Option, None, Some, List, [], ◌∷◌, arith, leb, eqb, ℤ, pos, lt_z, leb-true, eqb-true}
 use Rattle.terms.specs.Terms.{byte, bytes, first, lookup, between}
 use Rattle.terms.proofs.Laws.{both_left, both_right, every_place, every_place_lem}
 use Rattle.lengths.{specs.declared.Len.Len, specs.Units.len, specs.View.Within, proofs.Tests.between_near}
 use Rattle.codes.specs.declared.Cycle.{Cycle, TheVariants.G81, TheVariants.G82, TheVariants.G85, TheVariants.G89}
 use Rattle.codes.specs.declared.{Motion.Motion, Plane.Plane, Plane.TheVariants.G17, Plane.TheVariants.G18, Plane.TheVariants.G19, Unit.Unit}
 use Rattle.codes.specs.declared.Motion.TheVariants.{Off, G00, G01, G02, G03, Drilling}
-use Rattle.words.specs.declared.{Number.Number, Word.Word, Use.Use, Value.Value, Value.TheVariants.Fit, Value.TheVariants.Bad, Given.Given, Values.Values}
+use Rattle.words.specs.declared.{Number.Number, Word.Word, Use.Use, Given.Given, Values.Values}
 use Rattle.words.specs.Values.{is_plain, signed, count_of, value_of, no_values}
 use Rattle.words.proofs.Bounds.{tested, length_near, feed_near, dwell_between}
 use Rattle.words.specs.declared.Use.TheVariants.{Nothing, Codes, Label, Program, Length, Feed, Speed, Dwell, Count}
@@ -41,31 +41,31 @@ more_within : {m n : ℕ} (z : ℤ) → leb m n ≡ true → Within m z → With
 more_within {m} {n} z e h = let f : m ≤ n = leb-true m n e in omega arith
 
 module _ (u : Unit) (lowest highest : ℤ) (low : Within 99_999 lowest) (high : Within 99_999 highest) (n : ℕ) (number : Number) (v : Len) where
-  speed_near : value_of u lowest highest Speed number ≡ Fit v → Within 99_999 v.v
+  speed_near : value_of u lowest highest Speed number ≡ Some v → Within 99_999 v.v
   unfolding value_of
   speed_near e =
       let z = pos number.digits in
       let t = tested (is_plain number && between lowest highest z) z v e in
       rw t.is (between_near 99_999 lowest highest z low high (both_right (is_plain number) (between lowest highest z) t.passed))
 
-  counted_near : value_of u lowest highest Count number ≡ Fit v → Within 9_999 v.v
+  counted_near : value_of u lowest highest Count number ≡ Some v → Within 9_999 v.v
   unfolding value_of
   counted_near e =
       let t = tested (not number.point) (pos (count_of number)) v e in
       rw t.is (count_near number)
 
-  dwell_near : value_of u lowest highest Dwell number ≡ Fit v → Within 3_600_000 v.v
+  dwell_near : value_of u lowest highest Dwell number ≡ Some v → Within 3_600_000 v.v
   dwell_near e =
       between_near 3_600_000 (pos 0) (pos 3_600_000) v.v (omega arith) (omega arith)
       (dwell_between u lowest highest number v e)
 
-  nothing_near : Fit (len (pos 0)) ≡ Fit v → Within n v.v
+  nothing_near : Some (len (pos 0)) ≡ Some v → Within n v.v
   nothing_near e = let f : v ≡ len (pos 0) = cc in rw f (omega arith)
 
   never : false ≡ true → Within n v.v
   never e = let no : ◌≡◌ {A = ℕ} 0 1 = cc in absurd (omega arith)
 
-  limited : (meaning : Use) → limits n meaning ≡ true → value_of u lowest highest meaning number ≡ Fit v → Within n v.v
+  limited : (meaning : Use) → limits n meaning ≡ true → value_of u lowest highest meaning number ≡ Some v → Within n v.v
   unfolding value_of
   limited Nothing h e = nothing_near e
   limited Codes h e = nothing_near e
@@ -95,7 +95,7 @@ module _ (speeds : Speeds) (m : Modes) (code : BlockCode) (low : Within 99_999 s
           go true e = new (eqb-true letter k e)
           go false e = was
 
-      word_near : (w : Word) (x : Len) → word_value speeds m code w ≡ Fit x → w.letter ≡ k → Within n x.v
+      word_near : (w : Word) (x : Len) → word_value speeds m code w ≡ Some x → w.letter ≡ k → Within n x.v
       unfolding word_value
       word_near w x e f =
           limited m.unit speeds.lowest.v speeds.highest.v low high n w.number x (use_of code m.plane w.letter)
@@ -109,14 +109,14 @@ module _ (speeds : Speeds) (m : Modes) (code : BlockCode) (low : Within 99_999 s
       all_near (w ∷ ws) v e was = go (word_value speeds m code w) refl e (all_near ws)
         where
           go :
-              (x : Value) → word_value speeds m code w ≡ x → (if is_bad x then Some w else first_bad_value speeds m code ws) ≡ None
+              (x : Option Len) → word_value speeds m code w ≡ x → (if is_bad x then Some w else first_bad_value speeds m code ws) ≡ None
               → ((u : Values) → first_bad_value speeds m code ws ≡ None → Within n (get u).v.v → Within n (get (values_after u speeds m code ws)).v.v)
               → Within n (get (values_after (with_value v w.letter (given_by x)) speeds m code ws)).v.v
-          go (Fit x) f g rest =
+          go (Some x) f g rest =
               let now : Given = record { stands = true; v = x } in
               rest (with_value v w.letter now) g
               (rw (is v w.letter now) (chosen_near w.letter now (get v) (word_near w x f) was))
-          go Bad f g rest = let no : ◌≡◌ {A = ℕ} 0 1 = cc in absurd (omega arith)
+          go None f g rest = let no : ◌≡◌ {A = ℕ} 0 1 = cc in absurd (omega arith)
 
 -- ---- what each letter means in a block
 

@@ -7,9 +7,10 @@ use Rattle.codes.specs.declared.{Cycle.Cycle, Cycle.TheVariants.G81, Cycle.TheVa
 use Rattle.codes.specs.declared.{Plane.Plane, Plane.TheVariants.G17, Plane.TheVariants.G18, Plane.TheVariants.G19, Code.Code, Code.TheVariants.Unknown, Misc.Misc, Misc.TheVariants.Other}
 use Rattle.codes.specs.declared.Motion.TheVariants.{Off, G00, G01, G02, G03, Drilling}
 use Rattle.codes.specs.Codes.{code_of, misc_of, group_of, is_group_a, is_g04, clash, is_m, is_no_m, ends_program}
-use Rattle.words.specs.declared.{Word.Word, Use.Use, Value.Value, Value.TheVariants.Fit, Value.TheVariants.Bad, Given.Given, Values.Values}
+use Rattle.words.specs.declared.{Word.Word, Use.Use, Given.Given, Values.Values}
 use Rattle.words.specs.Values.{is_plain, value_of, missing, no_values}
 use Rattle.words.specs.declared.Use.TheVariants.{Nothing, Codes, Label, Program, Length, Feed, Speed, Dwell, Count}
+use Rattle.lengths.specs.declared.Len.{Len}
 use Rattle.settings.specs.{declared.Modes.Modes, Settings.switched}
 use Rattle.letters.specs.declared.{Speeds.Speeds, BlockCode.BlockCode}
 use Rattle.letters.specs.declared.BlockCode.TheVariants.{Calling, Returning, Dwelling, Moving}
@@ -203,21 +204,21 @@ unfoldable pub first_unused : BlockCode → Plane → Bool → List Word → Opt
 first_unused code plane centred ws = first (is_unused code plane centred) ws
 
 -- "1 leftmost by value"
-unfoldable pub word_value : Speeds → Modes → BlockCode → Word → Value
+unfoldable pub word_value : Speeds → Modes → BlockCode → Word → Option Len
 word_value speeds m code w =
     value_of m.unit speeds.lowest.v speeds.highest.v (use_of code m.plane w.letter) w.number
 
-unfoldable pub is_bad : Value → Bool
-is_bad (Fit v) = false
-is_bad Bad = true
+unfoldable pub is_bad : Option Len → Bool
+is_bad (Some v) = false
+is_bad None = true
 
 unfoldable pub first_bad_value : Speeds → Modes → BlockCode → List Word → Option Word
 first_bad_value speeds m code ws = first (λ w. is_bad (word_value speeds m code w)) ws
 
 -- the values of the block's words, word by word
-unfoldable pub given_by : Value → Given
-given_by (Fit v) = record { stands = true; v = v }
-given_by Bad = missing
+unfoldable pub given_by : Option Len → Given
+given_by (Some v) = record { stands = true; v = v }
+given_by None = missing
 
 unfoldable pub with_value : Values → ℕ → Given → Values
 with_value v letter g =

@@ -1,8 +1,8 @@
 -- The values of a block's words by places: whether a word stands, and its value, each in a list of eleven.
 use Rattle.std.specs.Prelude.{◌<◌, ◌≡◌}
-use Rattle.terms.specs.Common.{ℕ, Bool, true, false, List, pos, length, get_or, set}
+use Rattle.terms.specs.Common.{ℕ, Bool, true, false, List, Some, pos, length, get_or, set}
 use Rattle.lengths.specs.{declared.Len.Len, Units.len}
-use Rattle.words.specs.declared.{Given.Given, Value.TheVariants.Fit, Values.Values}
+use Rattle.words.specs.declared.{Given.Given, Values.Values}
 use Rattle.letters.specs.Letters.{given_by, with_value}
 
 abbrev pub given_at : List Bool → List Len → ℕ → Given
@@ -32,4 +32,4 @@ pub record IsPlace (letter k : ℕ) : Type 0 where
   pub inside : k < 11
   pub puts :
       (stands : List Bool) (v : List Len) (z : Len) → length stands ≡ 11 → length v ≡ 11
-      → values_in (set stands k true) (set v k z) ≡ with_value (values_in stands v) letter (given_by (Fit z))
+      → values_in (set stands k true) (set v k z) ≡ with_value (values_in stands v) letter (given_by (Some z))

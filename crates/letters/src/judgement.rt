@@ -5,25 +5,16 @@ ghost use Rattle.terms.specs.Terms.{byte};
 ghost use Rattle.words.specs.Packed.{words_in};
 ghost use Rattle.letters.specs.{Letters.is_nothing, Judging.judged_by, Judging.Stored, Places.given_at, Places.values_in, Places.IsPlace};
 
-use crate::{BlockCode, Judged, Speeds};
+use crate::{BlockCode, Speeds, Unfit};
 use lengths::Len;
 use settings::Modes;
-use words::{Given, Use, Value, Values};
-
-fn is_nothing(meaning: Use) -> bool
-    ensures { result ≡ is_nothing meaning }
-{
-    match meaning {
-        Use::Nothing => true,
-        _ => false,
-    }
-}
+use words::{Given, Use, Values};
 
 // A letter without a meaning in the block, or an R beside a centre word.
 fn is_unused(meaning: Use, centred: bool, letter: u8) -> bool
     ensures { result ≡ (is_nothing meaning || centred && eqb letter (byte "R")) }
 {
-    is_nothing(meaning) | (centred & (letter == b'R'))
+    (meaning == Use::Nothing) | (centred & (letter == b'R'))
 }
 
 // The place of a letter's value in the arrays. N, G and M are no values: what they are worth goes to the last place,
@@ -85,38 +76,30 @@ pub fn judge(
     words: &[u64; 13],
     places: &[usize; 13],
     count: usize,
-) -> Judged
+) -> Result<Values, Unfit>
     requires { Stored (words_in words.now places.now) count }
     ensures { result ≡ judged_by speeds m code centred (take count (words_in words.now places.now)) }
 {
     let mut stands = [false; 11];
     let mut v = [Len::zero(); 11];
-    let mut bad = false;
-    let mut place = 0;
-    let mut i = 0;
-    while i < count {
+    let mut bad = None;
+    for i in 0..count {
         let w = words::unpack(words[i], places[i]);
-        i += 1;
-        let plane = m.plane;
-        let meaning = crate::use_of(code, plane, w.letter);
+        let meaning = crate::use_of(code, m.plane, w.letter);
         if is_unused(meaning, centred, w.letter) {
-            return Judged::Unused(w.at);
+            return Err(Unfit::Unused(w.at));
         }
-        let unit = m.unit;
-        let Value::Fit(z) = words::value_of(unit, speeds.lowest, speeds.highest, meaning, w.number)
-        else {
-            if !bad {
-                bad = true;
-                place = w.at;
-            }
+        let value = words::value_of(m.unit, speeds.lowest, speeds.highest, meaning, w.number);
+        let Some(z) = value else {
+            bad = bad.or(Some(w.at));
             continue;
         };
         let k = value_place(w.letter);
         stands[k] = true;
         v[k] = z;
     }
-    if bad {
-        return Judged::Bad(place);
+    match bad {
+        Some(place) => Err(Unfit::Bad(place)),
+        None => Ok(values_in(stands, v)),
     }
-    Judged::Fine(values_in(stands, v))
 }

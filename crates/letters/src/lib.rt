@@ -13,7 +13,7 @@ ghost use Rattle.letters.specs.Judging.{CentreSeen};
 use codes::{Cycle, Misc, Motion, Plane};
 pub use judgement::judge;
 use lengths::Len;
-use words::{Use, Values};
+use words::Use;
 
 // The code of a block that decides its letters.
 #[derive(Clone, Copy)]
@@ -31,11 +31,10 @@ pub struct Speeds {
     pub highest: Len,
 }
 
-// What the words of a block come to: their values, or the place of the first word that the block's code does not use, or
-// else of the first whose value is refused.
-#[derive(Clone, Copy)]
-pub enum Judged {
-    Fine(Values),
+// Why a block's words have no values, by the place of a word: of the first that the block's code does not use, or else of the
+// first whose value is refused.
+#[derive(Clone, Copy, PartialEq, Eq)]
+pub enum Unfit {
     Unused(usize),
     Bad(usize),
 }
@@ -61,20 +60,13 @@ pub fn block_code(misc: Misc, dwells: bool, motion: Motion) -> BlockCode
 pub fn turns(motion: Motion) -> bool
     ensures { result ≡ turns motion }
 {
-    match motion {
-        Motion::G02 => true,
-        Motion::G03 => true,
-        _ => false,
-    }
+    matches!(motion, Motion::G02 | Motion::G03)
 }
 
 fn is_arc(code: BlockCode) -> bool
     ensures { result ≡ is_arc code }
 {
-    match code {
-        BlockCode::Moving(motion) => turns(motion),
-        _ => false,
-    }
+    matches!(code, BlockCode::Moving(motion) if turns(motion))
 }
 
 // Whether a centre word of the plane stands; i, j and k tell whether these letters stand in the block.
@@ -95,6 +87,7 @@ pub fn has_centre(code: BlockCode, plane: Plane, i: bool, j: bool, k: bool) -> b
     is_arc(code) & names_centre(plane, i, j, k)
 }
 
+// An arm for each letter, as in `use_of`: several in one pattern were tried, and the answers, which go by single rows of the table, did not close.
 fn straight_use(letter: u8) -> Use
     ensures { result ≡ used_in straight_letters letter }
 {
@@ -110,19 +103,11 @@ fn straight_use(letter: u8) -> Use
 fn length_among(letter: u8, a: u8, b: u8, c: u8, d: u8) -> Use
     ensures { result ≡ used_in (each (a ∷ b ∷ c ∷ d ∷ []) Use.Length) letter }
 {
-    if letter == a {
-        return Use::Length;
+    if [a, b, c, d].contains(&letter) {
+        Use::Length
+    } else {
+        Use::Nothing
     }
-    if letter == b {
-        return Use::Length;
-    }
-    if letter == c {
-        return Use::Length;
-    }
-    if letter == d {
-        return Use::Length;
-    }
-    Use::Nothing
 }
 
 // The plane's two axes and the centre's letters.
@@ -168,10 +153,8 @@ fn drilling_use(cycle: Cycle, letter: u8) -> Use
     ensures { result ≡ used_in (drilling_letters cycle) letter }
 {
     match cycle {
-        Cycle::G81 => cycle_use(letter),
-        Cycle::G82 => dwelling_cycle_use(letter),
-        Cycle::G85 => cycle_use(letter),
-        Cycle::G89 => dwelling_cycle_use(letter),
+        Cycle::G81 | Cycle::G85 => cycle_use(letter),
+        Cycle::G82 | Cycle::G89 => dwelling_cycle_use(letter),
     }
 }
 
@@ -180,10 +163,8 @@ fn motion_use(motion: Motion, plane: Plane, letter: u8) -> Use
 {
     match motion {
         Motion::Off => Use::Nothing,
-        Motion::G00 => straight_use(letter),
-        Motion::G01 => straight_use(letter),
-        Motion::G02 => arc_use(plane, letter),
-        Motion::G03 => arc_use(plane, letter),
+        Motion::G00 | Motion::G01 => straight_use(letter),
+        Motion::G02 | Motion::G03 => arc_use(plane, letter),
         Motion::Drilling(cycle) => drilling_use(cycle, letter),
     }
 }

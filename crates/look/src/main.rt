@@ -13,7 +13,7 @@ ghost use Rattle.letters.specs.{Letters.code_under, Letters.has_centre, Judging.
 
 use files::{STDIN_FILENO, STDOUT_FILENO};
 use lengths::{Len, Point};
-use letters::{Judged, Speeds};
+use letters::{Speeds, Unfit};
 use programs::{Program, Programs, Verdict};
 use reading::{Reading, Status};
 use refusals::{Place, Refusal};
@@ -164,7 +164,7 @@ fn after_slash(s: &[u8], at: usize) -> usize
 }
 
 // What the block's code makes of its words. The codes' group 7 is G04 alone.
-fn judged(range: Speeds, read: Reading, words: &[u64; 13], places: &[usize; 13]) -> Judged
+fn judged(range: Speeds, read: Reading, words: &[u64; 13], places: &[usize; 13]) -> Result<Values, Unfit>
     requires { Stored (words_in words.now places.now) read.count }
     ensures { (ws : List Word) → CentreSeen ws (get_or read.seen.letters 8 false) (get_or read.seen.letters 9 false) (get_or read.seen.letters 10 false) → result ≡ judged_by range read.seen.modes (code_under read.seen.misc (get_or read.seen.groups 7 false) read.seen.modes.motion) (has_centre (code_under read.seen.misc (get_or read.seen.groups 7 false) read.seen.modes.motion) read.seen.modes.plane ws) (take read.count (words_in words.now places.now)) }
 {
@@ -191,17 +191,17 @@ fn speeds() -> Speeds
 }
 
 // Answers with the modes that hold after the block.
-fn show_judged(verdict: Judged, before: Modes, after: Modes) -> Modes {
+fn show_judged(verdict: Result<Values, Unfit>, before: Modes, after: Modes) -> Modes {
     match verdict {
-        Judged::Unused(place) => {
+        Err(Unfit::Unused(place)) => {
             show_refused(Refusal::AddressUndefined, place);
             before
         }
-        Judged::Bad(place) => {
+        Err(Unfit::Bad(place)) => {
             show_refused(Refusal::BadParameter, place);
             before
         }
-        Judged::Fine(values) => {
+        Ok(values) => {
             show_values(values);
             after
         }

@@ -24,7 +24,7 @@ pub struct Modes {
     pub back: Return,
 }
 
-// Which words of a cycle are kept.
+// Which words of a cycle are kept, beside their numbers: one value for each kept word was measured as slower (docs/SPEED.md).
 #[derive(Clone, Copy)]
 pub struct Stands {
     pub z: bool,

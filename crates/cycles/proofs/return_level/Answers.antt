@@ -1,16 +1,8 @@
 -- `cycles::return_level` meets its contract, code by code.
-use Rattle.terms.proofs.Common.{sym, ap, rules}
+use Rattle.terms.proofs.Common.{sym, ap}
 use Rattle.codes.specs.declared.Return.{Return}
 use Rattle.cycles.specs.Cycles.{level_for, return_level}
 use Rattle.cycles.proofs.return_level.Goals as goal
-
-pub enum_told-1 : goal.enum_told-1
-unfolding level_for return_level
-enum_told-1 c = search rules
-
-pub enum_told-in-ToR : goal.enum_told-in-ToR
-unfolding level_for return_level
-enum_told-in-ToR c = search rules
 
 pub returns-in-ToInitial : goal.returns-in-ToInitial
 unfolding level_for return_level

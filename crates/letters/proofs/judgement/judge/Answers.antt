@@ -1,8 +1,8 @@
 -- `letters::judgement::judge` meets its contract. The invariant: what is left gives the judgement of all.
-use Rattle.terms.proofs.Common.{◌≡◌, sym, ◌∙◌, arith, get_or, not-true, not-false}
+use Rattle.terms.proofs.Common.{◌≡◌, sym, ◌∙◌, arith, get_or}
 use Rattle.words.{specs.Packed.words_in, proofs.Packed.word_at}
 use Rattle.letters.proofs.{Judging.judge_unused}
-use Rattle.letters.proofs.Places.{so_far, kept_first, past_bad, past_bad_again, past_fit, ended_bad, ended_fine}
+use Rattle.letters.proofs.Places.{so_far, kept_first, past_bad, past_fit, ended_bad, ended_fine}
 use Rattle.letters.proofs.judgement.judge.Goals as goal
 
 pub loop-i-init : goal.loop-i-init
@@ -17,7 +17,7 @@ returns-then-is_unused c =
     (omega (arith, c.loop-i-test.true, c.requires.there)) ∙ sym c.unpack-w.ensures in
     let k = c.loop-i in
     let a = c.args in
-    judge_unused a.speeds a.m a.code a.centred (words_in a.words.now a.places.now) a.count (so_far k.bad k.place k.stands k.v) k.i c.unpack-w.result is
+    judge_unused a.speeds a.m a.code a.centred (words_in a.words.now a.places.now) a.count (so_far k.bad k.stands k.v) k.i c.unpack-w.result is
     k.invariant.few
     c.loop-i-test.true
     k.invariant.left
@@ -27,49 +27,31 @@ returns-then-is_unused c =
     c.is_unused.ensures
     c.if-is_unused.true
 
-pub value_of-requires : goal.value_of-requires
-value_of-requires c =
+pub value_of-value-requires : goal.value_of-value-requires
+value_of-value-requires c =
     let is : let a = c.args in
     get_or (words_in a.words.now a.places.now) c.loop-i.i c.unpack-w.result ≡ c.unpack-w.result = word_at c.args.words.now c.args.places.now c.loop-i.i c.unpack-w.result
     (omega (arith, c.loop-i-test.true, c.requires.there)) ∙ sym c.unpack-w.ensures in
     rw is at (c.requires.written c.loop-i.i c.unpack-w.result c.loop-i-test.true)
 
-pub loop-i-preserved-then-not-bad : goal.loop-i-preserved-then-not-bad
-loop-i-preserved-then-not-bad c =
+pub loop-i-preserved-in_default : goal.loop-i-preserved-in_default
+loop-i-preserved-in_default c =
     let is : let a = c.args in
     get_or (words_in a.words.now a.places.now) c.loop-i.i c.unpack-w.result ≡ c.unpack-w.result = word_at c.args.words.now c.args.places.now c.loop-i.i c.unpack-w.result
     (omega (arith, c.loop-i-test.true, c.requires.there)) ∙ sym c.unpack-w.ensures in
     let k = c.loop-i in
     let a = c.args in
-    past_bad a.speeds a.m a.code a.centred (words_in a.words.now a.places.now) a.count k.stands k.v k.bad k.place k.i k.invariant c.unpack-w.result is
+    rw c.or-bad.ensures (
+    past_bad a.speeds a.m a.code a.centred (words_in a.words.now a.places.now) a.count k.stands k.v k.bad k.i k.invariant c.unpack-w.result is
     c.loop-i-test.true
     c.use_of-meaning.result
     c.is_unused.result
     c.use_of-meaning.ensures
     c.is_unused.ensures
     c.if-is_unused.false
-    c.value_of.result
-    c.value_of.ensures
-    c.in_default.is
-    c.if-not-bad.true
-
-pub loop-i-preserved-else-not-bad : goal.loop-i-preserved-else-not-bad
-loop-i-preserved-else-not-bad c =
-    let is : let a = c.args in
-    get_or (words_in a.words.now a.places.now) c.loop-i.i c.unpack-w.result ≡ c.unpack-w.result = word_at c.args.words.now c.args.places.now c.loop-i.i c.unpack-w.result
-    (omega (arith, c.loop-i-test.true, c.requires.there)) ∙ sym c.unpack-w.ensures in
-    let k = c.loop-i in
-    let a = c.args in
-    past_bad_again a.speeds a.m a.code a.centred (words_in a.words.now a.places.now) a.count k.stands k.v k.bad k.place k.i k.invariant c.unpack-w.result is
-    c.loop-i-test.true
-    c.use_of-meaning.result
-    c.is_unused.result
-    c.use_of-meaning.ensures
-    c.is_unused.ensures
-    c.if-is_unused.false
-    c.value_of.result
-    c.value_of.ensures
-    c.if-not-bad.false
+    c.value_of-value.result
+    c.value_of-value.ensures
+    c.in_default.is)
 
 pub bounds-stands-k : goal.bounds-stands-k
 bounds-stands-k c = c.value_place-k.ensures.inside
@@ -87,34 +69,32 @@ loop-i-preserved c =
     (omega (arith, c.loop-i-test.true, c.requires.there)) ∙ sym c.unpack-w.ensures in
     let k = c.loop-i in
     let a = c.args in
-    past_fit a.speeds a.m a.code a.centred (words_in a.words.now a.places.now) a.count k.stands k.v k.bad k.place k.i k.invariant c.unpack-w.result is
+    past_fit a.speeds a.m a.code a.centred (words_in a.words.now a.places.now) a.count k.stands k.v k.bad k.i k.invariant c.unpack-w.result is
     c.loop-i-test.true
     c.use_of-meaning.result
     c.is_unused.result
     c.use_of-meaning.ensures
     c.is_unused.ensures
     c.if-is_unused.false
-    c.value_of.result
-    c.value_of.ensures
-    c.in-Fit.z
+    c.value_of-value.result
+    c.value_of-value.ensures
+    c.in-Some.z
     c.value_place-k.result
-    c.in-Fit.is
+    c.in-Some.is
     c.value_place-k.ensures
 
-pub returns-then-bad : goal.returns-then-bad
-returns-then-bad c =
+pub returns-in-Some-bad : goal.returns-in-Some-bad
+returns-in-Some-bad c =
     let k = c.loop-i in
     let a = c.args in
-    ended_bad a.speeds a.m a.code a.centred (words_in a.words.now a.places.now) a.count k.stands k.v k.bad k.place k.i k.invariant
-    c.loop-i-test.false
-    c.if-bad.true
+    ended_bad a.speeds a.m a.code a.centred (words_in a.words.now a.places.now) a.count k.stands k.v k.bad k.i k.invariant c.in-Some-bad.place c.loop-i-test.false
+    c.in-Some-bad.is
 
-pub returns : goal.returns
-returns c =
+pub returns-in-None : goal.returns-in-None
+returns-in-None c =
     let k = c.loop-i in
     let a = c.args in
-    ended_fine a.speeds a.m a.code a.centred (words_in a.words.now a.places.now) a.count k.stands k.v k.bad k.place k.i k.invariant
-    c.loop-i-test.false
-    c.if-bad.false
+    ended_fine a.speeds a.m a.code a.centred (words_in a.words.now a.places.now) a.count k.stands k.v k.bad k.i k.invariant c.loop-i-test.false
+    c.in-None.is
     c.values_in.result
     c.values_in.ensures

@@ -1,11 +1,7 @@
-use Rattle.terms.proofs.Common.{◌-◌}
 use Rattle.words.{specs.Packed.words_in}
 use Rattle.letters.proofs.Places.{KeptValues}
 use Rattle.letters.proofs.judgement.judge.Given as goal
 
 abbrev pub invariant-loop-i : goal.invariant-loop-i
 invariant-loop-i l =
-    KeptValues l.speeds l.m l.code l.centred (words_in l.words l.places) l.count l.stands l.v l.bad l.place l.i
-
-abbrev pub decreases-loop-i : goal.decreases-loop-i
-decreases-loop-i l = l.count - l.i
+    KeptValues l.speeds l.m l.code l.centred (words_in l.words l.places) l.count l.stands l.v l.bad l.i
