@@ -87,6 +87,7 @@ pub fn has_centre(code: BlockCode, plane: Plane, i: bool, j: bool, k: bool) -> b
     is_arc(code) & names_centre(plane, i, j, k)
 }
 
+// An arm for each letter, as in `use_of`: several in one pattern were tried, and the answers, which go by single rows of the table, did not close.
 fn straight_use(letter: u8) -> Use
     ensures { result ≡ used_in straight_letters letter }
 {

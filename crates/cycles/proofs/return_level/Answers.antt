@@ -1,5 +1,5 @@
 -- `cycles::return_level` meets its contract, code by code.
-use Rattle.terms.proofs.Common.{sym, ap, rules}
+use Rattle.terms.proofs.Common.{sym, ap}
 use Rattle.codes.specs.declared.Return.{Return}
 use Rattle.cycles.specs.Cycles.{level_for, return_level}
 use Rattle.cycles.proofs.return_level.Goals as goal
