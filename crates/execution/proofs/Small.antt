@@ -17,14 +17,14 @@ use Rattle.blocks.specs.{declared.Said.Said, declared.Control.TheVariants.On, Ex
 
 -- ---- motions and codes that have no arm of their own
 
-pub no_centre : (m : Motion) (v : Values) → OneOf (0 ∷ 1 ∷ 2 ∷ 5 ∷ []) (tag_of motion-type m) → lacks_centre m v ≡ false
+pub no_centre : (m : Motion) (v : Values) → (m ≡ G02 → ⊥) → (m ≡ G03 → ⊥) → false ≡ lacks_centre m v
 unfolding lacks_centre
-no_centre Off v h = refl
-no_centre G00 v h = refl
-no_centre G01 v h = refl
-no_centre G02 v h = absurd (miss (0 ∷ 1 ∷ 2 ∷ 5 ∷ []) 3 tt h)
-no_centre G03 v h = absurd (miss (0 ∷ 1 ∷ 2 ∷ 5 ∷ []) 4 tt h)
-no_centre (Drilling cycle) v h = refl
+no_centre Off v a b = refl
+no_centre G00 v a b = refl
+no_centre G01 v a b = refl
+no_centre G02 v a b = absurd (a refl)
+no_centre G03 v a b = absurd (b refl)
+no_centre (Drilling cycle) v a b = refl
 
 pub no_cycle :
     (m : Motion) (named : Bool) (v : Values) → OneOf (0 ∷ 1 ∷ 2 ∷ 3 ∷ 4 ∷ []) (tag_of motion-type m) → drills (Moving m) named v ≡ false
@@ -51,11 +51,11 @@ kept_still Returning s d v h = refl
 kept_still Dwelling s d v h = refl
 kept_still (Moving m) s d v h = absurd (miss (0 ∷ 1 ∷ 2 ∷ []) 3 tt h)
 
-pub not_g17 : (p : Plane) → OneOf (1 ∷ 2 ∷ []) (tag_of plane-type p) → is_g17 p ≡ false
+pub same_g17 : (p : Plane) → sameb plane-type p G17 ≡ is_g17 p
 unfolding is_g17
-not_g17 G17 h = absurd (miss (1 ∷ 2 ∷ []) 0 tt h)
-not_g17 G18 h = refl
-not_g17 G19 h = refl
+same_g17 G17 = refl
+same_g17 G18 = refl
+same_g17 G19 = refl
 
 -- ---- the records before and after the motion, and where an M code leads
 
