@@ -45,10 +45,7 @@ fn end_after(input: &[u8], from: usize, size: u64) -> usize
 fn is_line_end(input: &[u8], at: usize) -> bool
     ensures { result ≡ begins_with 10 (drop at input.now) }
 {
-    if input.len() <= at {
-        return false;
-    }
-    input[at] == b'\n'
+    input.get(at) == Some(&b'\n')
 }
 
 // The case that begins at a place, where one does and its records are to have so much room at most.

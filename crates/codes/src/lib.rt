@@ -126,6 +126,7 @@ pub fn misc_of(n: u64) -> Misc
     }
 }
 
+// The group as a number: its place in the reader's array of the groups that stood. An unknown code is in none and has 0.
 pub fn group_of(c: Code) -> u64
     ensures { result ≡ group_of c }
 {

@@ -55,14 +55,10 @@ pub fn last_of(list: &[u8]) -> Listed
     let mut at: usize = 0;
     loop {
         let found = records::read(list, at);
-        match found {
-            Listed::Next(_, next) => {
-                at = next;
-            }
-            _ => {
-                return found;
-            }
-        }
+        let Listed::Next(_, next) = found else {
+            return found;
+        };
+        at = next;
     }
 }
 
@@ -79,17 +75,10 @@ pub fn put_path(
     let mut next = at;
     let mut place: usize = 0;
     let mut from = start;
-    loop {
-        let found = records::read(list, place);
-        match found {
-            Listed::Next(r, after) => {
-                next = put_record(out, next, view, rapids, from, r);
-                from = records::path_end(from, r);
-                place = after;
-            }
-            _ => {
-                return next;
-            }
-        }
+    while let Listed::Next(r, after) = records::read(list, place) {
+        next = put_record(out, next, view, rapids, from, r);
+        from = records::path_end(from, r);
+        place = after;
     }
+    next
 }

@@ -16,6 +16,7 @@ use settings::State;
 use setup::Bed;
 
 // The block's words have been read, and all may stand: their values, 2 and 1, and what the block says.
+// The words in two lent arrays were measured, together with two other steps (docs/SPEED.md, "What each step was worth").
 fn judge_words(
     bed: Bed,
     read: Reading,

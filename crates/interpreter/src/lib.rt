@@ -28,6 +28,7 @@ pub struct Task {
 }
 
 // How the walk through a program ends: at the program's end, by a return, by the budget's end, or by a refusal.
+// No `Result`: a walk has four outcomes, of which a refusal is one.
 #[derive(Clone, Copy)]
 pub enum How {
     Ended,
@@ -46,6 +47,7 @@ pub struct Ending {
 }
 
 // What a block does that does not lead to the next one: it calls the subprogram of a number, or the walk is over.
+// No `Result`: a call is no failure, and of the four ends of a walk one is.
 #[derive(Clone, Copy)]
 pub enum Turn {
     Calls(u64),

@@ -77,6 +77,7 @@ fn over(how: How, place: Place, byte: usize, p: Progress) -> Leg
 
 // Walks a program's blocks from a place on, up to one that does not lead to the next. It knows no table of programs and does not call
 // itself, so that the compiler works on the loop alone.
+// Blocks by a loop, apart from the calls, is a form that the project wants (docs/DECISIONS.md, "Forms for each place").
 fn run_leg(
     s: &[u8],
     list: &mut [u8],

@@ -43,17 +43,11 @@ pub enum Unfit {
 pub fn block_code(misc: Misc, dwells: bool, motion: Motion) -> BlockCode
     ensures { result ≡ code_under misc dwells motion }
 {
-    let n = codes::misc_number(misc);
-    if n == 98 {
-        return BlockCode::Calling;
-    }
-    if n == 99 {
-        return BlockCode::Returning;
-    }
-    if dwells {
-        BlockCode::Dwelling
-    } else {
-        BlockCode::Moving(motion)
+    match misc {
+        Misc::M98 => BlockCode::Calling,
+        Misc::M99 => BlockCode::Returning,
+        _ if dwells => BlockCode::Dwelling,
+        _ => BlockCode::Moving(motion),
     }
 }
 

@@ -1,4 +1,5 @@
-// The blocks of a data set, found by their places.
+// The blocks of a data set, found by their places. A place is the data's own, since refusals name bytes: for a slice from it on, every
+// caller would have to add the place again.
 #![tactic(auto)]
 
 mod gaps;

@@ -8,11 +8,10 @@ ghost use Rattle.std.specs.Prelude.{◌≡◌, ◌≤◌, ◌<◌};
 ghost use Rattle.terms.specs.Common.{false, pos, List, length, get_or, take};
 ghost use Rattle.words.specs.{declared.Word.Word, Packed.words_in};
 ghost use Rattle.lengths.specs.Units.{len};
-ghost use Rattle.settings.specs.Settings.{first_modes};
 ghost use Rattle.letters.specs.{Letters.code_under, Letters.has_centre, Judging.CentreSeen, Judging.Stored, Judging.judged_by};
 
 use files::STDIN_FILENO;
-use lengths::{Len, Point};
+use lengths::Len;
 use letters::{Speeds, Unfit};
 use programs::Programs;
 use reading::Reading;
@@ -73,7 +72,7 @@ fn show_programs(rt: &impl Print, t: Programs) -> std::io::Result<()> {
 // The blocks after the first, up to the closing `%`. An opening is no block that is read.
 fn show_blocks(rt: &impl Print, s: &[u8]) -> std::io::Result<()> {
     let mut at = lines::next_block(s, 0);
-    let mut modes = first_modes();
+    let mut modes = settings::first_modes();
     for number in 2..usize::MAX {
         if s.len() <= at || lines::is_percent(s, at) {
             break;
@@ -85,19 +84,6 @@ fn show_blocks(rt: &impl Print, s: &[u8]) -> std::io::Result<()> {
         at = lines::next_block(s, at);
     }
     Ok(())
-}
-
-fn first_modes() -> Modes
-    ensures { result ≡ first_modes }
-{
-    let zero = Len::zero();
-    let start = Point {
-        x: zero,
-        y: zero,
-        z: zero,
-    };
-    let state = settings::first_state(start, zero, zero);
-    state.modes
 }
 
 // What a block comes to, and the modes that hold after it. A refused block leaves them as they were.

@@ -25,6 +25,7 @@ fn with_program(t: Programs, number: u64, block: usize, byte: usize) -> Programs
 
 // The openings from a block on, whose number and place are given. A block's first byte is looked at, and then its bytes are passed up to its
 // LF; the scan is left from inside a block, at an opening that is refused or at the closing `%`.
+// The labelled loop is a form that the project wants (docs/DECISIONS.md, "Forms for each place").
 fn scan_openings(s: &[u8], from: usize, number: usize, found: Programs) -> Result<Programs, Refused>
     requires number_bound { number ≤ from + 1 }
     requires well_found { WellFound found }

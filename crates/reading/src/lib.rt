@@ -97,6 +97,7 @@ pub fn letter_place(b: u8) -> usize
 }
 
 // A code with a sign or a point is no code.
+// `misc_in` has this shape over another table: one function for both would take the table and the other value, and be longer.
 pub fn code_in(w: Word) -> Code
     ensures { result ≡ code_in w }
 {

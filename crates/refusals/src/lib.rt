@@ -48,6 +48,7 @@ pub struct Refused {
 }
 
 // What a run answers, with the count of the records that stand in the list.
+// No `Result`: a run has three outcomes, and an unfinished one is no failure.
 #[derive(Clone, Copy)]
 pub enum Answer {
     Done(usize),

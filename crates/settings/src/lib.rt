@@ -64,7 +64,8 @@ pub struct State {
     pub kept: Kept,
 }
 
-fn first_modes() -> Modes
+// What a run starts with in each group.
+pub fn first_modes() -> Modes
     ensures { result ≡ first_modes }
 {
     Modes {

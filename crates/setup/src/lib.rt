@@ -60,6 +60,7 @@ pub enum Axis {
 
 // What a length is measured to: the common offset, or a workpiece origin by its place in the table, from 0 for G54 to 5 for
 // G59.
+// It has the shape of an `Option<usize>`, but its two names say what is measured.
 #[derive(Clone, Copy)]
 pub enum Offset {
     Common,

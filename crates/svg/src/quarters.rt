@@ -35,6 +35,7 @@ pub fn radius_of(from: Point, a: Arc) -> u64
     arcs::root_of(arcs::squared_distance(arcs::centre_of(a), lengths::in_plane(plane, from)))
 }
 
+// The turn of `centres::across`, and its bound with it: who draws an arc turns the same direction again and again.
 pub fn quarter_on(turn: bool, d: Flat) -> Flat
     requires { Small d }
     ensures { (result ≡ quarter_on turn d) × Small result }

@@ -24,6 +24,7 @@ pub enum Sign {
 
 // A number as it is written: its digits as one whole number, and how many of them stand after the point. The large fields
 // come first, here and in a word, so that less padding is copied with the rest.
+// That it is `Written` cannot be an invariant: the definition `unpacked` (specs/Packed.antt) makes a number of any packed word.
 #[derive(Clone, Copy)]
 pub struct Number {
     pub digits: u64,
@@ -83,7 +84,7 @@ pub struct Values {
     pub s: Given,
 }
 
-// The sign as a number below 4, and back.
+// The sign as a number below 4, two bits of a packed word, and back.
 fn sign_number(sign: Sign) -> u64
     ensures { result ≡ sign_number sign }
 {
@@ -105,6 +106,7 @@ fn sign_at(n: u64) -> Sign
 }
 
 // A word in one number, so that it is kept and handed on without its forty bytes being copied; its place stands apart.
+// Measured together with two other steps (docs/SPEED.md, "What each step was worth").
 pub fn pack(w: Word) -> u64
     requires { Written w.number }
     ensures { result ≡ packed w }

@@ -15,6 +15,7 @@ use words::Values;
 pub use writing::{put_brief, put_work};
 
 // The records of one pass: one that is known, or those of a hole.
+// No `Option` or `Result`: these are two kinds of work, and neither is a lack or a failure.
 #[derive(Clone, Copy)]
 pub enum Pass {
     One(Record),
@@ -47,6 +48,7 @@ pub struct Aim {
 }
 
 // What records come to: the point where they end, their bytes in the list, and how many they are.
+// That it is `Little` cannot be an invariant: the definition `grown` (specs/Work.antt) makes an extent of any records.
 #[derive(Clone, Copy)]
 pub struct Extent {
     pub end: Point,

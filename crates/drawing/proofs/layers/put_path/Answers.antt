@@ -8,28 +8,23 @@ use Rattle.drawing.proofs.layers.put_path.Goals as goal
 
 pub loop-r-smaller : goal.loop-r-smaller
 loop-r-smaller c =
-    let e = sym c.read-found.ensures ∙ c.in-Next.is in
-    let h = read_on c.args.list.now c.loop-r.place c.in-Next.r c.in-Next.after e in
+    let h = read_on c.args.list.now c.loop-r.place c.in-Next.r c.in-Next.after (sym c.in-Next.ensures) in
     omega (arith, h)
 
 pub loop-r-preserved : goal.loop-r-preserved
 loop-r-preserved c =
     let x = c.args in
     let h = c.loop-r in
-    let e = sym c.read-found.ensures ∙ c.in-Next.is in
     let put = c.put_record-next.ensures in (
       fills_length put ∙ h.invariant.0,
-      λ is k rest. h.invariant.1 is k (path_on x.list.now x.view x.rapids h.from h.place e put c.path_end-from.ensures rest),
+      λ is k rest. h.invariant.1 is k (path_on x.list.now x.view x.rapids h.from h.place (sym c.in-Next.ensures) put c.path_end-from.ensures rest),
     )
 
-pub returns-in_default : goal.returns-in_default
-returns-in_default c =
+pub returns : goal.returns
+returns c =
     let x = c.args in
     let h = c.loop-r in
-    h.invariant.1 h.out h.next (path_end_lem x.list.now x.view x.rapids h.from h.out h.next h.place (rw c.read-found.ensures at (opened c.in_default.in_default-own.keys2)))
+    h.invariant.1 h.out h.next (path_end_lem x.list.now x.view x.rapids h.from h.out h.next h.place (rw c.read.ensures at (opened c.in_default.in_default-own.keys2)))
 
 pub loop-r-init : goal.loop-r-init
 loop-r-init c = (refl, λ is k h. h)
-
-pub shape_of-out-in_default : goal.shape_of-out-in_default
-shape_of-out-in_default c = c.loop-r.invariant.0
