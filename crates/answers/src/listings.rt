@@ -8,12 +8,12 @@ use std::io::{Error, Print};
 #[derive(Clone, Copy)]
 pub enum Unshown {
     Faulty(usize),
-    Unwritten,
+    Unwritten(Error),
 }
 
 impl From<Error> for Unshown {
-    fn from(_: Error) -> Unshown {
-        Unshown::Unwritten
+    fn from(why: Error) -> Unshown {
+        Unshown::Unwritten(why)
     }
 }
 

@@ -12,7 +12,7 @@ mod system;
 mod write_files;
 
 pub use buffers::{LIST_ROOM, PICTURE_ROOM, room};
-pub use messages::{begin_line, complain, complain_record, complain_why, show_text, write_line};
+pub use messages::{begin_line, complain, complain_record, complain_why, show_text};
 pub use placing::{Spot, spot_for};
 pub use read_files::{read_start, read_whole};
 pub use system::{STDERR_FILENO, STDIN_FILENO, STDOUT_FILENO};

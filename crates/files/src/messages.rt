@@ -68,16 +68,6 @@ fn reason_of(error: i32) -> Option<&'static [u8]> {
     }
 }
 
-// A line of a text by its number, the first being 1; whether all of it was written.
-pub fn write_line(fd: i32, text: &[u8], number: u64) -> bool {
-    let mut at: usize = 0;
-    for _ in 1..number {
-        at = lines::next_block(text, at);
-    }
-    let end = lines::next_block(text, at);
-    io::write_all(fd, &text[at..end])
-}
-
 // A line's bytes so that they stay on one line and each takes one place: a tab as a blank, other bytes below the blank and
 // those above the last as a question mark.
 fn shown(b: u8, last: u8) -> u8

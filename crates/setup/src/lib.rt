@@ -3,6 +3,7 @@
 
 mod faults;
 mod numbers_to_try;
+mod printing;
 
 ghost use Rattle.std.specs.Prelude.{◌≡◌};
 ghost use Rattle.terms.specs.{Common.true, Common.map, Terms.between, Terms.within};

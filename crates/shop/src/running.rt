@@ -10,24 +10,23 @@ use files::{LIST_ROOM, STDOUT_FILENO, Spot, complain, room, show_text, spot_for}
 use list_files::{is_written, make_list};
 use runs::Report;
 use setup::Setup;
-use std::io::Print;
+use std::io::{ErrorKind, Print, Result};
 use std::rt::Files;
 
-// Answers whether standard output took what there was to print.
-pub fn run(rt: &(impl Files + Print), line: &[u8], count: usize, err: i32) -> bool {
+pub fn run(rt: &(impl Files + Print), line: &[u8], count: usize, err: i32) -> Result<()> {
     if count < 3 {
         complain(
             err,
             b"run",
             b"wants SETUP DATA [LIST] [--blocks N] [--room R] [--partial]",
         );
-        return true;
+        return Ok(());
     }
     let Some(options) = options_of(line, count, err) else {
-        return true;
+        return Ok(());
     };
     let Some(spot) = spot_of(rt, line, options, err) else {
-        return true;
+        return Ok(());
     };
     run_files(rt, line, options, spot, err)
 }
@@ -41,15 +40,21 @@ fn spot_of(rt: &impl Files, line: &[u8], options: Options, err: i32) -> Option<S
 }
 
 // The buffer holds one byte more than data may have, so that longer data is refused and not cut.
-fn run_files(rt: &(impl Files + Print), line: &[u8], options: Options, spot: Spot, err: i32) -> bool
+fn run_files(
+    rt: &(impl Files + Print),
+    line: &[u8],
+    options: Options,
+    spot: Spot,
+    err: i32,
+) -> Result<()>
     requires { room_of options ≤ 1048576 }
 {
     let Some(setup) = setup_in(rt, word(line, 1), err) else {
-        return true;
+        return Ok(());
     };
     let mut data = io::large_buffer();
     let Some(n) = files::read_start(rt, word(line, 2), &mut data, err) else {
-        return true;
+        return Ok(());
     };
     run_data(rt, setup, &data[..n], word(line, 3), options, spot, err)
 }
@@ -62,7 +67,7 @@ fn run_data(
     options: Options,
     spot: Spot,
     err: i32,
-) -> bool
+) -> Result<()>
     requires { room_of options ≤ 1048576 }
 {
     let mut list = room::<LIST_ROOM>();
@@ -70,30 +75,32 @@ fn run_data(
     let answer = made.answer;
     let end = made.end;
     if !is_written(answer, options) {
-        return show_made(rt, data, made) && show_kept(path, options.listed);
+        show_made(rt, data, made)?;
+        return show_kept(rt, path, options.listed);
     }
     if !files::write_whole(rt, path, &list[..end], spot, err) {
-        return true;
+        return Ok(());
     }
     show_made(rt, data, made)
 }
 
-fn show_made(rt: &impl Print, data: &[u8], made: Report) -> bool {
+fn show_made(rt: &impl Print, data: &[u8], made: Report) -> Result<()> {
     let answer = made.answer;
     let standing = made.standing;
     let state = standing.state;
     let next = standing.next;
-    show_answer(rt, data, answer).is_ok() && show_standing(rt, answer, state, next).is_ok()
+    show_answer(rt, data, answer)?;
+    show_standing(rt, answer, state, next)
 }
 
 // A refused run says what became of the list that it was to write.
-fn show_kept(path: &[u8], listed: bool) -> bool {
+fn show_kept(rt: &impl Print, path: &[u8], listed: bool) -> Result<()> {
     if !listed {
-        return true;
+        return Ok(());
     }
-    show_text(STDOUT_FILENO, path, 255)
-        && io::write_all(
-            STDOUT_FILENO,
-            b" is as it was; --partial writes the records before the refused block\n",
-        )
+    // A name need not be text, so its bytes go out by the descriptor, whose answer is a bool.
+    if !show_text(STDOUT_FILENO, path, 255) {
+        return Err(ErrorKind::Other.into());
+    }
+    println!(rt; " is as it was; --partial writes the records before the refused block")
 }
