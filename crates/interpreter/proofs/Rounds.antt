@@ -1,14 +1,14 @@
 -- The loop over a program's blocks. What is left gives the same: the walk from here, with the list as it is, ends and leaves what the
 -- whole walk leaves of the list at entry. Assumes nothing.
 use Rattle.std.specs.Prelude.{Result, Ok, Err}
-use Rattle.terms.proofs.Common.{ℕ, ◌+◌, ◌-◌, ◌≤◌, ◌<◌, ◌≡◌, refl, sym, ◌∙◌, ap, true, false, List, [], arith, length, drop, sets, length-sets}
+use Rattle.terms.proofs.Common.{ℕ, ◌+◌, ◌-◌, ◌≤◌, ◌<◌, ◌≡◌, refl, sym, ◌∙◌, ap, true, false, List, [], arith, length, replicate, drop, sets, length-sets}
 use Rattle.terms.specs.Terms.{first_of}
 use Rattle.refusals.specs.declared.{Blame.Blame, Refusal.TheVariants.NoEnd, Place.Place}
 use Rattle.lines.{specs.Blocks.Block, specs.Blocks.block_from, specs.Blocks.length_from, specs.Serving.blocks_from, proofs.Lines.length_some}
 use Rattle.setup.specs.Fair.{Fair}
 use Rattle.records.specs.{declared.Record.Record, Layout.room_of, Layout.list_bytes, Writing.moved_bytes}
 use Rattle.settings.specs.declared.State.{State}
-use Rattle.programs.{specs.declared.Programs.Programs, specs.Found.subs_of, specs.Places.Begins, proofs.Places.begins_next}
+use Rattle.programs.{specs.declared.Program.Program, specs.declared.table.Programs.Programs, specs.Found.subs_of, specs.Places.Begins, proofs.Places.begins_next}
 use Rattle.blocks.specs.{declared.Control.Control, declared.Done.Done, Calling.called, Doing.made_of, Doing.Does}
 use Rattle.blocks.specs.declared.Control.TheVariants.{On, Call, Back, Stop}
 use Rattle.blocks.specs.Exec.{Verdict, accepted, calls_in, call_to, unknown_call, too_deep, at_start, unless}
@@ -32,7 +32,9 @@ pub record Walking (l : List ℕ) (task : Task) (left : ℕ) (whole : Outcome) (
 
 -- any table of programs, where what is shown is the same for each
 pub no_programs : Programs
-no_programs = record { main = record { number = 0; block = 0; byte = 0 }; count = 0; subs = [] }
+no_programs =
+    let none : Program = record { number = 0; block = 0; byte = 0 } in
+    record { main = none; count = 0; subs = replicate 10 none; places = refl; used = omega arith }
 
 -- the verdict on the block at a place but for its call
 abbrev verdict_on : List ℕ → Task → ℕ → List ℕ → ℕ → ℕ → Progress → Verdict

@@ -1,6 +1,5 @@
 -- What a run starts with, and what it answers. Assumes nothing.
 use Rattle.std.specs.Prelude.{Result, Ok, Err}
-use Rattle.std.proofs.lemmas.Result.{IfOk-at_ok}
 use Rattle.terms.proofs.Common.{ℕ, ◌+◌, ◌-◌, ◌≤◌, ◌<◌, ◌^◌, ◌≡◌, refl, sym, ◌∙◌, ap, Bool, true, false, Some, List, [], ◌∷◌, arith, dec_lt, lt-ltb, le-ltb, length, drop, sets-eq}
 use Rattle.refusals.specs.declared.{Refusal.Refusal, Refusal.TheVariants.FirstBlock, Refusal.TheVariants.BadSetup, Refusal.TheVariants.DataTooLong, Place.Place, Refused.Refused}
 use Rattle.lines.specs.Blocks.{Block, block_from, blocks_of, length_from, is_percent, text_from}
@@ -9,8 +8,8 @@ use Rattle.lengths.specs.{View.Within, declared.Point.Point, Near.Near}
 use Rattle.setup.specs.{declared.Bed.Bed, declared.Setup.Setup, Limits.valid_setup, Frame.offset, Frame.bed_of, Frame.switch_on, Fair.Fair}
 use Rattle.records.specs.{declared.Record.Record, Layout.room_of, Layout.list_bytes, Writing.moved_bytes}
 use Rattle.settings.specs.declared.State.{State}
-use Rattle.programs.specs.declared.Programs.{Programs}
-use Rattle.programs.specs.{Openings.Table, Openings.table, Openings.refused_at, Openings.programs_from, Found.subs_of, Found.table_of, Found.WellFound, Places.Placed, Places.TablePlaced}
+use Rattle.programs.specs.declared.table.Programs.{Programs}
+use Rattle.programs.specs.{Openings.Table, Openings.table, Openings.refused_at, Openings.programs_from, Found.subs_of, Found.table_of, Places.Placed, Places.TablePlaced}
 use Rattle.programs.proofs.Places.{found_placed, main_placed, subs_placed, known_placed}
 use Rattle.blocks.proofs.Nearness.{inside_sums}
 use Rattle.runs.specs.{Walk.How, Walk.Outcome, Walk.nowhere, Walk.just, Serving.report_by, declared.Budget.Budget, declared.Progress.Progress, declared.Report.Report}
@@ -18,7 +17,6 @@ use Rattle.runs.specs.Run.{first_of, run_table, run_blocks, outcome, records_of,
 use Rattle.interpreter.specs.{Owing.Owes, Serving.Opened, Serving.Gives, declared.Ending.Ending}
 use Rattle.interpreter.specs.Progressing.{job_of, going_of, walk_from, outcome_by, Ran, Sound, Fits}
 use Rattle.interpreter.proofs.Endings.{moved_length}
-use Rattle.programs.specs.Answers as Answers
 use Rattle.runs.specs.Walk as Walk
 use Rattle.runs.proofs.Starting.{first_reached}
 
@@ -39,11 +37,7 @@ module _ {l : List ℕ} {t : Programs} (o : Opened l t) where
 
   pub task_sound : {bed : Bed} (skips : Bool) → Fair bed → Sound l (record { bed = bed; programs = t; skips = skips })
   task_sound skips fair =
-      record {
-        fair = fair;
-        ready = o.ready;
-        places = λ n q e. known_placed n (subs_placed placed) e;
-      }
+      record { fair = fair; places = λ n q e. known_placed n (subs_placed placed) e }
 
   -- the main program's walk is the run
   pub main_walk :
@@ -178,11 +172,11 @@ module _ (s : Setup) (l : List ℕ) (budget : Budget) (was : List ℕ) where
           {r : Report} → is_percent (text_from (drop 0 l)) ≡ false → Before r FirstBlock (record { block = 1; byte = 0 }) → Given r
       gives_first_block e f = gives_just was (not_closed s l (length was) budget short valid e) f
 
-      module _ (percent : is_percent (text_from (drop 0 l)) ≡ true) {found : Result Programs Refused} (scan : Answers.Gives (programs_from (block_from 1 0 l) (blocks_from l 2 (0 + length_from l))) found) where
+      module _ (percent : is_percent (text_from (drop 0 l)) ≡ true) {found : Result Programs Refused} (scan : table_of found ≡ programs_from (block_from 1 0 l) (blocks_from l 2 (0 + length_from l))) where
         pub gives_opening : {r : Report} {x : Refused} → found ≡ Err x → Before r x.refusal x.place → Given r
         unfolding table_of run_table
         gives_opening {r} {x} e f =
-            gives_just was (by_table s l (length was) budget short valid percent (refused_at x.refusal x.place) (sym scan.table ∙ ap table_of e)) f
+            gives_just was (by_table s l (length was) budget short valid percent (refused_at x.refusal x.place) (sym scan ∙ ap table_of e)) f
 
         module _ {t : Programs} (e : found ≡ Ok t) where
           pub programs_opened : Opened l t
@@ -190,8 +184,7 @@ module _ (s : Setup) (l : List ℕ) (budget : Budget) (was : List ℕ) where
           programs_opened =
               record {
                 some = some_byte s l (length was) budget short valid percent;
-                ready = IfOk-at_ok WellFound e scan.ready;
-                table = sym scan.table ∙ ap table_of e;
+                table = sym scan ∙ ap table_of e;
               }
 
           pub gives_main :

@@ -7,7 +7,7 @@ use Rattle.lines.specs.{Blocks.Block, Blocks.block_from, Blocks.blocks_of, Block
 use Rattle.setup.specs.{declared.Bed.Bed, Fair.Fair}
 use Rattle.records.specs.{declared.Record.Record, Layout.room_of, Writing.moved_bytes}
 use Rattle.settings.specs.declared.State.{State}
-use Rattle.programs.specs.{declared.Program.Program, declared.Programs.Programs, Openings.known, Found.subs_of, Found.WellFound, Places.Begins, Places.Placed}
+use Rattle.programs.specs.{declared.Program.Program, declared.table.Programs.Programs, Openings.known, Found.subs_of, Places.Begins, Places.Placed}
 use Rattle.blocks.specs.{Machine.machine_of, declared.Control.TheVariants.On, declared.Control.TheVariants.Call}
 use Rattle.blocks.specs.{Exec.Verdict, Exec.accepted, Exec.exec, Exec.calls_in, Calling.freely, Calling.called, Reach.Reachable}
 use Rattle.runs.specs.{Run.finish_of, declared.Progress.Progress}
@@ -102,7 +102,6 @@ pub record Ran (bed : Bed) (o : Outcome) (p : Progress) (was is : List ℕ) (r :
 -- what stays as it is while a data set runs
 pub record Sound (l : List ℕ) (task : Task) : Type 0 where
   pub fair : Fair task.bed
-  pub ready : WellFound task.programs
   pub places : (n : ℕ) (q : Program) → known (subs_of task.programs) n ≡ Some q → Placed l q
 
 -- A walk that comes to a block that calls. What is left gives the same: the walk from that block on, with the list as it is, ends and

@@ -3,7 +3,7 @@ ghost use Rattle.std.specs.Prelude.{◌≡◌, ◌+◌, ◌-◌, ◌≤◌, ◌<
 ghost use Rattle.terms.specs.Common.{ℕ, length, drop};
 ghost use Rattle.lines.specs.Blocks.{length_from, block_from};
 ghost use Rattle.setup.specs.Fair.{Fair};
-ghost use Rattle.programs.specs.{declared.Programs.Programs, Places.Begins, Places.Placed};
+ghost use Rattle.programs.specs.{declared.table.Programs.Programs, Places.Begins, Places.Placed};
 ghost use Rattle.blocks.specs.{Reach.Reachable, Doing.Does};
 ghost use Rattle.interpreter.specs.declared.Turn.TheVariants.{Over};
 ghost use Rattle.interpreter.specs.Progressing.{task_on, walk_from, program_ends, verdict_at, Goes, Ran, Sound, Fits};

@@ -1,11 +1,11 @@
--- The table of subprograms: searched by number, and with one more.
+-- The table of subprograms: searched by number, and what an opening leads to.
 use Rattle.std.specs.Prelude.{Ok, Err, if◌then◌else◌}
-use Rattle.terms.proofs.Common.{ℕ, ◌+◌, ◌≤◌, ◌<◌, ◌≡◌, refl, ◌∙◌, ap, Bool, true, false, ◌||◌, Option, None, Some, List, [], ◌∷◌, arith, add-one, eq-eqb, ne_eqb, le-leb, lt-leb, leb-false, eqb, leb, length, set, length-set, length-take-le, take-suc-set}
+use Rattle.terms.proofs.Common.{ℕ, ◌≤◌, ◌<◌, ◌≡◌, refl, ap, Bool, true, false, ◌||◌, Option, None, Some, List, [], ◌∷◌, arith, eq-eqb, ne_eqb, le-leb, lt-leb, leb-false, eqb, leb, length, length-take-le}
 use Rattle.std.specs.List.{list_any}
 use Rattle.terms.specs.Terms.{any}
 use Rattle.refusals.specs.declared.Refusal.{Refusal, TheVariants.BadParameter, TheVariants.DuplicateNumber, TheVariants.TableOver}
 use Rattle.refusals.specs.Numbers.{number_of}
-use Rattle.programs.specs.{Openings.is_taken, Openings.entry_of, Found.WellFound, Found.Entered, Found.subs_of, declared.Program.Program, declared.Programs.Programs}
+use Rattle.programs.specs.{Openings.is_taken, Openings.entry_of, Found.subs_of, declared.Program.Program, declared.table.Programs.Programs}
 
 pub taken_main : (main : Program) (subs : List Program) (n : ℕ) → n ≡ main.number → is_taken main subs n ≡ true
 unfolding is_taken
@@ -24,23 +24,14 @@ unfolding any
 any_is n [] = refl
 any_is n (p ∷ ps) = ap (has n p ||◌) (any_is n ps)
 
--- one subprogram more
-pub entered_is : (t : Programs) (p : Program) → WellFound t → t.count < 10 → Entered t p (record { main = t.main; count = t.count + 1; subs = set t.subs t.count p })
-entered_is t p r h =
-    record {
-      ready = record { places = length-set t.subs t.count p ∙ r.places; used = omega (arith, r.used) };
-      main = refl;
-      subs = rw (add-one t.count) (take-suc-set t.subs t.count p (omega (arith, r.places)));
-    }
-
 -- what an opening of a subprogram leads to
-module _ (t : Programs) (ready : WellFound t) (n : ℕ) where
+module _ (t : Programs) (n : ℕ) where
   pub entry_taken : is_taken t.main (subs_of t) n ≡ true → entry_of t.main (subs_of t) (Some n) ≡ Err DuplicateNumber
   unfolding entry_of
   entry_taken e = rw e
 
   in_use : length (subs_of t) ≡ t.count
-  in_use = length-take-le t.count t.subs (omega (arith, ready.places, ready.used))
+  in_use = length-take-le t.count t.subs (omega (arith, t.places, t.used))
 
   pub entry_full : is_taken t.main (subs_of t) n ≡ false → 10 ≤ t.count → entry_of t.main (subs_of t) (Some n) ≡ Err TableOver
   unfolding entry_of
@@ -51,17 +42,17 @@ module _ (t : Programs) (ready : WellFound t) (n : ℕ) where
   entry_new e h = rw (e, lt-leb 10 (length (subs_of t)) (omega (arith, in_use)))
 
 -- an opening that enters finds room
-pub entry_room : (t : Programs) → WellFound t → (o : Option ℕ) (n : ℕ) → entry_of t.main (subs_of t) o ≡ Ok n → t.count < 10
+pub entry_room : (t : Programs) (o : Option ℕ) (n : ℕ) → entry_of t.main (subs_of t) o ≡ Ok n → t.count < 10
 unfolding entry_of
-entry_room t ready None n e = let never : ◌≡◌ {A = ℕ} 0 1 = cc in absurd (omega arith)
-entry_room t ready (Some m) n e = go (is_taken t.main (subs_of t) m) (leb 10 (length (subs_of t))) refl e
+entry_room t None n e = let never : ◌≡◌ {A = ℕ} 0 1 = cc in absurd (omega arith)
+entry_room t (Some m) n e = go (is_taken t.main (subs_of t) m) (leb 10 (length (subs_of t))) refl e
   where
     go :
         (taken full : Bool) → leb 10 (length (subs_of t)) ≡ full
         → (if taken then Err DuplicateNumber else (if full then Err TableOver else Ok m)) ≡ Ok n → t.count < 10
     go true full f g = let never : ◌≡◌ {A = ℕ} 0 1 = cc in absurd (omega arith)
     go false true f g = let never : ◌≡◌ {A = ℕ} 0 1 = cc in absurd (omega arith)
-    go false false f g = omega (arith, leb-false, f, in_use t ready m)
+    go false false f g = omega (arith, leb-false, f, in_use t m)
 
 -- "per opening 1, 8, 7"
 pub entry_refusal :

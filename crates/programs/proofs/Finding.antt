@@ -3,13 +3,7 @@ use Rattle.terms.proofs.Common.{ℕ, ◌≡◌, refl, ◌∙◌, ap, cond, Optio
 use Rattle.std.proofs.Common.{find}
 use Rattle.std.specs.{Option.ok_or, Result.result_ok, Prelude.Result, Prelude.Ok, Prelude.Err}
 use Rattle.terms.specs.Terms.{first}
-use Rattle.programs.specs.{Openings.Table, Openings.known, Answers.Gives}
-use Rattle.programs.specs.declared.{Program.Program, Programs.Programs}
-use Rattle.refusals.specs.declared.Refused.{Refused}
-
--- a scan's answer, by another name of its table
-pub gives_as : {t u : Table} {r : Result Programs Refused} → Gives t r → t ≡ u → Gives u r
-gives_as g e = record { table = g.table ∙ e; ready = g.ready }
+use Rattle.programs.specs.{Openings.known, declared.Program.Program}
 
 -- the first that has the number
 pub known_is : (programs : List Program) (n : ℕ) → find (λ p. eqb p.number n) programs ≡ known programs n

@@ -5,8 +5,8 @@ use Rattle.lines.{specs.Serving.blocks_from, proofs.Laws.text_at}
 use Rattle.lines.specs.Blocks.{begins_with, text_from, length_from, Block, block_from, is_percent}
 use Rattle.lines.proofs.Lines.{blocks_step, blocks_end, text_begins_end, text_begins_at, no_text_other, percent_not, length_bound, length_at_lf, length_at_more}
 use Rattle.refusals.specs.declared.Refusal.{Refusal, TheVariants.BadParameter}
-use Rattle.programs.specs.Found.{WellFound, subs_of, Entered, Empty}
-use Rattle.programs.specs.declared.{Program.Program, Programs.Programs}
+use Rattle.programs.specs.Found.{subs_of, Entered, Empty}
+use Rattle.programs.specs.declared.{Program.Program, table.Programs.Programs}
 use Rattle.programs.specs.Openings.{table, refused_at, number_after_o, opening_of, entry_of, entered, scan_block, scan, main_as, programs_from, program_after}
 
 -- what follows an `O`
@@ -44,12 +44,11 @@ module _ (main : Program) (l : List ℕ) (n at : ℕ) (subs : List Program) wher
 -- A scan that began with `first` at a place and has come to another: what is left gives the same.
 pub record Scan (l : List ℕ) (from number : ℕ) (first now : Programs) (at block : ℕ) : Type 0 where
   pub counted : block ≤ at + 1
-  pub ready : WellFound now
   pub main : now.main ≡ first.main
   pub left : scan first.main (blocks_from l number from) (subs_of first) ≡ scan first.main (blocks_from l block at) (subs_of now)
 
-pub scan_start : (l : List ℕ) (from number : ℕ) (t : Programs) → number ≤ from + 1 → WellFound t → Scan l from number t t from number
-scan_start l from number t k r = record { counted = k; ready = r; main = refl; left = refl }
+pub scan_start : (l : List ℕ) (from number : ℕ) (t : Programs) → number ≤ from + 1 → Scan l from number t t from number
+scan_start l from number t k = record { counted = k; main = refl; left = refl }
 
 -- a block lies inside the data
 pub next_inside : (l : List ℕ) (at : ℕ) → at ≤ length l → at + length_from (drop at l) ≤ length l
@@ -89,7 +88,6 @@ module _ {l : List ℕ} {from number : ℕ} {first now : Programs} {at block : �
       let next : at + length_from (drop at l) ≡ i + 1 = omega (arith, length_at_lf l i h e) in
       record {
         counted = omega arith;
-        ready = s.ready;
         main = s.main;
         left =
             s.left ∙ scan_plain first.main l block at (subs_of now) (omega arith) t.0 t.1
@@ -140,7 +138,6 @@ module _ {l : List ℕ} {from number : ℕ} {first now : Programs} {at block : �
       passed_opening n next with' f was g d =
           record {
             counted = omega (arith, s.counted, length_at_more l at h (λ e. omega arith));
-            ready = d.ready;
             main = d.main ∙ s.main;
             left = at_opening f (Ok n) was ∙ rw (d.subs, ← g);
           }

@@ -3,8 +3,8 @@ use Rattle.std.specs.Prelude.{Result, Ok, Err, ◌≤◌, ◌≡◌, ◌∷◌, 
 use Rattle.terms.specs.Common.{ℕ, List, [], length, take}
 use Rattle.refusals.specs.declared.Refused.{Refused}
 use Rattle.words.specs.Numbers.{digits_after}
-use Rattle.programs.specs.declared.{Program.Program, Digits.Digits, Programs.Programs}
-use Rattle.programs.specs.Openings.{figures_of, Table, table, refused_at, most}
+use Rattle.programs.specs.declared.{Program.Program, Digits.Digits, table.Programs.Programs}
+use Rattle.programs.specs.Openings.{figures_of, Table, table, refused_at}
 
 -- the digits of an opening that has no more of them than it may
 pub record IsDigits (text : List ℕ) (d : Digits) : Type 0 where
@@ -20,19 +20,12 @@ unfoldable pub table_of : Result Programs Refused → Table
 table_of (Ok t) = table t.main (subs_of t)
 table_of (Err r) = refused_at r.refusal r.place
 
--- the table has ten places, of which so many are in use
-pub record WellFound (t : Programs) : Type 0 where
-  pub places : length t.subs ≡ most
-  pub used : t.count ≤ most
-
 -- the table with one subprogram more
 pub record Entered (t : Programs) (p : Program) (r : Programs) : Type 0 where
-  pub ready : WellFound r
   pub main : r.main ≡ t.main
   pub subs : subs_of r ≡ subs_of t ++ p ∷ []
 
 -- the table with no subprogram yet
 pub record Empty (p : Program) (r : Programs) : Type 0 where
-  pub ready : WellFound r
   pub main : r.main ≡ p
   pub subs : subs_of r ≡ []

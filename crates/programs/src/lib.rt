@@ -2,14 +2,16 @@
 #![tactic(auto)]
 
 mod openings;
+mod table;
 
 ghost use Rattle.std.specs.Prelude.{MatchOption, ◌≡◌, ◌≤◌, ◌<◌};
 ghost use Rattle.terms.specs.Common.{true, length, drop};
 ghost use Rattle.lines.specs.Blocks.{text_from};
-ghost use Rattle.programs.specs.{Openings.figures_of, Openings.number_after_o, Openings.is_taken, Openings.entry_of, Found.IsDigits, Found.subs_of, Found.WellFound, Found.Empty};
+ghost use Rattle.programs.specs.{Openings.figures_of, Openings.number_after_o, Openings.is_taken, Openings.entry_of, Found.IsDigits, Found.subs_of, Found.Empty};
 
 pub use openings::{find_callee, find_programs};
 use refusals::Refusal;
+pub use table::Programs;
 
 // A program of the data: its number, and the block and byte that follow its opening.
 #[derive(Clone, Copy)]
@@ -17,14 +19,6 @@ pub struct Program {
     pub number: u64,
     pub block: usize,
     pub byte: usize,
-}
-
-// The main program, and the subprograms in the order of their openings. The main's number is 0 where it has no opening.
-#[derive(Clone, Copy)]
-pub struct Programs {
-    pub main: Program,
-    pub count: usize,
-    pub subs: [Program; 10],
 }
 
 // The digits of an opening: how many there are, and their value.
@@ -77,7 +71,6 @@ pub fn read_opening(s: &[u8], at: usize) -> Option<u64>
 
 // Whether a number is the main's or one of the subprograms'.
 fn is_taken(t: Programs, n: u64) -> bool
-    requires { WellFound t }
     ensures { result ≡ is_taken t.main (subs_of t) n }
 {
     n == t.main.number || t.subs[..t.count].iter().any(|p| n == p.number)
@@ -85,7 +78,6 @@ fn is_taken(t: Programs, n: u64) -> bool
 
 // The number of a subprogram's opening, which enters the table, or the refusal of the opening.
 pub fn entry_of(t: Programs, o: Option<u64>) -> Result<u64, Refusal>
-    requires { WellFound t }
     ensures { result ≡ entry_of t.main (subs_of t) o }
 {
     let n = o.ok_or(Refusal::BadParameter)?;

@@ -2,14 +2,14 @@
 ghost use Rattle.std.specs.Prelude.{◌≡◌, ◌+◌, ◌≤◌, ◌<◌};
 ghost use Rattle.terms.specs.Common.{length};
 ghost use Rattle.lines.specs.{Blocks.length_from, Blocks.block_from, Serving.blocks_from};
-ghost use Rattle.programs.specs.{Openings.scan, Openings.programs_from, Openings.known, Found.subs_of, Found.WellFound, Found.Entered, Answers.Gives, Answers.callee_by};
+ghost use Rattle.programs.specs.{Openings.scan, Openings.programs_from, Openings.known, Found.subs_of, Found.table_of, Found.Entered, Answers.callee_by};
 
 use crate::{Program, Programs};
 use refusals::{Place, Refusal, Refused};
 
 // The table with one subprogram more: its number, and the block and byte that follow its opening.
 fn with_program(t: Programs, number: u64, block: usize, byte: usize) -> Programs
-    requires { (WellFound t) × (t.count < 10) }
+    requires { t.count < 10 }
     ensures { Entered t (record { number = number; block = block; byte = byte }) result }
 {
     let at = t.count;
@@ -27,9 +27,8 @@ fn with_program(t: Programs, number: u64, block: usize, byte: usize) -> Programs
 // LF; the scan is left from inside a block, at an opening that is refused or at the closing `%`.
 // The labelled loop is a form that the project wants (docs/DECISIONS.md, "Forms for each place").
 fn scan_openings(s: &[u8], from: usize, number: usize, found: Programs) -> Result<Programs, Refused>
-    requires number_bound { number ≤ from + 1 }
-    requires well_found { WellFound found }
-    ensures { Gives (scan found.main (blocks_from s.now number from) (subs_of found)) result }
+    requires { number ≤ from + 1 }
+    ensures { table_of result ≡ scan found.main (blocks_from s.now number from) (subs_of found) }
 {
     let mut programs = found;
     let mut at = from;
@@ -74,7 +73,7 @@ fn scan_openings(s: &[u8], from: usize, number: usize, found: Programs) -> Resul
 // one, and the subprograms.
 pub fn find_programs(s: &[u8]) -> Result<Programs, Refused>
     requires { 0 < length s.now }
-    ensures { Gives (programs_from (block_from 1 0 s.now) (blocks_from s.now 2 (0 + length_from s.now))) result }
+    ensures { table_of result ≡ programs_from (block_from 1 0 s.now) (blocks_from s.now 2 (0 + length_from s.now)) }
 {
     let at = lines::next_block(s, 0);
     if !lines::begins_with(s, at, b'O') {
@@ -102,7 +101,6 @@ pub fn find_programs(s: &[u8]) -> Result<Programs, Refused>
 
 // The subprogram of a number. The main program is none.
 fn find(t: Programs, n: u64) -> Option<Program>
-    requires { WellFound t }
     ensures { result ≡ known (subs_of t) n }
 {
     t.subs[..t.count].iter().find(|p| p.number == n).copied()
@@ -110,7 +108,6 @@ fn find(t: Programs, n: u64) -> Option<Program>
 
 // The subprogram of a number: 5 where there is none, and then 6 where no level is left for it.
 pub fn find_callee(programs: Programs, left: usize, number: u64) -> Result<Program, Refusal>
-    requires { WellFound programs }
     ensures { result ≡ callee_by (known (subs_of programs) number) left }
 {
     let program = find(programs, number).ok_or(Refusal::NumberNotFound)?;

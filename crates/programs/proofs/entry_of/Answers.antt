@@ -15,14 +15,14 @@ returns-in_err-n c =
 pub returns-then-is_taken : goal.returns-then-is_taken
 returns-then-is_taken c =
     rw (present c.ok_or.ensures.ok_part c.in_ok-n.was)
-    (sym (entry_taken c.args.t c.requires c.in_ok-n.n (sym c.is_taken.ensures ∙ c.if-is_taken.true)))
+    (sym (entry_taken c.args.t c.in_ok-n.n (sym c.is_taken.ensures ∙ c.if-is_taken.true)))
 
 pub returns-then-t-ge10 : goal.returns-then-t-ge10
 returns-then-t-ge10 c =
     rw (present c.ok_or.ensures.ok_part c.in_ok-n.was)
-    (sym (entry_full c.args.t c.requires c.in_ok-n.n (sym c.is_taken.ensures ∙ c.if-is_taken.false) c.if-t-ge10.true))
+    (sym (entry_full c.args.t c.in_ok-n.n (sym c.is_taken.ensures ∙ c.if-is_taken.false) c.if-t-ge10.true))
 
 pub returns : goal.returns
 returns c =
     rw (present c.ok_or.ensures.ok_part c.in_ok-n.was)
-    (sym (entry_new c.args.t c.requires c.in_ok-n.n (sym c.is_taken.ensures ∙ c.if-is_taken.false) c.if-t-ge10.false))
+    (sym (entry_new c.args.t c.in_ok-n.n (sym c.is_taken.ensures ∙ c.if-is_taken.false) c.if-t-ge10.false))

@@ -1,6 +1,6 @@
 -- `interpreter::walk::run_leg` meets its contract: from block to block by a loop, for every table of programs.
 use Rattle.terms.proofs.Common.{◌≡◌, refl, sym, ◌∙◌, false, arith, length, drop}
-use Rattle.programs.specs.declared.Programs.{Programs}
+use Rattle.programs.specs.declared.table.Programs.{Programs}
 use Rattle.runs.specs.Walk.{is_spent}
 use Rattle.interpreter.specs.Progressing.{task_on, walk_from, program_ends}
 use Rattle.runs.specs.Serving.{progress_by}

@@ -1,5 +1,5 @@
 use Rattle.terms.proofs.Common.{◌-◌, ◌≤◌, length}
-use Rattle.programs.specs.declared.Programs.{Programs}
+use Rattle.programs.specs.declared.table.Programs.{Programs}
 use Rattle.interpreter.specs.Progressing.{task_on, walk_from}
 use Rattle.interpreter.proofs.Rounds.{Walking}
 use Rattle.interpreter.proofs.walk.run_leg.Given as goal

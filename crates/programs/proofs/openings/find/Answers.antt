@@ -1,5 +1,5 @@
 -- `programs::openings::find` meets its contract.
-use Rattle.std.proofs.Common.{find, rules, tests}
+use Rattle.std.proofs.Common.{rules, tests}
 use Rattle.std.proofs.lemmas.Iterator.{YieldsList-from_slice}
 use Rattle.std.proofs.lemmas.Iterator.Search.{find_from_yields_List}
 use Rattle.terms.proofs.Common.{◌∙◌, eqb}

@@ -1,7 +1,6 @@
 use Rattle.terms.proofs.Common.{◌<◌, ◌≡◌, sym, ◌∙◌, true, length, drop, get_or, arith}
 use Rattle.lines.{specs.Blocks.begins_with, specs.Blocks.text_from, proofs.Lines.length_some}
 use Rattle.programs.specs.Found.{table_of}
-use Rattle.programs.proofs.{Finding.gives_as}
 use Rattle.programs.proofs.Scanning.{next_inside, opens_at, found_plain, found_bad, found_number}
 use Rattle.programs.proofs.openings.find_programs.Goals as goal
 
@@ -10,13 +9,13 @@ begins_with-requires c = omega (arith, c.next_block-at.ensures, next_inside c.ar
 
 pub scan_openings-requires : goal.scan_openings-requires
 scan_openings-requires c =
-    record { number_bound = omega (arith, c.next_block-at.ensures, length_some c.args.s.now 0 (omega arith)); well_found = c.only_main.ensures.ready }
+    omega (arith, c.next_block-at.ensures, length_some c.args.s.now 0 (omega arith))
 
 pub returns-then-not-begins_with : goal.returns-then-not-begins_with
 returns-then-not-begins_with c =
-    gives_as c.scan_openings.ensures
-    (found_plain c.args.s.now c.next_block-at.result c.next_block-at.ensures c.only_main.result
-    (sym c.begins_with.ensures ∙ c.if-not-begins_with.true) c.only_main.ensures)
+    c.scan_openings.ensures
+    ∙ found_plain c.args.s.now c.next_block-at.result c.next_block-at.ensures c.only_main.result
+    (sym c.begins_with.ensures ∙ c.if-not-begins_with.true) c.only_main.ensures
 
 pub overflow_add-at : goal.overflow_add-at
 overflow_add-at c =
@@ -43,23 +42,19 @@ scan_openings-requires-2 c =
     let o = opened in
     let l = c.args.s.now in
     let at = c.next_block-at.result in
-    record { number_bound = omega (arith, c.next_block-next.ensures, length_some l at o.0, c.next_block-at.ensures, length_some l 0 (omega (arith, o.0))); well_found = c.only_main-2.ensures.ready }
+    omega (arith, c.next_block-next.ensures, length_some l at o.0, c.next_block-at.ensures, length_some l 0 (omega (arith, o.0)))
 
 pub returns-in_default : goal.returns-in_default
 unfolding table_of
 returns-in_default c =
     let begins : begins_with 79 (text_from (drop c.next_block-at.result c.args.s.now)) ≡ true = sym c.begins_with.ensures ∙ c.if-not-begins_with.false in
-    record {
-      table =
-          found_bad c.args.s.now c.next_block-at.result c.next_block-at.ensures begins
-          (sym c.read_opening.ensures ∙ c.in_default.is);
-      ready = tt;
-    }
+    found_bad c.args.s.now c.next_block-at.result c.next_block-at.ensures begins
+    (sym c.read_opening.ensures ∙ c.in_default.is)
 
 pub returns : goal.returns
 returns c =
     let begins : begins_with 79 (text_from (drop c.next_block-at.result c.args.s.now)) ≡ true = sym c.begins_with.ensures ∙ c.if-not-begins_with.false in
-    gives_as c.scan_openings-2.ensures
-    (found_number c.args.s.now c.next_block-at.result c.next_block-at.ensures begins
+    c.scan_openings-2.ensures
+    ∙ found_number c.args.s.now c.next_block-at.result c.next_block-at.ensures begins
     _ c.next_block-next.result c.only_main-2.result (sym c.read_opening.ensures ∙ c.in-Some.is)
-    c.next_block-next.ensures c.only_main-2.ensures)
+    c.next_block-next.ensures c.only_main-2.ensures

@@ -9,7 +9,7 @@ use Rattle.programs.proofs.openings.scan_openings.Goals as goal
 
 pub blocks-2-init : goal.blocks-2-init
 blocks-2-init c =
-    scan_start c.args.s.now c.args.from c.args.number c.args.found c.requires.number_bound c.requires.well_found
+    scan_start c.args.s.now c.args.from c.args.number c.args.found c.requires
 
 pub loop-i-init : goal.loop-i-init
 loop-i-init c = (record { begun = omega arith; left = refl; plain = λ k. absurd (omega arith) }, omega arith, λ began s. s)
@@ -28,18 +28,13 @@ pub returns-in-Err : goal.returns-in-Err
 unfolding table_of
 returns-in-Err c =
     let begun : Scan c.args.s.now c.args.from c.args.number c.args.found c.loop-i.programs c.loop-i.at c.loop-i.block = c.loop-i.invariant.2 _ c.blocks-2.invariant in
-    record {
-      table =
-          refused_opening begun (omega arith) (sym c.is_percent.ensures ∙ c.if-is_percent.false) c.in-Err.refusal c.if-s-at-eq79.true
-          (ap (entry_of c.loop-i.programs.main (subs_of c.loop-i.programs)) (sym c.read_opening.ensures)
-          ∙ sym c.entry_of.ensures ∙ c.in-Err.is);
-      ready = tt;
-    }
+    refused_opening begun (omega arith) (sym c.is_percent.ensures ∙ c.if-is_percent.false) c.in-Err.refusal c.if-s-at-eq79.true
+    (ap (entry_of c.loop-i.programs.main (subs_of c.loop-i.programs)) (sym c.read_opening.ensures)
+    ∙ sym c.entry_of.ensures ∙ c.in-Err.is)
 
 pub with_program-programs-requires : goal.with_program-programs-requires
 with_program-programs-requires c =
-    let begun : Scan c.args.s.now c.args.from c.args.number c.args.found c.loop-i.programs c.loop-i.at c.loop-i.block = c.loop-i.invariant.2 _ c.blocks-2.invariant in
-    (begun.ready, entry_room c.loop-i.programs begun.ready c.read_opening.result _ (sym c.entry_of.ensures ∙ c.in-Ok.is))
+    entry_room c.loop-i.programs c.read_opening.result _ (sym c.entry_of.ensures ∙ c.in-Ok.is)
 
 pub blocks-2-smaller : goal.blocks-2-smaller
 blocks-2-smaller c =
@@ -63,24 +58,18 @@ pub returns-then-is_percent : goal.returns-then-is_percent
 unfolding table_of
 returns-then-is_percent c =
     let begun : Scan c.args.s.now c.args.from c.args.number c.args.found c.loop-i.programs c.loop-i.at c.loop-i.block = c.loop-i.invariant.2 _ c.blocks-2.invariant in
-    let b = begun in
-    record { table = stopped_percent b (omega arith) (sym c.is_percent.ensures ∙ c.if-is_percent.true); ready = b.ready }
+    stopped_percent begun (omega arith) (sym c.is_percent.ensures ∙ c.if-is_percent.true)
 
 pub returns-after-loop-i : goal.returns-after-loop-i
 unfolding table_of
 returns-after-loop-i c =
     let begun : Scan c.args.s.now c.args.from c.args.number c.args.found c.loop-i.programs c.loop-i.at c.loop-i.block = c.loop-i.invariant.2 _ c.blocks-2.invariant in
-    let b = begun in record { table = stopped_end b c.loop-i.invariant.0 (omega arith); ready = b.ready }
+    stopped_end begun c.loop-i.invariant.0 (omega arith)
 
 pub overflow_add-block : goal.overflow_add-block
 overflow_add-block c =
     let begun : Scan c.args.s.now c.args.from c.args.number c.args.found c.loop-i.programs c.loop-i.at c.loop-i.block = c.loop-i.invariant.2 _ c.blocks-2.invariant in
     omega (arith, begun.counted)
-
-pub entry_of-requires : goal.entry_of-requires
-entry_of-requires c =
-    let begun : Scan c.args.s.now c.args.from c.args.number c.args.found c.loop-i.programs c.loop-i.at c.loop-i.block = c.loop-i.invariant.2 _ c.blocks-2.invariant in
-    begun.ready
 
 pub overflow_add-block-in-Ok : goal.overflow_add-block-in-Ok
 overflow_add-block-in-Ok c =

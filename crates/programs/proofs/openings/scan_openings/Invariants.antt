@@ -1,5 +1,5 @@
 use Rattle.terms.proofs.Common.{◌-◌, ◌≤◌, length}
-use Rattle.programs.specs.{declared.Programs.Programs}
+use Rattle.programs.specs.{declared.table.Programs.Programs}
 use Rattle.programs.proofs.Scanning.{Scan, Passing}
 use Rattle.programs.proofs.openings.scan_openings.Given as goal
 
