@@ -4,7 +4,7 @@
 mod printing;
 
 ghost use Rattle.std.specs.Prelude.{◌≡◌};
-ghost use Rattle.codes.specs.Codes.{code_of, misc_of, group_of, misc_number, cycle_number, plane_number, NumbersPlane};
+ghost use Rattle.codes.specs.Codes.{code_of, misc_of, group_of, cycle_number, plane_number, NumbersPlane};
 
 #[derive(Clone, Copy, PartialEq, Eq)]
 pub enum Cycle {
@@ -139,21 +139,6 @@ pub fn group_of(c: Code) -> u64
         Code::GroupF(_) => 6,
         Code::G04 => 7,
         Code::Unknown => 0,
-    }
-}
-
-pub fn misc_number(m: Misc) -> u64
-    ensures { result ≡ misc_number m }
-{
-    match m {
-        Misc::M00 => 0,
-        Misc::M02 => 2,
-        Misc::M03 => 3,
-        Misc::M05 => 5,
-        Misc::M30 => 30,
-        Misc::M98 => 98,
-        Misc::M99 => 99,
-        Misc::Other => 100,
     }
 }
 

@@ -4,12 +4,7 @@ use std::fmt;
 
 impl fmt::Display for Cycle {
     fn fmt<W: fmt::Write>(&self, f: &mut fmt::Formatter<W>) -> fmt::Result {
-        f.write_str(match self {
-            Cycle::G81 => "G81",
-            Cycle::G82 => "G82",
-            Cycle::G85 => "G85",
-            Cycle::G89 => "G89",
-        })
+        write!(f, "G{}", crate::cycle_number(*self))
     }
 }
 

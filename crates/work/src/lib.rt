@@ -23,6 +23,7 @@ pub enum Pass {
 }
 
 // What a block makes by its motion, and whether its geometry holds. Records are in the frame of the common offset.
+// No `Option`: the rules tell both of a block too, its records and whether they hold (`Moves` of `blocks`).
 #[derive(Clone, Copy)]
 pub struct Work {
     pub pass: Pass,
