@@ -7,7 +7,7 @@ use Rattle.words.specs.Numbers.{is_digit, run, digits_after}
 use Rattle.lines.specs.{Gaps.only_gaps, Blocks.Block, Blocks.closes, Blocks.opens}
 use Rattle.programs.specs.declared.Program.{Program}
 
--- the digits that a text begins with, as far as an opening may have them: a ninth makes the count 9, whatever follows
+-- the digits that a text begins with; an opening has eight of them at most
 abbrev pub figures_of : List ℕ → List ℕ
 figures_of text = run is_digit text
 
