@@ -188,10 +188,7 @@ fn cycle_work(cycle: Cycle, named: bool, s: State, origin: Point, v: Values) -> 
 fn is_clockwise(motion: Motion) -> bool
     ensures { result ≡ is_clockwise motion }
 {
-    match motion {
-        Motion::G02 => true,
-        _ => false,
-    }
+    matches!(motion, Motion::G02)
 }
 
 // Whether the centre of an arc by its radius lies to the left of the way from start to end.
@@ -230,8 +227,7 @@ pub fn work_of(code: BlockCode, named: bool, s: State, origin: Point, v: Values)
     let p = v.p;
     let ms = p.v;
     match code {
-        BlockCode::Calling => no_work(true),
-        BlockCode::Returning => no_work(true),
+        BlockCode::Calling | BlockCode::Returning => no_work(true),
         BlockCode::Dwelling => one_work(Record::DW(ms), true),
         BlockCode::Moving(motion) => motion_work(motion, named, s, origin, v),
     }

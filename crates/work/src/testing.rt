@@ -19,8 +19,7 @@ fn record_fits(by: Point, r: Record) -> bool
     ensures { result ≡ centre_fits (path_of (record_moved by r)) }
 {
     match r {
-        Record::AR(a) => arcs::centre_fits(by, a),
-        Record::AL(a) => arcs::centre_fits(by, a),
+        Record::AR(a) | Record::AL(a) => arcs::centre_fits(by, a),
         _ => true,
     }
 }
@@ -69,8 +68,7 @@ fn path_stays(t: Travel, from: Point, r: Record) -> bool
     ensures { result ≡ path_stays t from (path_of r) }
 {
     match r {
-        Record::RP(p) => lengths::is_inside(t, p),
-        Record::LN(p, _) => lengths::is_inside(t, p),
+        Record::RP(p) | Record::LN(p, _) => lengths::is_inside(t, p),
         Record::AR(a) => arcs::right_arc_stays(t, from, a),
         Record::AL(a) => arcs::left_arc_stays(t, from, a),
         _ => true,
@@ -98,15 +96,13 @@ fn check_pass(t: Travel, h: Hole, to: Point, e: Extent) -> Option<Extent>
     let mut end = e.end;
     let level = end.z;
     let mut room = e.room;
-    let mut i = 0;
-    while i < n {
+    for i in 0..n {
         let row = cycles::row_at(h, i, level, to);
         end = cycles::row_end(end, row);
         if !lengths::is_inside(t, end) {
             return None;
         }
         room += cycles::row_room(row);
-        i += 1;
     }
     Some(Extent {
         end,
@@ -122,12 +118,10 @@ fn check_passes(t: Travel, h: Hole, passes: u64, aim: Aim, e: Extent) -> Option<
     ensures { result ≡ way_of t e (work_records (drilled h passes) aim e.end) }
 {
     let distance = aim.distance;
-    let mut left = passes;
     let mut so_far = e;
-    while 0 < left {
+    for _ in 0..passes {
         let to = settings::target_point(distance, aim.origin, so_far.end, aim.values);
         so_far = check_pass(t, h, to, so_far)?;
-        left -= 1;
     }
     Some(so_far)
 }

@@ -34,10 +34,8 @@ fn put_pass(list: &mut [u8], at: usize, offset: Point, h: Hole, level: Len, to: 
 {
     let n = cycles::row_count(h);
     let mut next = at;
-    let mut i = 0;
-    while i < n {
+    for i in 0..n {
         next = cycles::put_row(list, next, offset, cycles::row_at(h, i, level, to));
-        i += 1;
     }
     next
 }
@@ -57,14 +55,12 @@ fn put_passes(
     ensures { Wrote list.old at (moved_bytes offset (work_records (drilled h passes) aim from)) list.new result }
 {
     let distance = aim.distance;
-    let mut left = passes;
     let mut tool = from;
     let mut next = at;
-    while 0 < left {
+    for _ in 0..passes {
         let to = settings::target_point(distance, aim.origin, tool, aim.values);
         next = put_pass(list, next, offset, h, tool.z, to);
         tool = cycles::pass_end(h, to);
-        left -= 1;
     }
     next
 }

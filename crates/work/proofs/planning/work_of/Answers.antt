@@ -1,5 +1,5 @@
 -- `work::planning::work_of` meets its contract: by the code of the block.
-use Rattle.terms.proofs.Common.{refl, true}
+use Rattle.terms.proofs.Common.{refl, true, inl, inr}
 use Rattle.records.specs.declared.Record.TheVariants.{DW}
 use Rattle.blocks.specs.Motions.{moves_of}
 use Rattle.work.proofs.{Plans.makes_none, Plans.makes_one}
@@ -10,11 +10,8 @@ motion_work-requires c = (c.requires.0, rw c.in-Moving.is at c.requires.1)
 
 pub returns-in-Calling : goal.returns-in-Calling
 unfolding moves_of
-returns-in-Calling c = rw c.in-Calling.is (makes_none true c.no_work.ensures refl)
-
-pub returns-in-Returning : goal.returns-in-Returning
-unfolding moves_of
-returns-in-Returning c = rw c.in-Returning.is (makes_none true c.no_work-in-Returning.ensures refl)
+returns-in-Calling c =
+    elim c.in-Calling.is [ inl e ↦ rw e (makes_none true c.no_work.ensures refl) | inr e ↦ rw e (makes_none true c.no_work.ensures refl) ]
 
 pub returns-in-Dwelling : goal.returns-in-Dwelling
 unfolding moves_of

@@ -1,5 +1,5 @@
 -- `work::testing::path_stays` meets its contract, mark by mark.
-use Rattle.terms.proofs.Common.{◌≡◌, refl, true}
+use Rattle.terms.proofs.Common.{◌≡◌, refl, true, inl, inr}
 use Rattle.records.{specs.declared.Record.Record, specs.Path.path_of, proofs.Still.still_ones}
 use Rattle.arcs.specs.Arcs.{path_stays}
 use borrow.Enum.Refused.{opened}
@@ -15,11 +15,7 @@ left_arc_stays-requires c = rw c.in-AL.is at c.requires
 
 pub returns-in-RP : goal.returns-in-RP
 unfolding path_stays path_of
-returns-in-RP c = rw c.in-RP.is c.is_inside.ensures
-
-pub returns-in-LN : goal.returns-in-LN
-unfolding path_stays path_of
-returns-in-LN c = rw c.in-LN.is c.is_inside-in-LN.ensures
+returns-in-RP c = elim c.in-RP.is [ inl e ↦ rw e c.is_inside.ensures | inr e ↦ rw e.1 c.is_inside.ensures ]
 
 pub returns-in-AR : goal.returns-in-AR
 unfolding path_stays path_of

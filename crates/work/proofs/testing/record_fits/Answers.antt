@@ -1,5 +1,5 @@
 -- `work::testing::record_fits` meets its contract: only an arc has a centre.
-use Rattle.terms.proofs.Common.{[], ◌≡◌, refl, sym, true, ◌∷◌}
+use Rattle.terms.proofs.Common.{[], ◌≡◌, refl, sym, true, ◌∷◌, inl, inr}
 use denote.Enum.Declared.{tag_of}
 use types.Run.{OneOf, miss}
 use Rattle.lengths.specs.declared.Point.{Point}
@@ -24,19 +24,11 @@ others by EN h = refl
 
 pub centre_fits-requires : goal.centre_fits-requires
 unfolding path_of
-centre_fits-requires c = (c.requires.0, rw c.in-AR.is at c.requires.1)
-
-pub centre_fits-requires-in-AL : goal.centre_fits-requires-in-AL
-unfolding path_of
-centre_fits-requires-in-AL c = (c.requires.0, rw c.in-AL.is at c.requires.1)
+centre_fits-requires c = (c.requires.0, elim c.in-AR.is [ inl e ↦ rw e at c.requires.1 | inr e ↦ rw e at c.requires.1 ])
 
 pub returns-in-AR : goal.returns-in-AR
 unfolding centre_fits path_of record_moved
-returns-in-AR c = rw c.in-AR.is c.centre_fits.ensures
-
-pub returns-in-AL : goal.returns-in-AL
-unfolding centre_fits path_of record_moved
-returns-in-AL c = rw c.in-AL.is c.centre_fits-in-AL.ensures
+returns-in-AR c = elim c.in-AR.is [ inl e ↦ rw e c.centre_fits.ensures | inr e ↦ rw e c.centre_fits.ensures ]
 
 pub returns-in_default : goal.returns-in_default
 returns-in_default c = sym (others c.args.by c.args.r (opened c.in_default.in_default-own.keys3))

@@ -1,4 +1,4 @@
-use Rattle.terms.proofs.Common.{ℕ, List}
+use Rattle.terms.proofs.Common.{ℕ, ◌-◌, List}
 use Rattle.lengths.specs.declared.Point.{Point}
 use Rattle.cycles.specs.declared.Hole.{Hole}
 use Rattle.records.specs.declared.Record.{Record}
@@ -9,10 +9,7 @@ use Rattle.work.proofs.writing.put_passes.Given as goal
 abbrev pub rest : Hole → Aim → ℕ → Point → List Record
 rest h aim left tool = passes_of left (Drill h) (leads aim) tool
 
-abbrev pub invariant-loop-left : goal.invariant-loop-left
-invariant-loop-left l =
-    Going l.offset l.initial.list l.at (rest l.h l.aim l.initial.left l.initial.tool) l.list l.next (rest l.h l.aim l.left l.tool)
-    × Inside l.initial.tool (rest l.h l.aim l.initial.left l.initial.tool) l.tool (rest l.h l.aim l.left l.tool)
-
-abbrev pub decreases-loop-left : goal.decreases-loop-left
-decreases-loop-left l = l.left
+abbrev pub invariant-loop : goal.invariant-loop
+invariant-loop l =
+    Going l.offset l.initial.list l.at (rest l.h l.aim l.passes l.initial.tool) l.list l.next (rest l.h l.aim (l.passes - l.counter) l.tool)
+    × Inside l.initial.tool (rest l.h l.aim l.passes l.initial.tool) l.tool (rest l.h l.aim (l.passes - l.counter) l.tool)
