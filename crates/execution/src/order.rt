@@ -25,9 +25,9 @@ pub fn lacks_parameter(code: BlockCode, v: Values) -> bool
     ensures { result ≡ lacks_parameter code v }
 {
     match code {
-        BlockCode::Calling => !v.p.stands,
+        BlockCode::Calling => v.p.is_none(),
         BlockCode::Returning => false,
-        BlockCode::Dwelling => !v.p.stands,
+        BlockCode::Dwelling => v.p.is_none(),
         BlockCode::Moving(motion) => lacks_centre(motion, v),
     }
 }

@@ -1,10 +1,11 @@
 -- `execution::order::lacks_parameter` meets its contract.
 use Rattle.blocks.specs.Exec.{lacks_parameter}
+use Rattle.execution.proofs.{Small.missing_is}
 use Rattle.execution.proofs.order.lacks_parameter.Goals as goal
 
 pub returns-in-Calling : goal.returns-in-Calling
 unfolding lacks_parameter
-returns-in-Calling c = rw c.in-Calling.is
+returns-in-Calling c = rw c.in-Calling.is (missing_is c.is_none.result c.is_none.ensures)
 
 pub returns-in-Returning : goal.returns-in-Returning
 unfolding lacks_parameter
@@ -12,7 +13,7 @@ returns-in-Returning c = rw c.in-Returning.is
 
 pub returns-in-Dwelling : goal.returns-in-Dwelling
 unfolding lacks_parameter
-returns-in-Dwelling c = rw c.in-Dwelling.is
+returns-in-Dwelling c = rw c.in-Dwelling.is (missing_is c.is_none-in-Dwelling.result c.is_none-in-Dwelling.ensures)
 
 pub returns-in-Moving : goal.returns-in-Moving
 unfolding lacks_parameter
