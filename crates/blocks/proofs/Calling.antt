@@ -1,6 +1,6 @@
 -- A block that calls makes no record, so that after 5 and 6 nothing can refuse it: its call may be tested last, where it is followed.
 -- Assumes nothing.
-use Rattle.std.specs.Prelude.{if◌then◌else◌}
+use Rattle.std.specs.Prelude.{if◌then◌else◌, is_some}
 use Rattle.terms.proofs.Common.{ℕ, ◌≡◌, refl, sym, ◌∙◌, ap, Bool, true, false, not, ◌&&◌, and-false, Option, None, Some, List, [], ◌∷◌, ◌++◌, append-nil, arith, eqb-true, le-ltb, eqb, ltb}
 use Rattle.terms.{specs.Terms.first, specs.Terms.first_of, specs.Terms.all, specs.Terms.lookup, proofs.Laws.either_left}
 use Rattle.refusals.specs.declared.Refusal.{Refusal}
@@ -8,11 +8,11 @@ use Rattle.refusals.specs.declared.Refusal.TheVariants.{BadParameter, AddressUnd
 use Rattle.refusals.specs.declared.Blame.{Blame}
 use Rattle.codes.specs.{declared.Misc.Misc, declared.Plane.Plane, Codes.misc_number, Codes.is_m, Codes.ends_program}
 use Rattle.codes.specs.declared.Misc.TheVariants.{M00, M02, M03, M05, M30, M98, M99, Other}
-use Rattle.words.specs.{declared.Word.Word, declared.Given.Given, declared.Values.Values, Values.no_values, Words.Words, Words.these, Words.bad_at, Words.words_of}
+use Rattle.words.specs.{declared.Word.Word, declared.Values.Values, Values.no_values, Words.Words, Words.these, Words.bad_at, Words.words_of}
 use Rattle.records.specs.{declared.Record.Record, Layout.room_of, Path.path_stays_in}
 use Rattle.settings.specs.declared.{Modes.Modes, State.State}
 use Rattle.letters.specs.declared.{BlockCode.BlockCode, BlockCode.TheVariants.Calling, Speeds.Speeds}
-use Rattle.letters.specs.Letters.{first_that_may_not, has_centre, use_of, letters_of, is_nothing, is_unused, first_unused, first_bad_value, misc_of_block, modes_in, code_under, block_code, given_by, word_value, with_value, values_after, values_of}
+use Rattle.letters.specs.Letters.{first_that_may_not, has_centre, use_of, letters_of, is_nothing, is_unused, first_unused, first_bad_value, misc_of_block, modes_in, code_under, block_code, word_value, with_value, values_after, values_of}
 use Rattle.blocks.specs.{Machine.Machine, Motions.moves_of, declared.Said.Said, declared.Control.Control, Calling.freely, Calling.called}
 use Rattle.blocks.specs.Exec.{Calls, in_main, Verdict, accepted, said_by, spindle_records, moves_in, last_records, made_by, settled, control_of, call_to, unknown_call, too_deep, lacks_parameter, drills, cannot_drill, at_word, at_start, blames, unless, judged, exec_words, exec}
 use Rattle.blocks.specs.declared.Control.TheVariants.{On, Call, Back, Stop}
@@ -50,15 +50,15 @@ speed_missing plane centred speeds m v [] e = refl
 speed_missing plane centred speeds m v (w ∷ ws) e =
     let h = none_first (is_unused Calling plane centred) w ws e in
     let other = no_s plane w.letter (either_left (is_nothing (use_of Calling plane w.letter)) (centred && eqb w.letter 82) h.0) in
-    speed_missing plane centred speeds m (with_value v w.letter (given_by (word_value speeds m Calling w))) ws h.1 ∙ rw other
+    speed_missing plane centred speeds m (with_value v w.letter (word_value speeds m Calling w)) ws h.1 ∙ rw other
 
 speed_off :
     (code : BlockCode) → code ≡ Calling → (plane : Plane) (centred : Bool) (speeds : Speeds) (m : Modes) (ws : List Word)
-    → first_unused code plane centred ws ≡ None → (values_of speeds m code ws).s.stands ≡ false
+    → first_unused code plane centred ws ≡ None → is_some (values_of speeds m code ws).s ≡ false
 unfolding first_unused
 speed_off code e plane centred speeds m ws h =
     let none_is : first (is_unused Calling plane centred) ws ≡ None = rw e at h in
-    rw e (ap (λ (g : Given). g.stands) (speed_missing plane centred speeds m no_values ws none_is))
+    rw e (ap is_some (speed_missing plane centred speeds m no_values ws none_is))
 
 m98_is : (m : Misc) → is_m 98 m ≡ true → m ≡ M98
 unfolding is_m misc_number
@@ -71,7 +71,7 @@ m98_is M98 e = refl
 m98_is M99 e = let no : ◌≡◌ {A = ℕ} 0 1 = cc in absurd (omega arith)
 m98_is Other e = let no : ◌≡◌ {A = ℕ} 0 1 = cc in absurd (omega arith)
 
-module _ (machine : Machine) (s : State) (b : Said) (misc : b.misc ≡ M98) (code : b.code ≡ Calling) (speed : b.values.s.stands ≡ false) where
+module _ (machine : Machine) (s : State) (b : Said) (misc : b.misc ≡ M98) (code : b.code ≡ Calling) (speed : is_some b.values.s ≡ false) where
   made_none : made_by machine s b ≡ []
   unfolding made_by spindle_records moves_in moves_of last_records is_m misc_number
   made_none = rw (misc, code, speed, and-false s.turning)
@@ -210,7 +210,7 @@ module _ (machine : Machine) (calls : Calls) (room : ℕ) (s : State) (start : �
       unfolding said_by block_code code_under is_m misc_number
       code_is = let misc : misc_of_block ws ≡ M98 = misc_is in rw misc
 
-      speed_is : b.values.s.stands ≡ false
+      speed_is : is_some b.values.s ≡ false
       unfolding said_by
       speed_is =
           let m = modes_in s.modes ws in

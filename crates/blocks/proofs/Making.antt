@@ -1,12 +1,12 @@
 -- The records that a whole block makes, and the state that it leaves. Assumes nothing.
-use Rattle.std.specs.Prelude.{if◌then◌else◌}
+use Rattle.std.specs.Prelude.{if◌then◌else◌, is_some}
 use Rattle.terms.proofs.Common.{ℕ, zero, suc, ◌≡◌, refl, Bool, true, false, not, ◌&&◌, ◌||◌, List, [], ◌∷◌, ◌++◌, map, arith}
 use Rattle.terms.specs.Terms.{all}
 use Rattle.lengths.specs.{declared.Len.Len, View.Short, declared.Point.Point, Points.at_height}
 use Rattle.codes.specs.declared.{Cycle.Cycle, Cycle.TheVariants.G81, Cycle.TheVariants.G82, Cycle.TheVariants.G85, Cycle.TheVariants.G89, Misc.Misc, Motion.Motion, Return.Return}
 use Rattle.codes.specs.{declared.Return.TheVariants.ToInitial, declared.Return.TheVariants.ToR, Codes.is_m, Codes.ends_program}
 use Rattle.codes.specs.declared.Motion.TheVariants.{Off, G00, G01, G02, G03, Drilling}
-use Rattle.words.specs.declared.Values.{Values}
+use Rattle.words.specs.{declared.Values.Values, Values.worth}
 use Rattle.records.specs.{declared.Arc.Arc, declared.Record.Record, Path.path_stays_in, Path.record_moved, Writing.ListShort}
 use Rattle.records.specs.declared.Record.TheVariants.{RP, LN, AR, AL, DW, SP, SO, PA, EN}
 use Rattle.setup.specs.{declared.Bed.Bed, Frame.origin_at}
@@ -38,10 +38,10 @@ module _ (by : Point) where
       (either_others (is_m 0 m) (PA ∷ []) (if ends_program m then EN ∷ [] else []) (tt, tt)
       (either_others (ends_program m) (EN ∷ []) [] (tt, tt) tt))
 
-  module _ (h : Hole) (feed : Short h.feed.v) (dwell : Short h.dwell.v.v) where
+  module _ (h : Hole) (feed : Short h.feed.v) (dwell : Short (worth h.dwell).v) where
     dwelling_others : AllOthers by (dwelling h.dwell)
     unfolding dwelling
-    dwelling_others = either_others h.dwell.stands (DW h.dwell.v ∷ []) [] (dwell, tt) tt
+    dwelling_others = either_others (is_some h.dwell) (DW (worth h.dwell) ∷ []) [] (dwell, tt) tt
 
     up_others : (p : Point) (back : Return) → AllOthers by (up_under back h p)
     unfolding up_under
@@ -58,8 +58,8 @@ module _ (by : Point) where
     pass_others : (level : Len) (p : Point) → AllOthers by (pass_to h level p)
     unfolding pass_to
     pass_others level p =
-        either_others h.z.stands
-        (RP (at_height p level) ∷ RP (at_height p h.r) ∷ LN (at_height p h.z.v) h.feed ∷ dwelling h.dwell ++ leaving h.cycle h p)
+        either_others (is_some h.z)
+        (RP (at_height p level) ∷ RP (at_height p h.r) ∷ LN (at_height p (worth h.z)) h.feed ∷ dwelling h.dwell ++ leaving h.cycle h p)
         (RP (at_height p h.stood) ∷ [])
         (tt, (tt, (feed, others_both by (dwelling h.dwell) (leaving h.cycle h p) dwelling_others (leaving_others p h.cycle))))
         (tt, tt)
@@ -94,7 +94,7 @@ module _ (bed : Bed) (s : State) (b : Said) where
     spindle_others : AllOthers by (spindle_records s b)
     unfolding spindle_records
     spindle_others =
-        either_others by (s.turning && v.s.stands || is_m 3 b.misc) (SP w.speed ∷ []) []
+        either_others by (s.turning && is_some v.s || is_m 3 b.misc) (SP w.speed ∷ []) []
         (omega (arith, speed_near bed s b steady), tt) tt
 
     cycle_others : (cycle : Cycle) → AllOthers by (cycle_moves cycle w origin v).records

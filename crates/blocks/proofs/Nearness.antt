@@ -1,14 +1,14 @@
 -- Points of a run and how near they are, in the frame of the common offset and in machine units. Assumes nothing.
-use Rattle.std.specs.Prelude.{if◌then◌else◌}
+use Rattle.std.specs.Prelude.{if◌then◌else◌, is_some}
 use Rattle.terms.proofs.Common.{ℕ, ◌^◌, ◌≡◌, refl, ap₂, Bool, true, false, not, ◌&&◌, ◌||◌, arith, ℤ, ◌+ℤ◌, le_z}
 use Rattle.terms.{specs.Terms.between, proofs.Laws.both_left, proofs.Laws.both_right}
 use Rattle.lengths.specs.{Units.fits_four, View.Within, View.Short, declared.Point.Point, declared.Flat.Flat, Points.moved, Points.flat, Points.inside, Near.Near}
 use Rattle.lengths.proofs.{Laws.view, Laws.sum_bal, Four.short_four, Near.flat_near}
 use Rattle.codes.specs.declared.{Cycle.Cycle, Plane.Plane, Plane.TheVariants.G17, Plane.TheVariants.G18, Plane.TheVariants.G19}
-use Rattle.words.specs.declared.Values.{Values}
+use Rattle.words.specs.{declared.Values.Values, Values.worth}
 use Rattle.records.specs.Path.{arc_moved}
 use Rattle.setup.specs.{declared.Bed.Bed, Frame.origin_at, Fair.Fair}
-use Rattle.settings.{specs.declared.State.State, specs.Target.target, specs.Bounds.Aims, specs.Bounds.KeptNear, proofs.Near.target_near, proofs.Near.or_else_near, proofs.Keeping.under_near}
+use Rattle.settings.{specs.declared.State.State, specs.Target.target, specs.Bounds.Aims, specs.Bounds.KeptNear, proofs.Near.target_near, proofs.Near.or_else_near, proofs.Near.then_near, proofs.Keeping.under_near}
 use Rattle.arcs.{specs.Bounds.Reach, specs.Bounds.Beside, specs.Bounds.Bounds, proofs.Paths.inside_near}
 use Rattle.centres.{specs.Centres.radius_holds, specs.Centres.centre_by, specs.Bounds.Chord, proofs.Reaching.centre_reach}
 use Rattle.cycles.specs.{declared.Hole.Hole, Cycles.hole_of}
@@ -110,13 +110,13 @@ module _ (left : Bool) (s : State) (v : Values) (end : Point) where
   there = flat s.modes.plane end
 
   abbrev radius : ℤ
-  radius = v.r.v.v
+  radius = (worth v.r).v
 
   pub centre_beside :
       Near 1_100_000_000 s.at → Near 2_100_000_000 end → Within 1_000_000_000 radius → Near 1_000_000_000 (centre_words v)
       → radius_fits s v end ≡ true → Reach 1_000_000_000 (centre_for left s v end) here
   unfolding centre_for radius_fits
-  centre_beside near far most words fits = go v.r.stands fits
+  centre_beside near far most words fits = go (is_some v.r) fits
     where
       chord : Chord radius here there
       chord =
@@ -200,9 +200,9 @@ module _ (bed : Bed) (s : State) (b : Said) where
       unfolding hole_of
       hole_feed = omega (arith, feed_near)
 
-      pub hole_dwell : Short (hole cycle).dwell.v.v
+      pub hole_dwell : Short (worth (hole cycle).dwell).v
       unfolding hole_of
-      hole_dwell = omega (arith, kept_near.dwell)
+      hole_dwell = omega (arith, then_near {n = 3_600_000} w.kept.stands.dwell w.kept.dwell kept_near.dwell)
 
     from_machine : Near 100_000_000 (moved bed.offset w.at)
     from_machine = near_machine bed steady.fair w.at from_inside

@@ -1,11 +1,11 @@
 -- Document 02, #101: arcs by their radius. R stands for the centre words. Where the radius is accepted, nothing else of the arc's
 -- geometry refuses it, whatever the plane. And G02 and G03, with R positive and with R negative, have the centre on the side that
 -- makes it the arc of at most half a turn or the larger one. Assumes nothing.
-use Rattle.std.specs.Prelude.{if◌then◌else◌}
+use Rattle.std.specs.Prelude.{if◌then◌else◌, is_some}
 use Rattle.terms.proofs.Common.{◌<◌, ◌≡◌, refl, sym, subst, ap, ◌∙◌, Bool, true, false, not, ◌&&◌, ◌||◌, or-true, and-false, [], ◌∷◌, arith, ℤ, pos, lt_z}
 use Rattle.lengths.{specs.View.Within, specs.declared.Point.Point, specs.Points.moved, specs.Points.flat, proofs.Laws.view}
 use Rattle.codes.specs.declared.Motion.{Motion, TheVariants.Off, TheVariants.G00, TheVariants.G01, TheVariants.G02, TheVariants.G03, TheVariants.Drilling}
-use Rattle.words.specs.declared.Values.{Values}
+use Rattle.words.specs.{declared.Values.Values, Values.worth}
 use Rattle.records.specs.declared.{Arc.Arc, Record.Record, Record.TheVariants.AR, Record.TheVariants.AL}
 use Rattle.settings.specs.{declared.State.State, Target.target}
 use Rattle.arcs.specs.Arcs.{distance², centre_of, radius², arc_holds}
@@ -16,9 +16,9 @@ use Rattle.blocks.specs.Motions.{Moves, end_stands, centre_given, arc_stands, ce
 
 -- ---- R gives the centre
 
-module _ (v : Values) (stands : v.r.stands ≡ true) where
+module _ (v : Values) (stands : is_some v.r ≡ true) where
   pub centre_given_lem : centre_given v ≡ true
-  centre_given_lem = ap (λ t. v.i.stands || v.j.stands || v.k.stands || t) stands ∙ or-true (v.i.stands || v.j.stands || v.k.stands)
+  centre_given_lem = ap (λ t. is_some v.i || is_some v.j || is_some v.k || t) stands ∙ or-true (is_some v.i || is_some v.j || is_some v.k)
 
   -- so a block with R is not mode only
   arc_stands_lem : arc_stands v ≡ true
@@ -40,19 +40,19 @@ module _ (v : Values) (stands : v.r.stands ≡ true) where
 -- ---- an arc whose radius is accepted, in the plane that is on
 
 radius_holds_lem :
-    (s : State) (v : Values) (end : Point) → v.r.stands ≡ true → radius_fits s v end ≡ true
-    → radius_holds v.r.v.v (start_in s) (end_in s end) ≡ true
+    (s : State) (v : Values) (end : Point) → is_some v.r ≡ true → radius_fits s v end ≡ true
+    → radius_holds (worth v.r).v (start_in s) (end_in s end) ≡ true
 unfolding radius_fits
-radius_holds_lem s v end stands fits = sym (ap (λ t. not t || radius_holds v.r.v.v (start_in s) (end_in s end)) stands) ∙ fits
+radius_holds_lem s v end stands fits = sym (ap (λ t. not t || radius_holds (worth v.r).v (start_in s) (end_in s end)) stands) ∙ fits
 
 module _ (left : Bool) (s : State) (v : Values) (end : Point) where
   abbrev arc : Arc
   arc = arc_to left s v end
 
   abbrev r : ℤ
-  r = v.r.v.v
+  r = (worth v.r).v
 
-  module _ (stands : v.r.stands ≡ true) (small : Within 1_000_000_000 r) (fits : radius_fits s v end ≡ true) where
+  module _ (stands : is_some v.r ≡ true) (small : Within 1_000_000_000 r) (fits : radius_fits s v end ≡ true) where
     -- its centre is the exact one, rounded down
     pub radius_exact : Centre left r (start_in s) (end_in s end) (centre_of arc)
     unfolding arc_to centre_for
@@ -91,9 +91,9 @@ module _ (named : Bool) (s : State) (origin : Point) (v : Values) where
   abbrev end : Point
   end = target s.modes.distance origin s.at v
 
-  module _ (stands : v.r.stands ≡ true) (small : Within 1_000_000_000 v.r.v.v) (fits : radius_fits s v end ≡ true) where
+  module _ (stands : is_some v.r ≡ true) (small : Within 1_000_000_000 (worth v.r).v) (fits : radius_fits s v end ≡ true) where
     differ : 0 < distance² (start_in s) (end_in s end)
-    differ = chord_some v.r.v.v (start_in s) (end_in s end) (radius_holds_lem s v end stands fits)
+    differ = chord_some (worth v.r).v (start_in s) (end_in s end) (radius_holds_lem s v end stands fits)
 
     to_left : (make : Arc → Record) (moves : Moves) → moves ≡ arc_moves make true s v end → LeftCentre make s v end moves
     to_left make moves e =
@@ -113,7 +113,7 @@ module _ (named : Bool) (s : State) (origin : Point) (v : Values) where
     g03_by_radius larger e = rw (arc_stands_lem v stands, e)
 
     -- R positive: G02 turns right about a centre on the right, G03 left about one on the left
-    module _ (positive : lt_z (pos 0) v.r.v.v ≡ true) where
+    module _ (positive : lt_z (pos 0) (worth v.r).v ≡ true) where
       not_larger : is_larger v ≡ false
       not_larger = omega (arith, view, positive)
 
@@ -124,7 +124,7 @@ module _ (named : Bool) (s : State) (origin : Point) (v : Values) where
       g03_positive = to_left AL (motion_of G03 named s origin v) (g03_by_radius false not_larger)
 
     -- R negative: the other two
-    module _ (negative : lt_z v.r.v.v (pos 0) ≡ true) where
+    module _ (negative : lt_z (worth v.r).v (pos 0) ≡ true) where
       pub g02_negative : LeftCentre AR s v end (motion_of G02 named s origin v)
       g02_negative = to_left AR (motion_of G02 named s origin v) (g02_by_radius true negative)
 

@@ -1,7 +1,7 @@
 -- Document 01, "Numbers to try": the table of numbers. A row is a block as it is written there, read as any block is, and
 -- what it gives.
 use Rattle.std.specs.Prelude.{◌∷◌}
-use Rattle.terms.specs.Common.{ℕ, String, true, List, [], pos}
+use Rattle.terms.specs.Common.{ℕ, String, true, List, [], pos, Some}
 use Rattle.terms.specs.Terms.{byte, bytes}
 use Rattle.refusals.specs.Numbers.{number_of}
 use Rattle.lengths.specs.{Units.len, declared.Point.Point}
@@ -69,7 +69,7 @@ in_inch text gives = record { before = "G20 G00"; text = text; gives = gives }
 
 -- one word has a value, and no other
 abbrev only : ℕ → ℕ → Result
-only letter n = says (with_value no_values letter (record { stands = true; v = len (pos n) }))
+only letter n = says (with_value no_values letter (Some (len (pos n))))
 
 abbrev x : ℕ → Result
 x n = only (byte "X") n

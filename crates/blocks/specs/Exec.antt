@@ -1,5 +1,6 @@
 -- What one block does: the order of its refusals, and its effects in their order.
-use Rattle.std.specs.Prelude.{◌&&◌, ◌||◌, ◌∷◌, ◌++◌, if◌then◌else◌}
+use Rattle.words.specs.Values.{worth}
+use Rattle.std.specs.Prelude.{◌&&◌, ◌||◌, ◌∷◌, ◌++◌, if◌then◌else◌, is_some}
 use Rattle.terms.specs.Common.{ℕ, Bool, true, false, not, Option, None, Some, List, [], eqb, ltb, nat_abs}
 use Rattle.terms.specs.Terms.{all, first_of, stands, when}
 use Rattle.refusals.specs.declared.{Refusal.Refusal, Blame.Blame}
@@ -55,7 +56,7 @@ working s b =
 -- "S with the spindle turning, or M03, writes one spindle record"
 unfoldable pub spindle_records : State → Said → List Record
 spindle_records s b =
-    if s.turning && b.values.s.stands || is_m 3 b.misc then SP (working s b).speed ∷ [] else []
+    if s.turning && is_some b.values.s || is_m 3 b.misc then SP (working s b).speed ∷ [] else []
 
 unfoldable pub moves_in : Machine → State → Said → Moves
 moves_in machine s b = moves_of b.code b.named (working s b) (machine.origin b.modes.origin) b.values
@@ -85,7 +86,7 @@ settled machine s b =
 
 unfoldable pub control_of : Said → Control
 control_of b =
-    if is_m 98 b.misc then Call (nat_abs b.values.p.v.v)
+    if is_m 98 b.misc then Call (nat_abs (worth b.values.p).v)
     else (if is_m 99 b.misc then Back
     else (if ends_program b.misc then Stop
     else On))
@@ -106,9 +107,9 @@ lacks_centre G03 v = end_stands v && not (centre_given v)
 lacks_centre (Drilling cycle) v = false
 
 unfoldable pub lacks_parameter : BlockCode → Values → Bool
-lacks_parameter Calling v = not v.p.stands
+lacks_parameter Calling v = not (is_some v.p)
 lacks_parameter Returning v = false
-lacks_parameter Dwelling v = not v.p.stands
+lacks_parameter Dwelling v = not (is_some v.p)
 lacks_parameter (Moving motion) v = lacks_centre motion v
 
 -- "4 for a cycle outside G17 or with the spindle off (K0 too; the block's M03 counts)"

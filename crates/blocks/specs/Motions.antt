@@ -1,9 +1,9 @@
 -- Document 01, "G00, G01", "G02, G03", "Cycles", "P as dwell": the motion or the dwell of a block.
-use Rattle.std.specs.Prelude.{◌||◌, ◌∷◌, if◌then◌else◌}
+use Rattle.std.specs.Prelude.{◌||◌, ◌∷◌, if◌then◌else◌, is_some}
 use Rattle.terms.specs.Common.{Bool, true, false, not, List, [], pos, lt_z}
 use Rattle.codes.specs.declared.{Cycle.Cycle, Motion.Motion}
 use Rattle.codes.specs.declared.Motion.TheVariants.{Off, G00, G01, G02, G03, Drilling}
-use Rattle.words.specs.declared.Values.{Values}
+use Rattle.words.specs.{declared.Values.Values, Values.worth}
 use Rattle.lengths.specs.{declared.Point.Point, declared.Flat.Flat, Points.moved, Points.flat}
 use Rattle.records.specs.declared.{Arc.Arc, Record.Record, Record.TheVariants.RP, Record.TheVariants.LN, Record.TheVariants.AR, Record.TheVariants.AL, Record.TheVariants.DW}
 use Rattle.settings.specs.{declared.State.State, Target.target}
@@ -13,11 +13,11 @@ use Rattle.cycles.specs.Cycles.{hole_of, levels_hold, passes}
 use Rattle.letters.specs.declared.BlockCode.{BlockCode, TheVariants.Calling, TheVariants.Returning, TheVariants.Dwelling, TheVariants.Moving}
 
 abbrev pub end_stands : Values → Bool
-end_stands v = v.x.stands || v.y.stands || v.z.stands
+end_stands v = is_some v.x || is_some v.y || is_some v.z
 
 -- the centre is given: by a word of its own, or by the radius (document 02, #101)
 abbrev pub centre_given : Values → Bool
-centre_given v = v.i.stands || v.j.stands || v.k.stands || v.r.stands
+centre_given v = is_some v.i || is_some v.j || is_some v.k || is_some v.r
 
 -- "No end and no centre word: mode only", and no R.
 abbrev pub arc_stands : Values → Bool
@@ -34,16 +34,16 @@ no_moves = record { records = []; sound = true }
 abbrev pub one : Record → Moves
 one r = record { records = r ∷ []; sound = true }
 
--- "centre by its distance from the start in the plane's letters .., a missing one 0": the value of a missing word is 0
+-- "centre by its distance from the start in the plane's letters .., a missing one 0": a missing word is worth 0
 unfoldable pub centre_words : Values → Point
-centre_words v = record { x = v.i.v; y = v.j.v; z = v.k.v }
+centre_words v = record { x = worth v.i; y = worth v.j; z = worth v.k }
 
 -- The centre in the plane's axes: by its words, or, where R stands, by the radius to the end of the arc. `left` tells that a centre
 -- by radius lies to the left of the way from the start to the end.
 unfoldable pub centre_for : Bool → State → Values → Point → Flat
 centre_for left s v end =
     let plane = s.modes.plane in
-    if v.r.stands then centre_by left v.r.v.v (flat plane s.at) (flat plane end)
+    if is_some v.r then centre_by left (worth v.r).v (flat plane s.at) (flat plane end)
     else flat plane (moved (centre_words v) s.at)
 
 unfoldable pub arc_to : Bool → State → Values → Point → Arc
@@ -55,7 +55,7 @@ arc_to left s v end =
 unfoldable pub radius_fits : State → Values → Point → Bool
 radius_fits s v end =
     let plane = s.modes.plane in
-    not v.r.stands || radius_holds v.r.v.v (flat plane s.at) (flat plane end)
+    not (is_some v.r) || radius_holds (worth v.r).v (flat plane s.at) (flat plane end)
 
 -- geometry that gives no record at all
 abbrev pub impossible : Moves
@@ -68,11 +68,11 @@ arc_moves make left s v end =
 
 -- "R positive is the arc of at most half a turn, R negative the larger one"
 abbrev pub is_larger : Values → Bool
-is_larger v = lt_z v.r.v.v (pos 0)
+is_larger v = lt_z (worth v.r).v (pos 0)
 
 -- "done when the block names one, or one is on and X, Y, Z or R stands"
 unfoldable pub cycle_done : Bool → Values → Bool
-cycle_done named v = named || end_stands v || v.r.stands
+cycle_done named v = named || end_stands v || is_some v.r
 
 unfoldable pub cycle_moves : Cycle → State → Point → Values → Moves
 cycle_moves cycle s origin v =
@@ -97,5 +97,5 @@ motion_of (Drilling cycle) named s origin v = if cycle_done named v then cycle_m
 unfoldable pub moves_of : BlockCode → Bool → State → Point → Values → Moves
 moves_of Calling named s origin v = no_moves
 moves_of Returning named s origin v = no_moves
-moves_of Dwelling named s origin v = one (DW v.p.v)
+moves_of Dwelling named s origin v = one (DW (worth v.p))
 moves_of (Moving motion) named s origin v = motion_of motion named s origin v

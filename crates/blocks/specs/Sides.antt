@@ -2,7 +2,7 @@
 -- it, where it is shown of G02 and G03 with R positive and with R negative.
 use Rattle.std.specs.Prelude.{◌≡◌, ◌∷◌}
 use Rattle.terms.specs.Common.{Bool, true, false, []}
-use Rattle.words.specs.declared.Values.{Values}
+use Rattle.words.specs.{declared.Values.Values, Values.worth}
 use Rattle.lengths.specs.{declared.Point.Point, declared.Flat.Flat, Points.flat}
 use Rattle.records.specs.declared.{Arc.Arc, Record.Record}
 use Rattle.settings.specs.declared.State.{State}
@@ -24,7 +24,7 @@ way_to s end = direction (start_in s) (end_in s end)
 -- middle on the way `across` from the chord, and `side` tells to which side this is turned.
 pub record OneArc (side : Bool) (make : Arc → Record) (s : State) (v : Values) (end : Point) (moves : Moves) : Type 0 where
   pub made : moves ≡ record { records = make (arc_to side s v end) ∷ []; sound = true }
-  pub exact : Centre side v.r.v.v (start_in s) (end_in s end) (centre_of (arc_to side s v end))
+  pub exact : Centre side (worth v.r).v (start_in s) (end_in s end) (centre_of (arc_to side s v end))
 
 -- the way across is turned to the left, so that it lies to the left of the way from start to end
 pub record LeftCentre (make : Arc → Record) (s : State) (v : Values) (end : Point) (moves : Moves) : Type 0 where

@@ -8,13 +8,13 @@ use Rattle.lengths.specs.{declared.Len.Len, declared.Point.Point, Points.at_heig
 use Rattle.codes.specs.Codes.{group_of, is_group_a, is_g04, clash, misc_number, is_m, cycle_number}
 use Rattle.codes.specs.declared.{Cycle.Cycle, Motion.TheVariants.Drilling, Plane.Plane, Code.TheVariants.GroupA, Misc.TheVariants.Other}
 use Rattle.codes.specs.declared.Cycle.TheVariants.{G81, G82, G85, G89}
-use Rattle.words.specs.{declared.Number.Number, declared.Word.Word, declared.Given.Given, Values.missing, Values.value_of, Words.these}
+use Rattle.words.specs.{declared.Number.Number, declared.Word.Word, Values.value_of, Words.these}
 use Rattle.records.specs.{declared.Record.Record, Layout.room_of, Path.end_of}
 use Rattle.settings.specs.{declared.Modes.Modes, declared.State.State, Settings.switched, Settings.or_else}
 use Rattle.settings.specs.CycleWords.{same_cycle, kept_before, under_by, stands_with, under_with, kept_with, kept_under}
 use Rattle.cycles.{specs.Cycles.hole_of, specs.Cycles.levels_hold, specs.Cycles.pass_count, specs.Cycles.passes, proofs.Passes.same_place}
 use Rattle.letters.specs.Letters.{is_known, code_in, repeats, bad_g, may_not_stand, first_that_may_not, misc_or_other, misc_of_block, modes_in, names_group_a, names_g04, code_under, block_code}
-use Rattle.letters.specs.Letters.{drilling_letters, motion_letters, letters_of, use_of, is_nothing, turns, is_arc, has_centre, is_unused, first_unused, word_value, is_bad, first_bad_value, given_by, with_value, values_after}
+use Rattle.letters.specs.Letters.{drilling_letters, motion_letters, letters_of, use_of, is_nothing, turns, is_arc, has_centre, is_unused, first_unused, word_value, is_bad, first_bad_value, with_value, values_after}
 use Rattle.letters.specs.declared.BlockCode.{BlockCode, TheVariants.Moving}
 use Rattle.blocks.specs.{Machine.Machine, declared.Said.Said, declared.Control.Control, Motions.cycle_done, Motions.cycle_moves, Motions.motion_of, Motions.moves_of}
 use Rattle.blocks.specs.Exec.{Calls, in_main, said_by, kept_by, working, spindle_records, moves_in, made_by, settled, control_of, call_to, lacks_centre, lacks_parameter, drills, cannot_drill, at_word, blames, Verdict, refused, accepted, unless, judged, exec_words}
@@ -72,7 +72,7 @@ module _ (machine : Machine) (calls : Calls) (cycle : Cycle) (n : Naming) (is : 
   abbrev value_in : Modes → ℕ → Number → Option Len
   value_in m letter k = word_value machine.speeds m code (word letter k)
 
-  abbrev said : Bool → Modes → Given → Given → Given → Given → Said
+  abbrev said : Bool → Modes → Option Len → Option Len → Option Len → Option Len → Said
   said named m x y z r =
       record {
         modes = m;
@@ -84,13 +84,13 @@ module _ (machine : Machine) (calls : Calls) (cycle : Cycle) (n : Naming) (is : 
               x = x;
               y = y;
               z = z;
-              i = missing;
-              j = missing;
-              k = missing;
+              i = None;
+              j = None;
+              k = None;
               r = r;
-              p = missing;
-              f = missing;
-              s = missing;
+              p = None;
+              f = None;
+              s = None;
             };
       }
 
@@ -110,11 +110,11 @@ module _ (machine : Machine) (calls : Calls) (cycle : Cycle) (n : Naming) (is : 
   abbrev r : Modes → Option Len
   r m = value_in (drilling m) (byte "R") n.r
 
-  said_full : (m : Modes) (p : Spot) → said_by machine m (in_full n p) ≡ said true (drilling m) (given_by (x m p)) (given_by (y m p)) (given_by (z m)) (given_by (r m))
+  said_full : (m : Modes) (p : Spot) → said_by machine m (in_full n p) ≡ said true (drilling m) (x m p) (y m p) (z m) (r m)
   unfolding said_by modes_in switched block_code code_under misc_of_block misc_or_other first any names_g04 names_group_a is_g04 is_group_a group_of is_m misc_number values_after with_value
   said_full m p = rw is
 
-  said_short : (m : Modes) (p : Spot) → said_by machine (drilling m) (placed p) ≡ said false (drilling m) (given_by (x m p)) (given_by (y m p)) missing missing
+  said_short : (m : Modes) (p : Spot) → said_by machine (drilling m) (placed p) ≡ said false (drilling m) (x m p) (y m p) None None
   unfolding said_by modes_in switched block_code code_under misc_of_block misc_or_other first any names_g04 names_group_a is_g04 is_group_a group_of is_m misc_number values_after with_value
   said_short m p = refl
 
@@ -143,9 +143,6 @@ module _ (machine : Machine) (calls : Calls) (cycle : Cycle) (n : Naming) (is : 
   g_fits : (m : Modes) → is_bad (value_in m (byte "G") n.g) ≡ false
   unfolding is_bad word_value use_of lookup value_of
   g_fits m = refl
-
-  abbrev given : Len → Given
-  given v = record { stands = true; v = v }
 
   -- ---- on a plate: the cycle is on, and its Z and R were written under the G90 or G91 that is on
 
@@ -182,10 +179,10 @@ module _ (machine : Machine) (calls : Calls) (cycle : Cycle) (n : Naming) (is : 
       s = state_of g
 
       abbrev short : Said
-      short = said false (drilling m) (given xv) (given yv) missing missing
+      short = said false (drilling m) (Some xv) (Some yv) None None
 
       abbrev full : Said
-      full = said true (drilling m) (given xv) (given yv) (given zv) (given rv)
+      full = said true (drilling m) (Some xv) (Some yv) (Some zv) (Some rv)
 
       working_same : working s short ≡ working s full
       unfolding working or_else kept_by kept_under kept_before kept_with stands_with under_with under_by
@@ -196,7 +193,7 @@ module _ (machine : Machine) (calls : Calls) (cycle : Cycle) (n : Naming) (is : 
       cycle_same w origin =
           let h = hole_of cycle w origin in
           ap (λ (rs : List Record). record { records = rs; sound = levels_hold h })
-          (same_place h w.modes.distance origin full.values short.values (pass_count missing) h.stood w.at w.at.z)
+          (same_place h w.modes.distance origin full.values short.values (pass_count None) h.stood w.at w.at.z)
 
       moves_same : moves_in machine s short ≡ moves_in machine s full
       unfolding moves_in moves_of motion_of cycle_done
@@ -247,17 +244,17 @@ module _ (machine : Machine) (calls : Calls) (cycle : Cycle) (n : Naming) (is : 
 
       module _ {vx vy : Option Len} (ex : x m p ≡ vx) (ey : y m p ≡ vy) where
         abbrev short_said : Said
-        short_said = said false (drilling m) (given_by vx) (given_by vy) missing missing
+        short_said = said false (drilling m) vx vy None None
 
         abbrev full_said : Said
-        full_said = said true (drilling m) (given_by vx) (given_by vy) (given zv) (given rv)
+        full_said = said true (drilling m) vx vy (Some zv) (Some rv)
 
         short_is : short_verdict ≡ judged machine calls room here 0 (placed p) short_said
         unfolding exec_words
         short_is = rw (said_short m p, ex, ey)
 
         full_is : full_verdict ≡ judged machine calls room here 0 (in_full n p) full_said
-        unfolding exec_words given_by
+        unfolding exec_words
         full_is = rw (said_full (drilling m) p, ex, ey, ez, er)
 
         module _ {w : Word} (bad : first_bad_value machine.speeds (drilling m) code (placed p) ≡ Some w) where
@@ -294,7 +291,7 @@ module _ (machine : Machine) (calls : Calls) (cycle : Cycle) (n : Naming) (is : 
           record { same = e ∙ sym f; leads = λ i. let no : ◌≡◌ {A = ℕ} 0 1 = cc in absurd (omega arith) }
 
       alike : Alike
-      unfolding first_bad_value first is_bad given_by
+      unfolding first_bad_value first is_bad
       alike = go (x m p) (y m p) refl refl
         where
           go : (vx vy : Option Len) → x m p ≡ vx → y m p ≡ vy → Alike
@@ -352,7 +349,7 @@ module _ (machine : Machine) (calls : Calls) (cycle : Cycle) (n : Naming) (is : 
 
     -- an accepted one leaves a plate's settings
     first_leaves : {zv rv : Len} (ez : z m₀ ≡ Some zv) (er : r m₀ ≡ Some rv) → (g : Ground) × (settled machine before first_said ≡ state_of m₀ ez er g)
-    unfolding settled working or_else kept_by kept_under kept_with stands_with under_with under_by given_by
+    unfolding settled working or_else kept_by kept_under kept_with stands_with under_with under_by
     first_leaves ez er =
         let k = kept_before cycle m₀.motion before.at.z before.kept in (
           record {

@@ -1,5 +1,6 @@
 -- What a verdict on a block says: what an accepted block has passed and where it leads, which refusals a block can get, and what
 -- another machine, whose two tests "16; 9" differ, says of a block that was accepted.
+use Rattle.words.specs.Values.{worth}
 use Rattle.std.specs.Prelude.{if◌then◌else◌}
 use Rattle.terms.proofs.Common.{ℕ, ◌+◌, ◌≡◌, refl, sym, ◌∙◌, ap, Bool, true, false, true≢false, not, ◌&&◌, ◌||◌, Option, None, Some, List, [], ◌∷◌, ◌++◌, arith, eqb, ltb, drop, nat_abs, not-false}
 use Rattle.terms.{specs.Terms.all, specs.Terms.any, specs.Terms.first, specs.Terms.first_of, proofs.Laws.either_left, proofs.Laws.either_right}
@@ -129,7 +130,7 @@ module _
         let back : Back ≡ control_of said = cc in
         let stand = word_none CannotExecute (first_that_may_not (in_main calls) [] a.ws) a.first.0 in
         let none_is : is_m 99 said.misc ≡ false = no_return_words [] a.ws (rw main at stand) in
-        not_back (is_m 98 said.misc) (ends_program said.misc) (nat_abs said.values.p.v.v) (rw none_is at back)
+        not_back (is_m 98 said.misc) (ends_program said.misc) (nat_abs (worth said.values.p).v) (rw none_is at back)
 
     -- its path stays in the travel, and the tool stands where it ends
     pub accepted_path : (path_stays_in machine.stays s.at made ≡ true) × (t.at ≡ end_of s.at made)

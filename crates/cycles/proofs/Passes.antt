@@ -1,10 +1,10 @@
 -- Laws of the passes of a cycle: what one pass does, and how the next follows on it. Assumes nothing.
-use Rattle.std.specs.Prelude.{if◌then◌else◌}
-use Rattle.terms.proofs.Common.{ℕ, zero, suc, ◌≡◌, refl, sym, ◌∙◌, ap, ap₂, Bool, true, false, List, [], ◌∷◌, ◌++◌}
+use Rattle.std.specs.Prelude.{if◌then◌else◌, is_some}
+use Rattle.terms.proofs.Common.{ℕ, zero, suc, ◌≡◌, refl, sym, ◌∙◌, ap, ap₂, Bool, true, false, Option, List, [], ◌∷◌, ◌++◌}
 use Rattle.lengths.specs.{declared.Len.Len, declared.Point.Point, Points.at_height}
 use Rattle.codes.specs.declared.Cycle.{Cycle, TheVariants.G81, TheVariants.G82, TheVariants.G85, TheVariants.G89}
 use Rattle.codes.specs.declared.{Return.Return, Return.TheVariants.ToInitial, Return.TheVariants.ToR, Distance.Distance}
-use Rattle.words.specs.declared.{Given.Given, Values.Values}
+use Rattle.words.specs.{declared.Values.Values, Values.worth}
 use Rattle.records.specs.{declared.Record.Record, declared.Record.TheVariants.RP, declared.Record.TheVariants.LN, declared.Record.TheVariants.DW, Path.path_of, Path.path_end, Path.end_of}
 use Rattle.settings.specs.Target.{aimed, target}
 use Rattle.cycles.specs.{declared.Hole.Hole, Cycles.level_for, Cycles.return_level, Cycles.dwelling, Cycles.up_under, Cycles.leaving, Cycles.pass_to, Cycles.passes_at}
@@ -19,35 +19,35 @@ other s a b e = rw e
 
 module _ (h : Hole) (level : Len) (p : Point) where
   pub with_z :
-      h.z.stands ≡ true
+      is_some h.z ≡ true
       → pass_to h level p
-      ≡ RP (at_height p level) ∷ RP (at_height p h.r) ∷ LN (at_height p h.z.v) h.feed ∷ dwelling h.dwell ++ leaving h.cycle h p
+      ≡ RP (at_height p level) ∷ RP (at_height p h.r) ∷ LN (at_height p (worth h.z)) h.feed ∷ dwelling h.dwell ++ leaving h.cycle h p
   unfolding pass_to
-  with_z e = chosen h.z.stands _ _ e
+  with_z e = chosen (is_some h.z) _ _ e
 
-  pub without_z : h.z.stands ≡ false → pass_to h level p ≡ RP (at_height p h.stood) ∷ []
+  pub without_z : is_some h.z ≡ false → pass_to h level p ≡ RP (at_height p h.stood) ∷ []
   unfolding pass_to
-  without_z e = other h.z.stands _ _ e
+  without_z e = other (is_some h.z) _ _ e
 
-pub dwell_is : (g : Given) → g.stands ≡ true → dwelling g ≡ DW g.v ∷ []
+pub dwell_is : (g : Option Len) → is_some g ≡ true → dwelling g ≡ DW (worth g) ∷ []
 unfolding dwelling
-dwell_is g e = chosen g.stands (DW g.v ∷ []) [] e
+dwell_is g e = chosen (is_some g) (DW (worth g) ∷ []) [] e
 
-pub no_dwell_is : (g : Given) → g.stands ≡ false → dwelling g ≡ []
+pub no_dwell_is : (g : Option Len) → is_some g ≡ false → dwelling g ≡ []
 unfolding dwelling
-no_dwell_is g e = other g.stands (DW g.v ∷ []) [] e
+no_dwell_is g e = other (is_some g) (DW (worth g) ∷ []) [] e
 
 -- ---- where one pass goes
 
 -- a dwell leads nowhere
-dwelling_ends : (g : Given) (from : Point) (rs : List Record) → end_of from (dwelling g ++ rs) ≡ end_of from rs
+dwelling_ends : (g : Option Len) (from : Point) (rs : List Record) → end_of from (dwelling g ++ rs) ≡ end_of from rs
 unfolding end_of path_end path_of dwelling
 dwelling_ends g from rs =
-    elim g.stands as (λ s. end_of from ((if s then DW g.v ∷ [] else []) ++ rs) ≡ end_of from rs) [ true ↦ refl | false ↦ refl ]
+    elim (is_some g) as (λ s. end_of from ((if s then DW (worth g) ∷ [] else []) ++ rs) ≡ end_of from rs) [ true ↦ refl | false ↦ refl ]
 
 -- the level where a pass leaves the tool
 abbrev pub last_level : Hole → Len
-last_level h = if h.z.stands then return_level h else h.stood
+last_level h = if is_some h.z then return_level h else h.stood
 
 module _ (h : Hole) (p : Point) where
   up_ends : (b : Return) → end_of (at_height p h.r) (up_under b h p) ≡ at_height p (level_for b h)
@@ -62,23 +62,23 @@ module _ (h : Hole) (p : Point) where
   leaving_ends G85 from = up_ends h.back
   leaving_ends G89 from = up_ends h.back
 
-  pub ends_with_z : (level : Len) (from : Point) → h.z.stands ≡ true → end_of from (pass_to h level p) ≡ at_height p (return_level h)
+  pub ends_with_z : (level : Len) (from : Point) → is_some h.z ≡ true → end_of from (pass_to h level p) ≡ at_height p (return_level h)
   unfolding end_of path_end path_of
   ends_with_z level from e =
       ap (end_of from) (with_z h level p e)
-      ∙ dwelling_ends h.dwell (at_height p h.z.v) (leaving h.cycle h p)
-      ∙ leaving_ends h.cycle (at_height p h.z.v)
+      ∙ dwelling_ends h.dwell (at_height p (worth h.z)) (leaving h.cycle h p)
+      ∙ leaving_ends h.cycle (at_height p (worth h.z))
 
-  pub ends_without_z : (level : Len) (from : Point) → h.z.stands ≡ false → end_of from (pass_to h level p) ≡ at_height p h.stood
+  pub ends_without_z : (level : Len) (from : Point) → is_some h.z ≡ false → end_of from (pass_to h level p) ≡ at_height p h.stood
   unfolding end_of path_end path_of
   ends_without_z level from e = ap (end_of from) (without_z h level p e)
 
   pub ends_at : (level : Len) (from : Point) → end_of from (pass_to h level p) ≡ at_height p (last_level h)
-  ends_at level from = by h.z.stands refl
+  ends_at level from = by (is_some h.z) refl
     where
-      by : (s : Bool) → h.z.stands ≡ s → end_of from (pass_to h level p) ≡ at_height p (last_level h)
-      by true e = ends_with_z level from e ∙ ap (at_height p) (sym (chosen h.z.stands (return_level h) h.stood e))
-      by false e = ends_without_z level from e ∙ ap (at_height p) (sym (other h.z.stands (return_level h) h.stood e))
+      by : (s : Bool) → is_some h.z ≡ s → end_of from (pass_to h level p) ≡ at_height p (last_level h)
+      by true e = ends_with_z level from e ∙ ap (at_height p) (sym (chosen (is_some h.z) (return_level h) h.stood e))
+      by false e = ends_without_z level from e ∙ ap (at_height p) (sym (other (is_some h.z) (return_level h) h.stood e))
 
 -- ---- how passes follow each other
 

@@ -1,11 +1,12 @@
 -- The records of a pass by their places. Assumes nothing.
-use Rattle.std.specs.Prelude.{if◌then◌else◌}
+use Rattle.std.specs.Prelude.{if◌then◌else◌, is_some}
 use Rattle.terms.proofs.Common.{ℕ, zero, suc, ◌+◌, ◌-◌, ◌≤◌, ◌<◌, ◌≡◌, refl, sym, ◌∙◌, ap, Bool, true, false, List, [], ◌∷◌, ◌++◌, arith, length, length-append}
 use denote.Enum.Declared.{tag_of}
 use types.Run.{OneOf, miss}
 use Rattle.lengths.specs.{declared.Len.Len, declared.Point.Point, Points.at_height}
 use Rattle.codes.specs.declared.Cycle.{Cycle, TheVariants.G81, TheVariants.G82, TheVariants.G85, TheVariants.G89}
 use Rattle.codes.{specs.declared.Return.Return, specs.declared.Return.TheVariants.ToInitial, specs.declared.Return.TheVariants.ToR, specs.contracts.Cycle.the_type as cycle-type}
+use Rattle.words.specs.Values.{worth}
 use Rattle.records.specs.declared.Record.{Record, TheVariants.RP, TheVariants.LN, TheVariants.DW}
 use Rattle.cycles.specs.{declared.Hole.Hole, Cycles.return_level, Cycles.dwelling, Cycles.up_under, Cycles.leaving, Cycles.pass_to, Bounds.UpLength, Bounds.PassLength, Bounds.Stands}
 use Rattle.cycles.proofs.Passes.{with_z, without_z, dwell_is, no_dwell_is}
@@ -68,22 +69,22 @@ module _ {cycle : Cycle} {back : Return} (o : OneOf (2 ∷ 3 ∷ []) (tag_of cyc
   length_r e = record { is = λ h p f. rw (two_up cycle o h p, f, e); most = omega arith }
 
 module _ (h : Hole) where
-  pub length_flat : h.z.stands ≡ false → PassLength h 1
+  pub length_flat : is_some h.z ≡ false → PassLength h 1
   length_flat e = record { is = λ level p. sym (ap length (without_z h level p e)); most = omega arith }
 
-  module _ (z : h.z.stands ≡ true) {n : ℕ} (up : UpLength h.cycle h.back n) where
+  module _ (z : is_some h.z ≡ true) {n : ℕ} (up : UpLength h.cycle h.back n) where
     deep_length : (level : Len) (p : Point) → length (pass_to h level p) ≡ 3 + length (dwelling h.dwell) + n
     deep_length level p =
         ap length (with_z h level p z) ∙ omega (arith, length-append (dwelling h.dwell) (leaving h.cycle h p), up.is h p refl)
 
-    pub length_dwell : h.dwell.stands ≡ true → PassLength h (4 + n)
+    pub length_dwell : is_some h.dwell ≡ true → PassLength h (4 + n)
     length_dwell e =
         record {
           is = λ level p. omega (arith, deep_length level p, ap length (dwell_is h.dwell e));
           most = omega (arith, up.most);
         }
 
-    pub length_deep : h.dwell.stands ≡ false → PassLength h (3 + n)
+    pub length_deep : is_some h.dwell ≡ false → PassLength h (3 + n)
     length_deep e =
         record {
           is = λ level p. omega (arith, deep_length level p, ap length (no_dwell_is h.dwell e));
@@ -135,7 +136,7 @@ module _ (h : Hole) (p : Point) (i : ℕ) where
   abbrev after : List Record
   after = dwelling h.dwell ++ leaving h.cycle h p
 
-  module _ (e : h.dwell.stands ≡ false) where
+  module _ (e : is_some h.dwell ≡ false) where
     no_dwell : after ≡ leaving h.cycle h p
     no_dwell = rw (no_dwell_is h.dwell e)
 
@@ -145,39 +146,39 @@ module _ (h : Hole) (p : Point) (i : ℕ) where
     pub after_up : {r : Record} → Stands (leaving h.cycle h p) i r → Stands after i r
     after_up s = stands_as i no_dwell s
 
-  module _ (e : h.dwell.stands ≡ true) where
-    dwells : after ≡ DW h.dwell.v ∷ leaving h.cycle h p
+  module _ (e : is_some h.dwell ≡ true) where
+    dwells : after ≡ DW (worth h.dwell) ∷ leaving h.cycle h p
     dwells = rw (dwell_is h.dwell e)
 
-    pub after_dwell : i ≡ 0 → Stands after i (DW h.dwell.v)
-    after_dwell f = stands_as i dwells (stands_first (DW h.dwell.v) (leaving h.cycle h p) i f)
+    pub after_dwell : i ≡ 0 → Stands after i (DW (worth h.dwell))
+    after_dwell f = stands_as i dwells (stands_first (DW (worth h.dwell)) (leaving h.cycle h p) i f)
 
     module _ (some : i ≡ 0 → ⊥) where
       pub up_left : i < length after → i - 1 < length (leaving h.cycle h p)
       up_left most = let f = rw dwells at most in omega (arith, f)
 
       pub after_rest : {r : Record} → Stands (leaving h.cycle h p) (i - 1) r → Stands after i r
-      after_rest s = stands_as i dwells (stands_rest (DW h.dwell.v) (leaving h.cycle h p) _ i (omega (arith, some)) s)
+      after_rest s = stands_as i dwells (stands_rest (DW (worth h.dwell)) (leaving h.cycle h p) _ i (omega (arith, some)) s)
 
 -- ---- the whole pass
 
 module _ (h : Hole) (level : Len) (p : Point) (i : ℕ) {q : Point} where
-  pub row_flat : h.z.stands ≡ false → i < length (pass_to h level p) → q ≡ at_height p h.stood → Stands (pass_to h level p) i (RP q)
+  pub row_flat : is_some h.z ≡ false → i < length (pass_to h level p) → q ≡ at_height p h.stood → Stands (pass_to h level p) i (RP q)
   row_flat e most f =
       let one : i < 1 = rw (without_z h level p e) at most in
       stands_as i (without_z h level p e) (rw f (stands_first (RP (at_height p h.stood)) [] i (omega (arith, one))))
 
-  module _ (e : h.z.stands ≡ true) where
+  module _ (e : is_some h.z ≡ true) where
     pub row_first : i ≡ 0 → q ≡ at_height p level → Stands (pass_to h level p) i (RP q)
     row_first f g = stands_as i (with_z h level p e) (rw (f, g))
 
     pub row_second : i ≡ 1 → q ≡ at_height p h.r → Stands (pass_to h level p) i (RP q)
     row_second f g = stands_as i (with_z h level p e) (rw (f, g))
 
-    pub row_third : i ≡ 2 → q ≡ at_height p h.z.v → Stands (pass_to h level p) i (LN q h.feed)
+    pub row_third : i ≡ 2 → q ≡ at_height p (worth h.z) → Stands (pass_to h level p) i (LN q h.feed)
     row_third f g = stands_as i (with_z h level p e) (rw (f, g))
 
-module _ (h : Hole) (level : Len) (p : Point) (i : ℕ) (e : h.z.stands ≡ true) (more : 2 < i) where
+module _ (h : Hole) (level : Len) (p : Point) (i : ℕ) (e : is_some h.z ≡ true) (more : 2 < i) where
   pub row_left : i < length (pass_to h level p) → i - 3 < length (dwelling h.dwell ++ leaving h.cycle h p)
   row_left most = let f = rw (with_z h level p e) at most in omega (arith, f)
 
@@ -186,21 +187,21 @@ module _ (h : Hole) (level : Len) (p : Point) (i : ℕ) (e : h.z.stands ≡ true
       let rest = dwelling h.dwell ++ leaving h.cycle h p in
       let n : i - 1 - 1 - 1 ≡ i - 3 = omega arith in
       stands_as i (with_z h level p e)
-      (stands_rest (RP (at_height p level)) (RP (at_height p h.r) ∷ LN (at_height p h.z.v) h.feed ∷ rest) r i (omega (arith, more))
-      (stands_rest (RP (at_height p h.r)) (LN (at_height p h.z.v) h.feed ∷ rest) r (i - 1) (omega (arith, more))
-      (stands_rest (LN (at_height p h.z.v) h.feed) rest r (i - 1 - 1) (omega (arith, more)) (rw n s))))
+      (stands_rest (RP (at_height p level)) (RP (at_height p h.r) ∷ LN (at_height p (worth h.z)) h.feed ∷ rest) r i (omega (arith, more))
+      (stands_rest (RP (at_height p h.r)) (LN (at_height p (worth h.z)) h.feed ∷ rest) r (i - 1) (omega (arith, more))
+      (stands_rest (LN (at_height p (worth h.z)) h.feed) rest r (i - 1 - 1) (omega (arith, more)) (rw n s))))
 
 -- a pass has six records at most
 pub pass_few : (h : Hole) (level : Len) (p : Point) → length (pass_to h level p) ≤ 6
 unfolding dwelling
-pass_few h level p = by h.z.stands refl
+pass_few h level p = by (is_some h.z) refl
   where
-    dwell_few : (t : Bool) → length (if t then DW h.dwell.v ∷ [] else []) ≤ 1
+    dwell_few : (t : Bool) → length (if t then DW (worth h.dwell) ∷ [] else []) ≤ 1
     dwell_few true = omega arith
     dwell_few false = omega arith
 
-    by : (s : Bool) → h.z.stands ≡ s → length (pass_to h level p) ≤ 6
+    by : (s : Bool) → is_some h.z ≡ s → length (pass_to h level p) ≤ 6
     by true e =
         rw (with_z h level p e)
-        (omega (arith, length-append (dwelling h.dwell) (leaving h.cycle h p), dwell_few h.dwell.stands, leaving_few h.cycle h p))
+        (omega (arith, length-append (dwelling h.dwell) (leaving h.cycle h p), dwell_few (is_some h.dwell), leaving_few h.cycle h p))
     by false e = rw (without_z h level p e) (omega arith)

@@ -1,9 +1,8 @@
 -- The bounds that a run keeps where a cycle is done, and what the functions under them answer.
 use Rattle.std.specs.Prelude.{◌+◌, ◌≤◌, ◌≡◌, ◌∷◌}
-use Rattle.terms.specs.Common.{ℕ, List, length, drop}
+use Rattle.terms.specs.Common.{ℕ, Option, List, length, drop}
 use Rattle.lengths.specs.{declared.Len.Len, View.Within, declared.Point.Point}
 use Rattle.codes.specs.declared.{Cycle.Cycle, Return.Return}
-use Rattle.words.specs.declared.Given.{Given}
 use Rattle.records.specs.declared.Record.{Record, TheVariants.RP, TheVariants.LN, TheVariants.DW}
 use Rattle.settings.specs.{declared.State.State, Bounds.KeptNear}
 use Rattle.cycles.specs.declared.{Hole.Hole, Row.Row, Row.TheVariants.Rapid, Row.TheVariants.Cut, Row.TheVariants.Dwell}
@@ -15,7 +14,7 @@ pub record Holes (origin : Point) (s : State) : Type 0 where
   pub kept : KeptNear s.kept
 
 -- a number of passes
-pub record Counts (k : Given) (n : ℕ) : Type 0 where
+pub record Counts (k : Option Len) (n : ℕ) : Type 0 where
   pub is : n ≡ pass_count k
   pub few : n ≤ 9_999
 

@@ -1,10 +1,11 @@
 -- Document 01, "Cycles": the levels and the passes.
-use Rattle.std.specs.Prelude.{◌&&◌, ◌||◌, ◌∷◌, ◌++◌, if◌then◌else◌}
-use Rattle.terms.specs.Common.{ℕ, zero, suc, Bool, not, List, [], nat_abs, le_z}
+use Rattle.std.specs.Prelude.{◌&&◌, ◌||◌, ◌∷◌, ◌++◌, if◌then◌else◌, is_some}
+use Rattle.std.specs.Bool.{then_some}
+use Rattle.terms.specs.Common.{ℕ, zero, suc, Bool, not, Option, List, [], nat_abs, le_z}
 use Rattle.lengths.specs.{declared.Len.Len, declared.Point.Point, Points.at_height}
 use Rattle.codes.specs.declared.Cycle.{Cycle, TheVariants.G81, TheVariants.G82, TheVariants.G85, TheVariants.G89}
 use Rattle.codes.specs.declared.{Return.Return, Return.TheVariants.ToInitial, Return.TheVariants.ToR, Distance.Distance}
-use Rattle.words.specs.declared.{Given.Given, Values.Values}
+use Rattle.words.specs.{declared.Values.Values, Values.worth}
 use Rattle.records.specs.declared.Record.{Record, TheVariants.RP, TheVariants.LN, TheVariants.DW}
 use Rattle.settings.specs.{declared.Kept.Kept, declared.State.State, CycleWords.kept_z, CycleWords.kept_r, CycleWords.kept_p, Target.aimed, Target.target}
 use Rattle.cycles.specs.declared.Hole.{Hole}
@@ -28,14 +29,14 @@ hole_of cycle s origin =
       initial = kept.initial;
       stood = s.at.z;
       r = r;
-      z = record { stands = kept.stands.z; v = level_z origin r kept };
+      z = then_some kept.stands.z (level_z origin r kept);
       dwell = kept_p kept;
       feed = s.feed;
     }
 
 -- "Z above R or R above the initial level is refused."
 unfoldable pub levels_hold : Hole → Bool
-levels_hold h = (not h.z.stands || le_z h.z.v.v h.r.v) && le_z h.r.v h.initial.v
+levels_hold h = (not (is_some h.z) || le_z (worth h.z).v h.r.v) && le_z h.r.v h.initial.v
 
 -- "the return level is that (G98) or R (G99)."
 unfoldable pub level_for : Return → Hole → Len
@@ -46,8 +47,8 @@ unfoldable pub return_level : Hole → Len
 return_level h = level_for h.back h
 
 -- "dwell for G82 and G89 where P stands": the other cycles do not take a P
-unfoldable pub dwelling : Given → List Record
-dwelling g = if g.stands then DW g.v ∷ [] else []
+unfoldable pub dwelling : Option Len → List Record
+dwelling g = if is_some g then DW (worth g) ∷ [] else []
 
 -- "and, under G98, rapid to the initial level"
 unfoldable pub up_under : Return → Hole → Point → List Record
@@ -66,9 +67,9 @@ leaving G89 h p = LN (at_height p h.r) h.feed ∷ up_under h.back h p
 -- "With Z each pass: rapid to X, Y ..; then rapid to R, cut to Z, dwell .., then .."
 unfoldable pub pass_to : Hole → Len → Point → List Record
 pass_to h level p =
-    if h.z.stands
+    if is_some h.z
     then
-    RP (at_height p level) ∷ RP (at_height p h.r) ∷ LN (at_height p h.z.v) h.feed ∷ dwelling h.dwell
+    RP (at_height p level) ∷ RP (at_height p h.r) ∷ LN (at_height p (worth h.z)) h.feed ∷ dwelling h.dwell
     ++ leaving h.cycle h p
     else RP (at_height p h.stood) ∷ []
 
@@ -80,8 +81,8 @@ passes_at (suc k) h next level p =
     pass_to h level (next p) ++ passes_at k h next (return_level h) (next p)
 
 -- "K: missing 1"
-unfoldable pub pass_count : Given → ℕ
-pass_count g = if g.stands then nat_abs g.v.v else 1
+unfoldable pub pass_count : Option Len → ℕ
+pass_count g = if is_some g then nat_abs (worth g).v else 1
 
 unfoldable pub passes : Hole → Distance → Point → Point → Values → List Record
 passes h d origin now v = passes_at (pass_count v.k) h (λ p. target d origin p v) h.stood now

@@ -4,6 +4,7 @@
 ghost use Rattle.std.specs.Prelude.{◌≡◌, ◌<◌, ◌∷◌, ◌++◌};
 ghost use Rattle.terms.specs.Common.{[], length};
 ghost use Rattle.lengths.specs.View.{Within};
+ghost use Rattle.words.specs.Values.{worth};
 ghost use Rattle.records.specs.{Path.path_of, Path.path_end, Path.end_of, Layout.kind_of, Layout.kind_length, Writing.moved_bytes, Writing.RoomFor, Serving.Wrote};
 ghost use Rattle.settings.specs.{CycleWords.kept_z, CycleWords.kept_r, Bounds.Sized};
 ghost use Rattle.cycles.specs.Cycles.{level_r, level_z, hole_of, levels_hold, return_level, dwelling, leaving, pass_to};
@@ -13,7 +14,6 @@ use codes::{Cycle, Return};
 use lengths::{Len, Point};
 use records::Kind;
 use settings::{Kept, State};
-use words::Given;
 
 // A record of a pass: a rapid, a cut or a dwell.
 #[derive(Clone, Copy)]
@@ -24,7 +24,7 @@ pub enum Row {
 }
 
 // What a cycle does at each pass. The levels are heights in the frame of the common offset: the initial level that is held, the height
-// where the tool stood before the block, and those of R and Z; z and dwell are missing where no Z and no P is kept.
+// where the tool stood before the block, and those of R and Z; z and dwell are none where no Z and no P is kept.
 #[derive(Clone, Copy)]
 pub struct Hole {
     pub cycle: Cycle,
@@ -32,8 +32,8 @@ pub struct Hole {
     pub initial: Len,
     pub stood: Len,
     pub r: Len,
-    pub z: Given,
-    pub dwell: Given,
+    pub z: Option<Len>,
+    pub dwell: Option<Len>,
     pub feed: Len,
 }
 
@@ -42,14 +42,8 @@ fn level_r(origin: Point, kept: Kept) -> Len
     requires { Sized origin.z kept.initial (kept_r kept) }
     ensures { result ≡ level_r origin kept }
 {
-    let under = kept.under;
-    let d = under.r;
-    let v = kept.r;
-    let word = Given {
-        stands: kept.stands.r,
-        v,
-    };
-    settings::aimed(d, origin.z, kept.initial, word)
+    let word = kept.stands.r.then_some(kept.r);
+    settings::aimed(kept.under.r, origin.z, kept.initial, word)
 }
 
 // The height of Z: it leads from R.
@@ -57,14 +51,8 @@ fn level_z(origin: Point, r: Len, kept: Kept) -> Len
     requires { Sized origin.z r (kept_z kept) }
     ensures { result ≡ level_z origin r kept }
 {
-    let under = kept.under;
-    let d = under.z;
-    let v = kept.z;
-    let word = Given {
-        stands: kept.stands.z,
-        v,
-    };
-    settings::aimed(d, origin.z, r, word)
+    let word = kept.stands.z.then_some(kept.z);
+    settings::aimed(kept.under.z, origin.z, r, word)
 }
 
 // The hole of a block, by what its cycle keeps.
@@ -72,31 +60,18 @@ pub fn hole_of(cycle: Cycle, s: State, origin: Point) -> Hole
     requires { Holes origin s }
     ensures { result ≡ hole_of cycle s origin }
 {
-    let modes = s.modes;
-    let back = modes.back;
     let kept = s.kept;
-    let initial = kept.initial;
-    let at = s.at;
-    let stood = at.z;
     let r = level_r(origin, kept);
     let depth = level_z(origin, r, kept);
-    let ms = kept.dwell;
-    let feed = s.feed;
     Hole {
         cycle,
-        back,
-        initial,
-        stood,
+        back: s.modes.back,
+        initial: kept.initial,
+        stood: s.at.z,
         r,
-        z: Given {
-            stands: kept.stands.z,
-            v: depth,
-        },
-        dwell: Given {
-            stands: kept.stands.dwell,
-            v: ms,
-        },
-        feed,
+        z: kept.stands.z.then_some(depth),
+        dwell: kept.stands.dwell.then_some(kept.dwell),
+        feed: s.feed,
     }
 }
 
@@ -104,7 +79,10 @@ pub fn hole_of(cycle: Cycle, s: State, origin: Point) -> Hole
 pub fn levels_hold(h: Hole) -> bool
     ensures { result ≡ levels_hold h }
 {
-    (!h.z.stands | h.z.v.at_most(h.r)) & h.r.at_most(h.initial)
+    match h.z {
+        Some(z) => z.at_most(h.r) & h.r.at_most(h.initial),
+        None => h.r.at_most(h.initial),
+    }
 }
 
 pub fn return_level(h: Hole) -> Len
@@ -117,11 +95,14 @@ pub fn return_level(h: Hole) -> Len
 }
 
 // How many passes a K asks for. Its value is a count from 0 to 9,999.
-pub fn pass_count(k: Given) -> u64
-    requires { Within 9_999 k.v.v }
+pub fn pass_count(k: Option<Len>) -> u64
+    requires { Within 9_999 (worth k).v }
     ensures { Counts k result }
 {
-    if k.stands { k.v.apart(Len::zero()) } else { 1 }
+    match k {
+        Some(n) => n.apart(Len::zero()),
+        None => 1,
+    }
 }
 
 // How many records lead back up: under G98, G85 and G89 have a second one.
@@ -141,10 +122,10 @@ fn up_count(cycle: Cycle, back: Return) -> usize
 pub fn row_count(h: Hole) -> usize
     ensures { PassLength h result }
 {
-    if !h.z.stands {
+    if h.z.is_none() {
         return 1;
     }
-    if h.dwell.stands {
+    if h.dwell.is_some() {
         return 4 + up_count(h.cycle, h.back);
     }
     3 + up_count(h.cycle, h.back)
@@ -169,11 +150,9 @@ fn row_after_cut(h: Hole, i: usize, p: Point) -> Row
     requires { i < length (dwelling h.dwell ++ leaving h.cycle h p) }
     ensures { Stands (dwelling h.dwell ++ leaving h.cycle h p) i (row_record result) }
 {
-    let dwell = h.dwell;
-    let ms = dwell.v;
-    if !dwell.stands {
+    let Some(ms) = h.dwell else {
         return row_up(h, i, p);
-    }
+    };
     if i == 0 {
         return Row::Dwell(ms);
     }
@@ -185,10 +164,9 @@ pub fn row_at(h: Hole, i: usize, level: Len, p: Point) -> Row
     requires { i < length (pass_to h level p) }
     ensures { Stands (pass_to h level p) i (row_record result) }
 {
-    let feed = h.feed;
-    if !h.z.stands {
+    let Some(z) = h.z else {
         return Row::Rapid(lengths::at_height(p, h.stood));
-    }
+    };
     if i == 0 {
         return Row::Rapid(lengths::at_height(p, level));
     }
@@ -196,7 +174,7 @@ pub fn row_at(h: Hole, i: usize, level: Len, p: Point) -> Row
         return Row::Rapid(lengths::at_height(p, h.r));
     }
     if i == 2 {
-        return Row::Cut(lengths::at_height(p, h.z.v), feed);
+        return Row::Cut(lengths::at_height(p, z), h.feed);
     }
     row_after_cut(h, i - 3, p)
 }
@@ -205,7 +183,7 @@ pub fn row_at(h: Hole, i: usize, level: Len, p: Point) -> Row
 pub fn pass_end(h: Hole, p: Point) -> Point
     ensures { (level : Len) (from : Point) → result ≡ end_of from (pass_to h level p) }
 {
-    if h.z.stands {
+    if h.z.is_some() {
         lengths::at_height(p, return_level(h))
     } else {
         lengths::at_height(p, h.stood)

@@ -1,5 +1,6 @@
 -- The small tables of the order: which codes and motions a test is about. Assumes nothing.
-use Rattle.terms.proofs.Common.{◌≡◌, refl, Bool, true, false, ◌&&◌, ◌||◌, None, Some, [], ◌∷◌}
+use Rattle.std.specs.Prelude.{is_some}
+use Rattle.terms.proofs.Common.{◌≡◌, refl, Bool, true, false, not, ◌&&◌, ◌||◌, None, Some, [], ◌∷◌}
 use denote.Enum.{Bare.sameb, Declared.tag_of}
 use types.Run.{OneOf, miss}
 use Rattle.lengths.specs.declared.Len.{Len}
@@ -57,6 +58,11 @@ same_g17 G17 = refl
 same_g17 G18 = refl
 same_g17 G19 = refl
 
+-- a word is missing where it does not stand
+pub missing_is : (t : Bool) {u : Bool} → u ≡ not t → t ≡ not u
+missing_is true e = rw e
+missing_is false e = rw e
+
 -- ---- the records before and after the motion, and where an M code leads
 
 pub is_three : (m : Misc) → sameb misc-type m M03 ≡ is_m 3 m
@@ -83,7 +89,7 @@ is_five Other = refl
 
 module _ (s : State) (b : Said) {t : Bool} (is : t ≡ is_m 3 b.misc) where
   abbrev speaks : Bool
-  speaks = s.turning && b.values.s.stands || t
+  speaks = s.turning && is_some b.values.s || t
 
   pub spindle_one : {speed : Len} → speed ≡ (working s b).speed → speaks ≡ true → brief_records (Some (Speed speed)) ≡ spindle_records s b
   unfolding spindle_records brief_records

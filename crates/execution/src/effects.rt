@@ -1,6 +1,7 @@
 // What a block does beside its motion, in the order of effects.
 ghost use Rattle.std.specs.Prelude.{◌≡◌};
 ghost use Rattle.terms.specs.Common.{nat_abs};
+ghost use Rattle.words.specs.Values.{worth};
 ghost use Rattle.blocks.specs.Exec.{kept_by, working, spindle_records, last_records, control_of};
 ghost use Rattle.work.specs.Work.{brief_records};
 ghost use Rattle.execution.specs.Steps.{settled_at};
@@ -10,7 +11,7 @@ use codes::{Distance, Misc};
 use lengths::{Len, Point};
 use letters::BlockCode;
 use settings::{Kept, State};
-use words::{Given, Values};
+use words::Values;
 use work::Brief;
 
 // What is kept of a cycle: G04, M98 and M99 leave it as it is.
@@ -52,7 +53,7 @@ pub fn spindle_record(s: State, b: Said, speed: Len) -> Option<Brief>
     ensures { brief_records result ≡ spindle_records s b }
 {
     let misc = b.misc;
-    if (s.turning & b.values.s.stands) | (misc == Misc::M03) {
+    if (s.turning & b.values.s.is_some()) | (misc == Misc::M03) {
         return Some(Brief::Speed(speed));
     }
     None
@@ -71,10 +72,10 @@ pub fn last_record(misc: Misc) -> Option<Brief>
 }
 
 // The number that M98 calls. The value of P is not negative there.
-fn called(p: Given) -> u64
-    ensures { result ≡ nat_abs p.v.v }
+fn called(p: Option<Len>) -> u64
+    ensures { result ≡ nat_abs (worth p).v }
 {
-    p.v.apart(Len::zero())
+    p.unwrap_or(Len::zero()).apart(Len::zero())
 }
 
 pub fn control_of(b: Said) -> Control

@@ -21,7 +21,7 @@ pub fn lacks_parameter(code: BlockCode, v: Values) -> bool
     ensures { result ≡ lacks_parameter code v }
 {
     match code {
-        BlockCode::Calling | BlockCode::Dwelling => !v.p.stands,
+        BlockCode::Calling | BlockCode::Dwelling => v.p.is_none(),
         BlockCode::Returning => false,
         BlockCode::Moving(motion) => lacks_centre(motion, v),
     }

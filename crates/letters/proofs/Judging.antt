@@ -4,15 +4,15 @@ use Rattle.std.specs.Prelude.{if◌then◌else◌, Result, Ok, Err}
 use Rattle.terms.proofs.Common.{ℕ, ◌+◌, ◌≤◌, ◌<◌, ◌≡◌, refl, sym, ◌∙◌, Bool, true, false, ◌&&◌, ◌||◌, Option, None, Some, List, [], ◌∷◌, arith, add-one, eqb, length, take, drop, get_or, drop_of_length-le, length-take-le, drop-cons, get_or-take, ne_eqb}
 use Rattle.terms.specs.Terms.{byte, bytes, first}
 use Rattle.codes.proofs.Tables.{Others}
-use Rattle.words.specs.{declared.Word.Word, declared.Given.Given, declared.Use.Use, declared.Values.Values, Values.no_values}
+use Rattle.words.specs.{declared.Word.Word, declared.Use.Use, declared.Values.Values, Values.no_values}
 use Rattle.settings.specs.declared.Modes.{Modes}
 use Rattle.letters.specs.declared.{Speeds.Speeds, BlockCode.BlockCode, Unfit.Unfit, Unfit.TheVariants.Unused, Unfit.TheVariants.Bad}
-use Rattle.letters.specs.Letters.{use_of, is_nothing, is_unused, first_unused, word_value, is_bad, first_bad_value, given_by, with_value, values_after}
+use Rattle.letters.specs.Letters.{use_of, is_nothing, is_unused, first_unused, word_value, is_bad, first_bad_value, with_value, values_after}
 use Rattle.letters.specs.Judging.{unused_or, bad_or, judged_by, value_next, judged_next, judged_all, judged_after}
 use Rattle.lengths.specs.declared.Len.{Len}
 
 -- a letter that is none of a value's
-pub no_value : (v : Values) (g : Given) (n : ℕ) → Others n (bytes "SFPRKJIZYX") → v ≡ with_value v n g
+pub no_value : (v : Values) (g : Option Len) (n : ℕ) → Others n (bytes "SFPRKJIZYX") → v ≡ with_value v n g
 unfolding with_value
 no_value v g n h =
     rw (
@@ -44,9 +44,9 @@ module _ (speeds : Speeds) (m : Modes) (code : BlockCode) where
       → ((u : Values) → judged_all speeds m code (Ok u) ws ≡ by_values ws u)
       → judged_all speeds m code (value_next v w x) ws
       ≡ bad_or (if is_bad x then Some w else first_bad_value speeds m code ws)
-      (values_after (with_value v w.letter (given_by x)) speeds m code ws)
-  unfolding value_next bad_or is_bad given_by
-  value_next_lem v w ws (Some x) rest = rest (with_value v w.letter (given_by (Some x)))
+      (values_after (with_value v w.letter x) speeds m code ws)
+  unfolding value_next bad_or is_bad
+  value_next_lem v w ws (Some x) rest = rest (with_value v w.letter (Some x))
   value_next_lem v w ws None rest = stays_bad ws (Bad w.at)
 
   all_values : (ws : List Word) (v : Values) → judged_all speeds m code (Ok v) ws ≡ by_values ws v

@@ -6,7 +6,7 @@ use Rattle.lines.proofs.Opened.{opened as lines-opened}
 use Rattle.words.proofs.Opened.{opened as words_opened}
 use Rattle.settings.proofs.Opened.{opened as settings-opened}
 use Rattle.letters.specs.Judging.{unused_or, bad_or, judged_by, valued, value_next, judged_next, judged_all, judged_after}
-use Rattle.letters.specs.Letters.{is_known, code_in, misc_in, stands_alone, wrong_program, repeats, bad_g, bad_m, may_not_stand, first_that_may_not, misc_or_other, misc_of_block, modes_in, names_group_a, names_g04, code_under, block_code, end_letters, centre_letters, arc_letters, drilling_letters, motion_letters, letters_of, use_of, is_nothing, turns, is_arc, names_centre, has_centre, is_unused, first_unused, word_value, is_bad, first_bad_value, given_by, with_value, values_after}
+use Rattle.letters.specs.Letters.{is_known, code_in, misc_in, stands_alone, wrong_program, repeats, bad_g, bad_m, may_not_stand, first_that_may_not, misc_or_other, misc_of_block, modes_in, names_group_a, names_g04, code_under, block_code, end_letters, centre_letters, arc_letters, drilling_letters, motion_letters, letters_of, use_of, is_nothing, turns, is_arc, names_centre, has_centre, is_unused, first_unused, word_value, is_bad, first_bad_value, with_value, values_after}
 
 unfoldable pub opened : Unit {0}
 unfolding
@@ -58,7 +58,6 @@ unfolding
     word_value
     is_bad
     first_bad_value
-    given_by
     with_value
     values_after
 opened = tt

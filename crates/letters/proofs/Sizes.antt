@@ -8,14 +8,14 @@ use Rattle.lengths.{specs.declared.Len.Len, specs.Units.len, specs.View.Within, 
 use Rattle.codes.specs.declared.Cycle.{Cycle, TheVariants.G81, TheVariants.G82, TheVariants.G85, TheVariants.G89}
 use Rattle.codes.specs.declared.{Motion.Motion, Plane.Plane, Plane.TheVariants.G17, Plane.TheVariants.G18, Plane.TheVariants.G19, Unit.Unit}
 use Rattle.codes.specs.declared.Motion.TheVariants.{Off, G00, G01, G02, G03, Drilling}
-use Rattle.words.specs.declared.{Number.Number, Word.Word, Use.Use, Given.Given, Values.Values}
-use Rattle.words.specs.Values.{is_plain, signed, count_of, value_of, no_values}
+use Rattle.words.specs.declared.{Number.Number, Word.Word, Use.Use, Values.Values}
+use Rattle.words.specs.Values.{is_plain, signed, count_of, value_of, worth, no_values}
 use Rattle.words.proofs.Bounds.{tested, length_near, feed_near, dwell_between}
 use Rattle.words.specs.declared.Use.TheVariants.{Nothing, Codes, Label, Program, Length, Feed, Speed, Dwell, Count}
 use Rattle.settings.specs.declared.Modes.{Modes}
 use Rattle.letters.specs.{declared.Speeds.Speeds, declared.BlockCode.BlockCode, Sizes.Sizes}
 use Rattle.letters.specs.declared.BlockCode.TheVariants.{Calling, Returning, Dwelling, Moving}
-use Rattle.letters.specs.Letters.{end_letters, centre_letters, arc_letters, drilling_letters, motion_letters, letters_of, use_of, word_value, is_bad, first_bad_value, given_by, with_value, values_after, values_of}
+use Rattle.letters.specs.Letters.{end_letters, centre_letters, arc_letters, drilling_letters, motion_letters, letters_of, use_of, word_value, is_bad, first_bad_value, with_value, values_after, values_of}
 
 -- ---- by a letter's use
 
@@ -82,16 +82,16 @@ module _ (u : Unit) (lowest highest : ℤ) (low : Within 99_999 lowest) (high : 
 module _ (speeds : Speeds) (m : Modes) (code : BlockCode) (low : Within 99_999 speeds.lowest.v) (high : Within 99_999 speeds.highest.v) where
   -- one value of a block, `get`, is that of the letter k
   module _
-      (get : Values → Given) (k n : ℕ)
-      (is : (v : Values) (letter : ℕ) (g : Given) → get (with_value v letter g) ≡ (if eqb letter k then g else get v))
+      (get : Values → Option Len) (k n : ℕ)
+      (is : (v : Values) (letter : ℕ) (g : Option Len) → get (with_value v letter g) ≡ (if eqb letter k then g else get v))
       (fits : limits n (use_of code m.plane k) ≡ true)
     where
       chosen_near :
-          (letter : ℕ) (g old : Given) → (letter ≡ k → Within n g.v.v) → Within n old.v.v
-          → Within n (if eqb letter k then g else old).v.v
+          (letter : ℕ) (g old : Option Len) → (letter ≡ k → Within n (worth g).v) → Within n (worth old).v
+          → Within n (worth (if eqb letter k then g else old)).v
       chosen_near letter g old new was = go (eqb letter k) refl
         where
-          go : (t : Bool) → eqb letter k ≡ t → Within n (if t then g else old).v.v
+          go : (t : Bool) → eqb letter k ≡ t → Within n (worth (if t then g else old)).v
           go true e = new (eqb-true letter k e)
           go false e = was
 
@@ -102,18 +102,18 @@ module _ (speeds : Speeds) (m : Modes) (code : BlockCode) (low : Within 99_999 s
           (ap (λ (l : ℕ). limits n (use_of code m.plane l)) f ∙ fits) e
 
       all_near :
-          (ws : List Word) (v : Values) → first_bad_value speeds m code ws ≡ None → Within n (get v).v.v
-          → Within n (get (values_after v speeds m code ws)).v.v
-      unfolding first_bad_value first values_after is_bad given_by
+          (ws : List Word) (v : Values) → first_bad_value speeds m code ws ≡ None → Within n (worth (get v)).v
+          → Within n (worth (get (values_after v speeds m code ws))).v
+      unfolding first_bad_value first values_after is_bad
       all_near [] v e was = was
       all_near (w ∷ ws) v e was = go (word_value speeds m code w) refl e (all_near ws)
         where
           go :
               (x : Option Len) → word_value speeds m code w ≡ x → (if is_bad x then Some w else first_bad_value speeds m code ws) ≡ None
-              → ((u : Values) → first_bad_value speeds m code ws ≡ None → Within n (get u).v.v → Within n (get (values_after u speeds m code ws)).v.v)
-              → Within n (get (values_after (with_value v w.letter (given_by x)) speeds m code ws)).v.v
+              → ((u : Values) → first_bad_value speeds m code ws ≡ None → Within n (worth (get u)).v → Within n (worth (get (values_after u speeds m code ws))).v)
+              → Within n (worth (get (values_after (with_value v w.letter x) speeds m code ws))).v
           go (Some x) f g rest =
-              let now : Given = record { stands = true; v = x } in
+              let now : Option Len = Some x in
               rest (with_value v w.letter now) g
               (rw (is v w.letter now) (chosen_near w.letter now (get v) (word_near w x f) was))
           go None f g rest = let no : ◌≡◌ {A = ℕ} 0 1 = cc in absurd (omega arith)
@@ -185,7 +185,7 @@ module _ (speeds : Speeds) (m : Modes) (code : BlockCode) (ws : List Word) where
   sizes low high fine =
       let near = all_near speeds m code low high in
       let at = every_place_lem (keeps code m.plane) (bytes "XYZIJKRFS") (code_alike code m.plane) in
-      let dwells : limits 3_600_000 (use_of code m.plane (byte "P")) ≡ true → Within 3_600_000 (values_of speeds m code ws).p.v.v =
+      let dwells : limits 3_600_000 (use_of code m.plane (byte "P")) ≡ true → Within 3_600_000 (worth (values_of speeds m code ws).p).v =
       λ e. near (λ v. v.p) (byte "P") 3_600_000 (λ v l g. refl) e ws no_values fine (omega arith)
       in
       record {

@@ -1,13 +1,14 @@
 -- A block's G and M words change nothing in the judgement of its words: their use is to be codes, which is never refused here
 -- and is no value. Assumes nothing.
+use Rattle.lengths.specs.declared.Len.{Len}
 use Rattle.std.specs.Prelude.{if◌then◌else◌}
-use Rattle.terms.proofs.Common.{ℕ, ◌≡◌, refl, Bool, true, false, ◌||◌, and-false, Some, List, [], ◌∷◌, eqb, eqb-true}
+use Rattle.terms.proofs.Common.{ℕ, ◌≡◌, refl, Bool, true, false, ◌||◌, and-false, Some, List, [], ◌∷◌, eqb, eqb-true, Option}
 use Rattle.terms.specs.Terms.{byte, first, lookup}
 use Rattle.codes.specs.declared.Plane.{Plane}
-use Rattle.words.specs.{declared.Word.Word, declared.Given.Given, declared.Use.TheVariants.Codes, declared.Values.Values, Values.value_of, Values.no_values}
+use Rattle.words.specs.{declared.Word.Word, declared.Use.TheVariants.Codes, declared.Values.Values, Values.value_of, Values.no_values}
 use Rattle.settings.specs.declared.Modes.{Modes}
 use Rattle.letters.specs.{declared.Speeds.Speeds, declared.BlockCode.BlockCode, Judging.judged_by, Judging.valued}
-use Rattle.letters.specs.Letters.{is_g, is_misc, use_of, is_nothing, is_unused, first_unused, word_value, is_bad, first_bad_value, given_by, with_value, values_after, values_of}
+use Rattle.letters.specs.Letters.{is_g, is_misc, use_of, is_nothing, is_unused, first_unused, word_value, is_bad, first_bad_value, with_value, values_after, values_of}
 
 -- what holds of the letters G and M holds of a word that is one of the two
 code_word :
@@ -53,7 +54,7 @@ module _ (speeds : Speeds) (m : Modes) (code : BlockCode) where
   bad_valued ws =
       first_valued (λ w. is_bad (word_value speeds m code w)) (λ w e. rw (code_use code m.plane w e)) ws
 
-  code_value : (v : Values) (g : Given) (w : Word) → is_g w || is_misc w ≡ true → with_value v w.letter g ≡ v
+  code_value : (v : Values) (g : Option Len) (w : Word) → is_g w || is_misc w ≡ true → with_value v w.letter g ≡ v
   unfolding with_value
   code_value v g w e = code_word (λ n. with_value v n g ≡ v) w refl refl e
 
@@ -63,8 +64,8 @@ module _ (speeds : Speeds) (m : Modes) (code : BlockCode) where
   after_valued [] v = refl
   after_valued (w ∷ ws) v = go (is_g w || is_misc w) refl (after_valued ws)
     where
-      g : Given
-      g = given_by (word_value speeds m code w)
+      g : Option Len
+      g = word_value speeds m code w
 
       go :
           (t : Bool) → is_g w || is_misc w ≡ t

@@ -5,7 +5,7 @@ use Rattle.terms.specs.Terms.{byte, any}
 use Rattle.words.specs.{declared.Word.Word, declared.Values.Values, Serving.Written}
 use Rattle.settings.specs.declared.Modes.{Modes}
 use Rattle.letters.specs.declared.{Speeds.Speeds, BlockCode.BlockCode, Unfit.Unfit, Unfit.TheVariants.Unused, Unfit.TheVariants.Bad}
-use Rattle.letters.specs.Letters.{is_g, is_misc, word_value, first_unused, first_bad_value, given_by, with_value, values_of}
+use Rattle.letters.specs.Letters.{is_g, is_misc, word_value, first_unused, first_bad_value, with_value, values_of}
 use Rattle.lengths.specs.declared.Len.{Len}
 
 -- "2 leftmost; 1 leftmost by value": the word at fault, or else what is left to say
@@ -37,7 +37,7 @@ valued (w ∷ ws) = if is_g w || is_misc w then valued ws else w ∷ valued ws
 
 -- one word more, by its value alone: what is no longer fine stays as it is, so that the first bad value is named
 unfoldable pub value_next : Values → Word → Option Len → Result Values Unfit
-value_next v w (Some x) = Ok (with_value v w.letter (given_by (Some x)))
+value_next v w (Some x) = Ok (with_value v w.letter (Some x))
 value_next v w None = Err (Bad w.at)
 
 unfoldable pub judged_next : Speeds → Modes → BlockCode → Result Values Unfit → Word → Result Values Unfit

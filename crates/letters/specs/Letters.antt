@@ -7,8 +7,8 @@ use Rattle.codes.specs.declared.{Cycle.Cycle, Cycle.TheVariants.G81, Cycle.TheVa
 use Rattle.codes.specs.declared.{Plane.Plane, Plane.TheVariants.G17, Plane.TheVariants.G18, Plane.TheVariants.G19, Code.Code, Code.TheVariants.Unknown, Misc.Misc, Misc.TheVariants.Other}
 use Rattle.codes.specs.declared.Motion.TheVariants.{Off, G00, G01, G02, G03, Drilling}
 use Rattle.codes.specs.Codes.{code_of, misc_of, group_of, is_group_a, is_g04, clash, is_m, is_no_m, ends_program}
-use Rattle.words.specs.declared.{Word.Word, Use.Use, Given.Given, Values.Values}
-use Rattle.words.specs.Values.{is_plain, value_of, missing, no_values}
+use Rattle.words.specs.declared.{Word.Word, Use.Use, Values.Values}
+use Rattle.words.specs.Values.{is_plain, value_of, no_values}
 use Rattle.words.specs.declared.Use.TheVariants.{Nothing, Codes, Label, Program, Length, Feed, Speed, Dwell, Count}
 use Rattle.lengths.specs.declared.Len.{Len}
 use Rattle.settings.specs.{declared.Modes.Modes, Settings.switched}
@@ -216,11 +216,7 @@ unfoldable pub first_bad_value : Speeds → Modes → BlockCode → List Word �
 first_bad_value speeds m code ws = first (λ w. is_bad (word_value speeds m code w)) ws
 
 -- the values of the block's words, word by word
-unfoldable pub given_by : Option Len → Given
-given_by (Some v) = record { stands = true; v = v }
-given_by None = missing
-
-unfoldable pub with_value : Values → ℕ → Given → Values
+unfoldable pub with_value : Values → ℕ → Option Len → Values
 with_value v letter g =
     record {
       x = if eqb letter (byte "X") then g else v.x;
@@ -238,7 +234,7 @@ with_value v letter g =
 unfoldable pub values_after : Values → Speeds → Modes → BlockCode → List Word → Values
 values_after v speeds m code [] = v
 values_after v speeds m code (w ∷ ws) =
-    values_after (with_value v w.letter (given_by (word_value speeds m code w))) speeds m code ws
+    values_after (with_value v w.letter (word_value speeds m code w)) speeds m code ws
 
 abbrev pub values_of : Speeds → Modes → BlockCode → List Word → Values
 values_of speeds m code ws = values_after no_values speeds m code ws

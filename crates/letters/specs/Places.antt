@@ -1,15 +1,12 @@
--- The values of a block's words by places: whether a word stands, and its value, each in a list of eleven.
+-- The values of a block's words by places, in a list of eleven.
 use Rattle.std.specs.Prelude.{◌<◌, ◌≡◌}
-use Rattle.terms.specs.Common.{ℕ, Bool, true, false, List, Some, pos, length, get_or, set}
-use Rattle.lengths.specs.{declared.Len.Len, Units.len}
-use Rattle.words.specs.declared.{Given.Given, Values.Values}
-use Rattle.letters.specs.Letters.{given_by, with_value}
-
-abbrev pub given_at : List Bool → List Len → ℕ → Given
-given_at stands v k = record { stands = get_or stands k false; v = get_or v k (len (pos 0)) }
+use Rattle.terms.specs.Common.{ℕ, Option, None, Some, List, length, get_or, set}
+use Rattle.lengths.specs.declared.Len.{Len}
+use Rattle.words.specs.declared.Values.{Values}
+use Rattle.letters.specs.Letters.{with_value}
 
 -- the ten values by their places; the last place is none of theirs
-unfoldable pub values_by : (ℕ → Given) → Values
+unfoldable pub values_by : (ℕ → Option Len) → Values
 values_by given =
     record {
       x = given 0;
@@ -24,12 +21,10 @@ values_by given =
       s = given 9;
     }
 
-abbrev pub values_in : List Bool → List Len → Values
-values_in stands v = values_by (given_at stands v)
+abbrev pub values_in : List (Option Len) → Values
+values_in v = values_by (λ k. get_or v k None)
 
 -- a letter's place: a value put there is the letter's, and no other changes
 pub record IsPlace (letter k : ℕ) : Type 0 where
   pub inside : k < 11
-  pub puts :
-      (stands : List Bool) (v : List Len) (z : Len) → length stands ≡ 11 → length v ≡ 11
-      → values_in (set stands k true) (set v k z) ≡ with_value (values_in stands v) letter (given_by (Some z))
+  pub puts : (v : List (Option Len)) (z : Len) → length v ≡ 11 → values_in (set v k (Some z)) ≡ with_value (values_in v) letter (Some z)

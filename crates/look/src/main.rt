@@ -18,7 +18,7 @@ use reading::Reading;
 use refusals::{Place, Refusal};
 use settings::Modes;
 use std::io::Print;
-use words::{Given, Values};
+use words::Values;
 
 fn main(rt: HostRuntime) {
     let mut buffer = files::room::<65536>();
@@ -194,9 +194,9 @@ fn show_values(rt: &impl Print, v: Values) -> std::io::Result<()> {
 }
 
 // A letter whose word does not stand is left out.
-fn show_value(rt: &impl Print, letter: &str, g: Given) -> std::io::Result<()> {
-    if !g.stands {
+fn show_value(rt: &impl Print, letter: &str, g: Option<Len>) -> std::io::Result<()> {
+    let Some(v) = g else {
         return Ok(());
-    }
-    print!(rt; " {letter}={}", g.v)
+    };
+    print!(rt; " {letter}={v}")
 }

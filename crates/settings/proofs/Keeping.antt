@@ -6,7 +6,7 @@ use types.Run.{OneOf, miss}
 use Rattle.lengths.specs.{declared.Len.Len, View.Within}
 use Rattle.codes.{specs.declared.Cycle.Cycle, specs.Codes.cycle_number, specs.contracts.Cycle.the_type as cycle-type, specs.declared.Motion.Motion, specs.declared.Distance.Distance, specs.contracts.Motion.the_type as motion-type}
 use Rattle.codes.specs.declared.Motion.TheVariants.{Off, G00, G01, G02, G03, Drilling}
-use Rattle.words.specs.declared.Values.{Values}
+use Rattle.words.specs.{declared.Values.Values, Values.worth}
 use Rattle.settings.specs.{declared.Kept.Kept, declared.State.State, Settings.none_kept, Bounds.KeptNear}
 use Rattle.settings.specs.CycleWords.{same_cycle, kept_before, kept_with, kept_under}
 use Rattle.settings.proofs.Near.{or_else_near}
@@ -73,7 +73,7 @@ before_near cycle (Drilling before) z kept h k =
 -- what a block leaves, its words and what was kept before it being near
 module _ (s : State) (d : Distance) (v : Values) (h : Within 1_100_000_000 s.at.z.v) (k : KeptNear s.kept) where
   pub under_near :
-      (motion : Motion) → Within 1_000_000_000 v.z.v.v → Within 1_000_000_000 v.r.v.v → Within 3_600_000 v.p.v.v
+      (motion : Motion) → Within 1_000_000_000 (worth v.z).v → Within 1_000_000_000 (worth v.r).v → Within 3_600_000 (worth v.p).v
       → KeptNear (kept_under motion s d v)
   unfolding kept_under kept_with
   under_near Off z r p = none_near s.at.z h

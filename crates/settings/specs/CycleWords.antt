@@ -1,10 +1,11 @@
 -- Document 02, #102, "Holes after the first": what a cycle keeps for the blocks after it.
-use Rattle.std.specs.Prelude.{◌||◌, if◌then◌else◌}
-use Rattle.terms.specs.Common.{Bool, eqb}
+use Rattle.std.specs.Prelude.{◌||◌, if◌then◌else◌, is_some}
+use Rattle.terms.specs.Common.{Bool, Option, eqb}
+use Rattle.std.specs.Bool.{then_some}
 use Rattle.lengths.specs.declared.Len.{Len}
 use Rattle.codes.specs.{declared.Cycle.Cycle, declared.Motion.Motion, declared.Distance.Distance, Codes.cycle_number}
 use Rattle.codes.specs.declared.Motion.TheVariants.{Off, G00, G01, G02, G03, Drilling}
-use Rattle.words.specs.declared.{Given.Given, Values.Values}
+use Rattle.words.specs.declared.Values.{Values}
 use Rattle.settings.specs.{declared.Stands.Stands, declared.Under.Under, declared.Kept.Kept, declared.State.State, Settings.none_kept, Settings.or_else}
 
 unfoldable pub same_cycle : Cycle → Cycle → Bool
@@ -23,12 +24,12 @@ kept_before cycle (Drilling before) z kept = if same_cycle cycle before then kep
 
 -- "They are to stay, as written numbers with the unit and the G90 or G91 they were written under": a word's value is in units, and a word
 -- of the block takes the place of the kept one of its letter alone. "K stays with its own block."
-unfoldable pub under_by : Distance → Given → Distance → Distance
-under_by d g kept = if g.stands then d else kept
+unfoldable pub under_by : Distance → Option Len → Distance → Distance
+under_by d g kept = if is_some g then d else kept
 
 unfoldable pub stands_with : Values → Stands → Stands
 stands_with v kept =
-    record { z = v.z.stands || kept.z; r = v.r.stands || kept.r; dwell = v.p.stands || kept.dwell }
+    record { z = is_some v.z || kept.z; r = is_some v.r || kept.r; dwell = is_some v.p || kept.dwell }
 
 unfoldable pub under_with : Distance → Values → Under → Under
 under_with d v kept = record { z = under_by d v.z kept.z; r = under_by d v.r kept.r }
@@ -55,11 +56,11 @@ kept_under G03 s d v = none_kept s.at.z
 kept_under (Drilling cycle) s d v = kept_with d v (kept_before cycle s.modes.motion s.at.z s.kept)
 
 -- the words as they are kept
-abbrev pub kept_z : Kept → Given
-kept_z k = record { stands = k.stands.z; v = k.z }
+abbrev pub kept_z : Kept → Option Len
+kept_z k = then_some k.stands.z k.z
 
-abbrev pub kept_r : Kept → Given
-kept_r k = record { stands = k.stands.r; v = k.r }
+abbrev pub kept_r : Kept → Option Len
+kept_r k = then_some k.stands.r k.r
 
-abbrev pub kept_p : Kept → Given
-kept_p k = record { stands = k.stands.dwell; v = k.dwell }
+abbrev pub kept_p : Kept → Option Len
+kept_p k = then_some k.stands.dwell k.dwell

@@ -1,10 +1,9 @@
 -- The settings of a run, and how codes and words change them.
-use Rattle.std.specs.Prelude.{if◌then◌else◌}
-use Rattle.terms.specs.Common.{false, pos}
+use Rattle.std.specs.Prelude.{unwrap_or}
+use Rattle.terms.specs.Common.{false, pos, Option}
 use Rattle.lengths.specs.{declared.Len.Len, Units.len, Units.◌⊕◌, declared.Point.Point, Points.moved}
 use Rattle.codes.specs.declared.{Motion.TheVariants.Off, Plane.TheVariants.G17, Unit.TheVariants.Millimetre, Distance.TheVariants.Absolute, Return.TheVariants.ToInitial, Code.Code}
 use Rattle.codes.specs.declared.Code.TheVariants.{GroupA, GroupB, GroupC, GroupD, GroupE, GroupF, G04, Unknown}
-use Rattle.words.specs.declared.Given.{Given}
 use Rattle.settings.specs.declared.{Modes.Modes, Kept.Kept, State.State}
 
 -- "A run starts with no motion code, G17, G21, G54, G90, G98, spindle off. (H)"
@@ -62,5 +61,5 @@ switched m G04 = m
 switched m Unknown = m
 
 -- the value of a word, or else what holds without it
-unfoldable pub or_else : Given → Len → Len
-or_else g other = if g.stands then g.v else other
+unfoldable pub or_else : Option Len → Len → Len
+or_else g other = unwrap_or g other

@@ -5,7 +5,7 @@ ghost use Rattle.settings.specs.{Settings.none_kept, CycleWords.kept_before, Cyc
 use crate::{Kept, Stands, State, Under};
 use codes::{Cycle, Distance, Motion};
 use lengths::Len;
-use words::{Given, Values};
+use words::Values;
 
 // No word is kept.
 pub fn none_kept(initial: Len) -> Kept
@@ -42,22 +42,19 @@ fn kept_before(cycle: Cycle, motion: Motion, z: Len, kept: Kept) -> Kept
     none_kept(kept.initial)
 }
 
-fn under_by(d: Distance, g: Given, kept: Distance) -> Distance
+fn under_by(d: Distance, g: Option<Len>, kept: Distance) -> Distance
     ensures { result ≡ under_by d g kept }
 {
-    if g.stands {
-        return d;
-    }
-    kept
+    if g.is_some() { d } else { kept }
 }
 
 fn stands_with(v: Values, kept: Stands) -> Stands
     ensures { result ≡ stands_with v kept }
 {
     Stands {
-        z: v.z.stands | kept.z,
-        r: v.r.stands | kept.r,
-        dwell: v.p.stands | kept.dwell,
+        z: v.z.is_some() | kept.z,
+        r: v.r.is_some() | kept.r,
+        dwell: v.p.is_some() | kept.dwell,
     }
 }
 

@@ -12,7 +12,7 @@ ghost use Rattle.settings.specs.Bounds.{Sized, Aims, Aimed};
 use codes::{Code, Distance, Motion, Plane, Return, Unit};
 pub use cycle_words::kept_under;
 use lengths::{Len, Point};
-use words::{Given, Values};
+use words::Values;
 
 // The code that is on in each of the groups A to F; origin is the place in the table of origins, from 0.
 #[derive(Clone, Copy)]
@@ -108,10 +108,10 @@ pub fn switched(m: Modes, c: Code) -> Modes
 }
 
 // The value of a word, or else what holds without it.
-pub fn or_else(g: Given, other: Len) -> Len
+pub fn or_else(g: Option<Len>, other: Len) -> Len
     ensures { result ≡ or_else g other }
 {
-    if g.stands { g.v } else { other }
+    g.unwrap_or(other)
 }
 
 fn base(d: Distance, origin: Len, from: Len) -> Len
@@ -124,14 +124,13 @@ fn base(d: Distance, origin: Len, from: Len) -> Len
 }
 
 // Where a word leads on its axis. The bounds are a run's, but for `from`, which may be a level that a word led to.
-pub fn aimed(d: Distance, origin: Len, from: Len, g: Given) -> Len
+pub fn aimed(d: Distance, origin: Len, from: Len, g: Option<Len>) -> Len
     requires { Sized origin from g }
     ensures { result ≡ aimed d origin from g }
 {
-    if g.stands {
-        base(d, origin, from).plus(g.v)
-    } else {
-        from
+    match g {
+        Some(v) => base(d, origin, from).plus(v),
+        None => from,
     }
 }
 

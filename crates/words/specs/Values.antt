@@ -1,10 +1,10 @@
 -- Document 01: what a written number is worth, by what its letter means in the block.
-use Rattle.std.specs.Prelude.{◌-◌, ◌*◌, ◌^◌, ◌&&◌, if◌then◌else◌}
+use Rattle.std.specs.Prelude.{◌-◌, ◌*◌, ◌^◌, ◌&&◌, if◌then◌else◌, unwrap_or}
 use Rattle.terms.specs.Common.{ℕ, min, Bool, true, false, not, Option, None, Some, leb, ℤ, pos, neg_ℤ, lt_z}
 use Rattle.terms.specs.Terms.{between, within}
 use Rattle.lengths.specs.{declared.Len.Len, Units.len}
 use Rattle.codes.specs.declared.Unit.{Unit, TheVariants.Inch, TheVariants.Millimetre}
-use Rattle.words.specs.declared.{Sign.Sign, Sign.TheVariants.Plain, Sign.TheVariants.Plus, Sign.TheVariants.Minus, Number.Number, Use.Use, Given.Given, Values.Values}
+use Rattle.words.specs.declared.{Sign.Sign, Sign.TheVariants.Plain, Sign.TheVariants.Plus, Sign.TheVariants.Minus, Number.Number, Use.Use, Values.Values}
 use Rattle.words.specs.declared.Use.TheVariants.{Nothing, Codes, Label, Program, Length, Feed, Speed, Dwell, Count}
 
 unfoldable pub unsigned : Sign → Bool
@@ -81,21 +81,21 @@ value_of u lowest highest Length n = checked (is_length u n) (length_of u n)
 -- "F is above 0."
 value_of u lowest highest Feed n = checked (is_length u n && lt_z (pos 0) (length_of u n)) (length_of u n)
 
--- a word that does not stand
-abbrev pub missing : Given
-missing = record { stands = false; v = len (pos 0) }
+-- what a word is worth: 0 units where it does not stand
+abbrev pub worth : Option Len → Len
+worth g = unwrap_or g (len (pos 0))
 
 abbrev pub no_values : Values
 no_values =
     record {
-      x = missing;
-      y = missing;
-      z = missing;
-      i = missing;
-      j = missing;
-      k = missing;
-      r = missing;
-      p = missing;
-      f = missing;
-      s = missing;
+      x = None;
+      y = None;
+      z = None;
+      i = None;
+      j = None;
+      k = None;
+      r = None;
+      p = None;
+      f = None;
+      s = None;
     }

@@ -62,26 +62,19 @@ pub enum Use {
     Count,
 }
 
-// The value of a letter's word, and whether the word stands in the block at all; where it does not, the value is 0.
-#[derive(Clone, Copy)]
-pub struct Given {
-    pub stands: bool,
-    pub v: Len,
-}
-
-// The values of a block's words, by their letters.
+// The values of a block's words, by their letters: none where the word does not stand in the block.
 #[derive(Clone, Copy)]
 pub struct Values {
-    pub x: Given,
-    pub y: Given,
-    pub z: Given,
-    pub i: Given,
-    pub j: Given,
-    pub k: Given,
-    pub r: Given,
-    pub p: Given,
-    pub f: Given,
-    pub s: Given,
+    pub x: Option<Len>,
+    pub y: Option<Len>,
+    pub z: Option<Len>,
+    pub i: Option<Len>,
+    pub j: Option<Len>,
+    pub k: Option<Len>,
+    pub r: Option<Len>,
+    pub p: Option<Len>,
+    pub f: Option<Len>,
+    pub s: Option<Len>,
 }
 
 // The sign as a number below 4, two bits of a packed word, and back.

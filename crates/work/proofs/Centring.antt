@@ -1,5 +1,7 @@
 -- The centre of an arc by its radius or by its words, with what was computed. Assumes nothing.
-use Rattle.terms.proofs.Common.{◌^◌, ◌≡◌, sym, ◌∙◌, Bool, true, false, not, arith, ℤ, not-false}
+use Rattle.lengths.specs.declared.Len.{Len}
+use Rattle.std.specs.Prelude.{is_some}
+use Rattle.terms.proofs.Common.{◌^◌, ◌≡◌, sym, ◌∙◌, Bool, true, false, not, arith, not-false, Some}
 use Rattle.words.specs.declared.Values.{Values}
 use Rattle.lengths.{specs.declared.Point.Point, specs.declared.Flat.Flat, specs.Points.moved, specs.Points.flat, specs.Near.Near, proofs.Near.flat_near}
 use Rattle.settings.specs.declared.State.{State}
@@ -10,38 +12,35 @@ use Rattle.blocks.{specs.Motions.centre_words, specs.Motions.centre_for, specs.M
 use Rattle.work.specs.Needs.{Poised, Aiming, Fitting}
 
 module _ (s : State) (v : Values) (end : Point) where
-  abbrev r : ℤ
-  r = v.r.v.v
-
-  pub radius_missing : v.r.stands ≡ false → true ≡ radius_fits s v end
+  pub radius_missing : is_some v.r ≡ false → true ≡ radius_fits s v end
   unfolding radius_fits
   radius_missing e = rw e
 
-  -- start and end in the axes of the plane
-  module _ {a b : Flat} (from : a ≡ flat s.modes.plane s.at) (to : b ≡ flat s.modes.plane end) where
-    pub chord : Aiming s v end → Chord r a b
+  -- the radius that stands, and start and end in the axes of the plane
+  module _ {a b : Flat} (from : a ≡ flat s.modes.plane s.at) (to : b ≡ flat s.modes.plane end) {r : Len} (radius : v.r ≡ Some r) where
+    pub chord : Aiming s v end → Chord r.v a b
     chord h =
         rw (from, to)
         (record {
-          radius = h.radius;
+          radius = rw radius at h.radius;
           start = flat_near s.modes.plane s.at h.at;
           end = flat_near s.modes.plane end h.near;
         })
 
-    pub radius_tested : {t : Bool} → v.r.stands ≡ true → t ≡ radius_holds r a b → t ≡ radius_fits s v end
+    pub radius_tested : {t : Bool} → t ≡ radius_holds r.v a b → t ≡ radius_fits s v end
     unfolding radius_fits
-    radius_tested e f = rw e (rw (from, to) at f)
+    radius_tested f = rw radius (rw (from, to) at f)
 
-    pub spanned : Fitting s v end → v.r.stands ≡ true → Spanned r a b
+    pub spanned : Fitting s v end → Spanned r.v a b
     unfolding radius_fits
-    spanned h e = record { chord = chord h.aiming; holds = rw (from, to) (rw e at h.fits) }
+    spanned h = record { chord = chord h.aiming; holds = rw (from, to) (rw radius at h.fits) }
 
-    pub by_radius : {c : Flat} (left : Bool) → v.r.stands ≡ true → c ≡ centre_by left r a b → c ≡ centre_for left s v end
+    pub by_radius : {c : Flat} (left : Bool) → c ≡ centre_by left r.v a b → c ≡ centre_for left s v end
     unfolding centre_for
-    by_radius left e f = rw e (rw (from, to) at f)
+    by_radius left f = rw radius (rw (from, to) at f)
 
   pub by_words :
-      {c : Flat} (left : Bool) → v.r.stands ≡ false → c ≡ flat s.modes.plane (moved (centre_words v) s.at) → c ≡ centre_for left s v end
+      {c : Flat} (left : Bool) → is_some v.r ≡ false → c ≡ flat s.modes.plane (moved (centre_words v) s.at) → c ≡ centre_for left s v end
   unfolding centre_for centre_words
   by_words left e f = rw e f
 

@@ -1,5 +1,5 @@
 -- What the code plans stands for the motion that the rules give. Assumes nothing.
-use Rattle.std.specs.Prelude.{if◌then◌else◌}
+use Rattle.std.specs.Prelude.{if◌then◌else◌, is_some}
 use Rattle.terms.proofs.Common.{ℕ, zero, suc, ◌≡◌, refl, sym, ◌∙◌, ap, ap₂, Bool, true, false, false≢true, not, ◌||◌, [], ◌∷◌, ◌++◌, arith, not-true, not-false}
 use denote.Enum.Declared.{tag_of}
 use types.Run.{OneOf, miss}
@@ -128,19 +128,19 @@ module _ (h : Hole) (d : Distance) (origin : Point) (v : Values) where
   next p = target d origin p v
 
   -- the level that a pass comes at counts only where a Z stands
-  rows_same : (level : Len) (l : Len) (q : Point) → (h.z.stands ≡ true → l ≡ level) → pass_to h l q ≡ pass_to h level q
-  rows_same level l q same = by h.z.stands refl
+  rows_same : (level : Len) (l : Len) (q : Point) → (is_some h.z ≡ true → l ≡ level) → pass_to h l q ≡ pass_to h level q
+  rows_same level l q same = by (is_some h.z) refl
     where
-      by : (t : Bool) → h.z.stands ≡ t → pass_to h l q ≡ pass_to h level q
+      by : (t : Bool) → is_some h.z ≡ t → pass_to h l q ≡ pass_to h level q
       by true e = ap (λ (x : Len). pass_to h x q) (same e)
       by false e = without_z h l q e ∙ sym (without_z h level q e)
 
-  last_is : h.z.stands ≡ true → last_level h ≡ return_level h
+  last_is : is_some h.z ≡ true → last_level h ≡ return_level h
   last_is e = rw e
 
   -- each pass comes at the height where the tool is: where it stood first, and then where the pass before ended
   drill_passes :
-      (k : ℕ) (level : Len) (p : Point) → (h.z.stands ≡ true → p.z ≡ level) → passes_of k (Drill h) next p ≡ passes_at k h next level p
+      (k : ℕ) (level : Len) (p : Point) → (is_some h.z ≡ true → p.z ≡ level) → passes_of k (Drill h) next p ≡ passes_at k h next level p
   unfolding passes_of passes_at rows_of at_height
   drill_passes zero level p same = refl
   drill_passes (suc k) level p same =

@@ -3,7 +3,7 @@ use Rattle.std.specs.Prelude.{◌≤◌, ◌≡◌}
 use Rattle.terms.specs.Common.{ℕ, Bool, true}
 use Rattle.lengths.specs.{View.Within, declared.Point.Point, declared.Travel.Travel, Points.inside, Near.Near}
 use Rattle.codes.specs.declared.{Cycle.Cycle, Motion.TheVariants.Drilling}
-use Rattle.words.specs.declared.Values.{Values}
+use Rattle.words.specs.{declared.Values.Values, Values.worth}
 use Rattle.records.specs.{declared.Arc.Arc, declared.Record.Record, Path.path_of, Displacing.Loose}
 use Rattle.records.specs.declared.Record.TheVariants.{RP, LN, AR, AL, DW, SP, SO, PA, EN}
 use Rattle.settings.specs.{declared.State.State, Bounds.Aims, Bounds.KeptNear, Target.target}
@@ -20,12 +20,12 @@ use Rattle.arcs.specs.Bounds as Arcs
 pub record Poised (s : State) (origin : Point) (v : Values) : Type 0 where
   pub aims : Aims origin s.at v
   pub words : Near 1_000_000_000 (centre_words v)
-  pub radius : Within 1_000_000_000 v.r.v.v
+  pub radius : Within 1_000_000_000 (worth v.r).v
   pub kept : KeptNear s.kept
 
 -- what the radius of an arc is tested with: the R word, the start, and the end that the words lead to
 pub record Aiming (s : State) (v : Values) (end : Point) : Type 0 where
-  pub radius : Within 1_000_000_000 v.r.v.v
+  pub radius : Within 1_000_000_000 (worth v.r).v
   pub at : Near 1_100_000_000 s.at
   pub near : Near 2_100_000_000 end
 
@@ -37,7 +37,7 @@ pub record Fitting (s : State) (v : Values) (end : Point) : Type 0 where
 
 -- in a cycle K is a count
 pub record Counted (code : BlockCode) (v : Values) : Type 0 where
-  pub k : (cycle : Cycle) → code ≡ Moving (Drilling cycle) → Within 9_999 v.k.v.v
+  pub k : (cycle : Cycle) → code ≡ Moving (Drilling cycle) → Within 9_999 (worth v.k).v
 
 -- where the records of a pass come from: the words of the block. An arc leads to the end that they lead to, on one side or the other
 pub record ArcFrom (s : State) (origin : Point) (v : Values) (sound : Bool) (a : Arc) : Type 0 where
@@ -96,9 +96,9 @@ pub record Leading (t : Travel) (aim : Aim) (from : Point) : Type 0 where
   pub high : Near 1_100_000_000 t.high
   pub inside : inside t from ≡ true
   pub origin : Near 1_000_000_000 aim.origin
-  pub x : Within 1_000_000_000 aim.values.x.v.v
-  pub y : Within 1_000_000_000 aim.values.y.v.v
-  pub z : Within 1_000_000_000 aim.values.z.v.v
+  pub x : Within 1_000_000_000 (worth aim.values.x).v
+  pub y : Within 1_000_000_000 (worth aim.values.y).v
+  pub z : Within 1_000_000_000 (worth aim.values.z).v
 
 pub record Testable (t : Travel) (w : Work) (aim : Aim) (e : Extent) : Type 0 where
   pub leading : Leading t aim e.end

@@ -19,33 +19,31 @@ use words::Values;
 pub fn end_stands(v: Values) -> bool
     ensures { result ≡ end_stands v }
 {
-    v.x.stands | v.y.stands | v.z.stands
+    v.x.is_some() | v.y.is_some() | v.z.is_some()
 }
 
 // Whether a word of the centre or the radius stands.
 pub fn centre_given(v: Values) -> bool
     ensures { result ≡ centre_given v }
 {
-    v.i.stands | v.j.stands | v.k.stands | v.r.stands
+    v.i.is_some() | v.j.is_some() | v.k.is_some() | v.r.is_some()
 }
 
 // A cycle is done where the block names one, and else where X, Y, Z or R stands.
 pub fn cycle_done(named: bool, v: Values) -> bool
     ensures { result ≡ cycle_done named v }
 {
-    named | end_stands(v) | v.r.stands
+    named | end_stands(v) | v.r.is_some()
 }
 
 fn centre_words(v: Values) -> Point
     ensures { result ≡ centre_words v }
 {
-    let i = v.i;
-    let j = v.j;
-    let k = v.k;
-    let x = i.v;
-    let y = j.v;
-    let z = k.v;
-    Point { x, y, z }
+    Point {
+        x: v.i.unwrap_or(Len::zero()),
+        y: v.j.unwrap_or(Len::zero()),
+        z: v.k.unwrap_or(Len::zero()),
+    }
 }
 
 // Whether a circle of the radius goes through start and end, where R stands.
@@ -55,11 +53,11 @@ fn radius_fits(s: State, v: Values, end: Point) -> bool
 {
     let modes = s.modes;
     let plane = modes.plane;
-    if !v.r.stands {
+    let Some(r) = v.r else {
         return true;
-    }
+    };
     centres::radius_holds(
-        v.r.v,
+        r,
         lengths::in_plane(plane, s.at),
         lengths::in_plane(plane, end),
     )
@@ -72,10 +70,10 @@ fn centre_for(left: bool, s: State, v: Values, end: Point) -> Flat
 {
     let modes = s.modes;
     let plane = modes.plane;
-    if v.r.stands {
+    if let Some(r) = v.r {
         return centres::centre_by(
             left,
-            v.r.v,
+            r,
             lengths::in_plane(plane, s.at),
             lengths::in_plane(plane, end),
         );
@@ -106,7 +104,7 @@ fn arc_to(left: bool, s: State, v: Values, end: Point) -> Arc
 fn is_larger(v: Values) -> bool
     ensures { result ≡ is_larger v }
 {
-    v.r.v.below(Len::zero())
+    v.r.unwrap_or(Len::zero()).below(Len::zero())
 }
 
 fn no_work(sound: bool) -> Work
@@ -224,11 +222,9 @@ pub fn work_of(code: BlockCode, named: bool, s: State, origin: Point, v: Values)
     requires { (Poised s origin v) × Counted code v }
     ensures { Makes (moves_of code named s origin v) s origin v result }
 {
-    let p = v.p;
-    let ms = p.v;
     match code {
         BlockCode::Calling | BlockCode::Returning => no_work(true),
-        BlockCode::Dwelling => one_work(Record::DW(ms), true),
+        BlockCode::Dwelling => one_work(Record::DW(v.p.unwrap_or(Len::zero())), true),
         BlockCode::Moving(motion) => motion_work(motion, named, s, origin, v),
     }
 }

@@ -1,16 +1,11 @@
--- `cycles::levels_hold` meets its contract.
-use Rattle.terms.proofs.Common.{rules}
+-- `cycles::levels_hold` meets its contract, with Z and without.
 use Rattle.cycles.specs.Cycles.{levels_hold}
 use Rattle.cycles.proofs.levels_hold.Goals as goal
 
-pub at_most-requires : goal.at_most-requires
+pub returns-in-Some : goal.returns-in-Some
 unfolding levels_hold
-at_most-requires c = search rules
+returns-in-Some c = rw (c.at_most.ensures, c.at_most-in-Some.ensures, c.in-Some.is)
 
-pub at_most-requires-2 : goal.at_most-requires-2
+pub returns-in-None : goal.returns-in-None
 unfolding levels_hold
-at_most-requires-2 c = search rules
-
-pub returns : goal.returns
-unfolding levels_hold
-returns c = rw (c.at_most.ensures, c.at_most-2.ensures)
+returns-in-None c = rw (c.at_most-in-None.ensures, c.in-None.is)

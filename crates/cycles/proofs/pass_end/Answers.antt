@@ -4,15 +4,15 @@ use Rattle.lengths.specs.Points.{at_height}
 use Rattle.cycles.proofs.{Passes.ends_with_z, Passes.ends_without_z}
 use Rattle.cycles.proofs.pass_end.Goals as goal
 
-pub returns-then-h : goal.returns-then-h
-returns-then-h c =
+pub returns-then-is_some : goal.returns-then-is_some
+returns-then-is_some c =
     let a = c.args in
     λ level from.
     c.at_height.ensures
     ∙ ap (at_height a.p) c.return_level.ensures
-    ∙ sym (ends_with_z a.h a.p level from c.if-h.true)
+    ∙ sym (ends_with_z a.h a.p level from (sym c.is_some.ensures ∙ c.if-is_some.true))
 
-pub returns-else-h : goal.returns-else-h
-returns-else-h c =
+pub returns-else-is_some : goal.returns-else-is_some
+returns-else-is_some c =
     let a = c.args in
-    λ level from. c.at_height-else-h.ensures ∙ sym (ends_without_z a.h a.p level from c.if-h.false)
+    λ level from. c.at_height-else-is_some.ensures ∙ sym (ends_without_z a.h a.p level from (sym c.is_some.ensures ∙ c.if-is_some.false))

@@ -1,17 +1,17 @@
 -- `cycles::row_count` meets its contract: by whether a Z and a P stand.
-use Rattle.terms.proofs.Common.{not-true, not-false}
+use Rattle.terms.proofs.Common.{sym, ◌∙◌, ap, not}
 use Rattle.cycles.proofs.{Rows.length_flat, Rows.length_dwell, Rows.length_deep}
 use Rattle.cycles.proofs.row_count.Goals as goal
 
-pub returns-then-not-h : goal.returns-then-not-h
-returns-then-not-h c = let h = c.args.h in length_flat h (not-true h.z.stands c.if-not-h.true)
+pub returns-then-is_none : goal.returns-then-is_none
+returns-then-is_none c = let h = c.args.h in length_flat h (c.is_none.ensures ∙ ap not c.if-is_none.true)
 
-pub returns-then-h : goal.returns-then-h
-returns-then-h c =
+pub returns-then-is_some : goal.returns-then-is_some
+returns-then-is_some c =
     let h = c.args.h in
-    length_dwell h (not-false h.z.stands c.if-not-h.false) c.up_count.ensures c.if-h.true
+    length_dwell h (c.is_none.ensures ∙ ap not c.if-is_none.false) c.up_count.ensures (sym c.is_some.ensures ∙ c.if-is_some.true)
 
 pub returns : goal.returns
 returns c =
     let h = c.args.h in
-    length_deep h (not-false h.z.stands c.if-not-h.false) c.up_count-2.ensures c.if-h.false
+    length_deep h (c.is_none.ensures ∙ ap not c.if-is_none.false) c.up_count-2.ensures (sym c.is_some.ensures ∙ c.if-is_some.false)

@@ -8,7 +8,7 @@ use Rattle.letters.proofs.judgement.judge.Goals as goal
 pub loop-i-init : goal.loop-i-init
 loop-i-init c =
     let a = c.args in
-    kept_first a.speeds a.m a.code a.centred (words_in a.words.now a.places.now) a.count c.zero-v.result c.zero-v.ensures.is c.requires.there
+    kept_first a.speeds a.m a.code a.centred (words_in a.words.now a.places.now) a.count c.requires.there
 
 pub returns-then-is_unused : goal.returns-then-is_unused
 returns-then-is_unused c =
@@ -17,7 +17,7 @@ returns-then-is_unused c =
     (omega (arith, c.loop-i-test.true, c.requires.there)) ∙ sym c.unpack-w.ensures in
     let k = c.loop-i in
     let a = c.args in
-    judge_unused a.speeds a.m a.code a.centred (words_in a.words.now a.places.now) a.count (so_far k.bad k.stands k.v) k.i c.unpack-w.result is
+    judge_unused a.speeds a.m a.code a.centred (words_in a.words.now a.places.now) a.count (so_far k.bad k.v) k.i c.unpack-w.result is
     k.invariant.few
     c.loop-i-test.true
     k.invariant.left
@@ -42,7 +42,7 @@ loop-i-preserved-in_default c =
     let k = c.loop-i in
     let a = c.args in
     rw c.or-bad.ensures (
-    past_bad a.speeds a.m a.code a.centred (words_in a.words.now a.places.now) a.count k.stands k.v k.bad k.i k.invariant c.unpack-w.result is
+    past_bad a.speeds a.m a.code a.centred (words_in a.words.now a.places.now) a.count k.v k.bad k.i k.invariant c.unpack-w.result is
     c.loop-i-test.true
     c.use_of-meaning.result
     c.is_unused.result
@@ -52,12 +52,6 @@ loop-i-preserved-in_default c =
     c.value_of-value.result
     c.value_of-value.ensures
     c.in_default.is)
-
-pub bounds-stands-k : goal.bounds-stands-k
-bounds-stands-k c = c.value_place-k.ensures.inside
-
-pub offset_bounds-v-k : goal.offset_bounds-v-k
-offset_bounds-v-k c = omega (arith, c.value_place-k.ensures.inside)
 
 pub bounds-v-k : goal.bounds-v-k
 bounds-v-k c = c.value_place-k.ensures.inside
@@ -69,7 +63,7 @@ loop-i-preserved c =
     (omega (arith, c.loop-i-test.true, c.requires.there)) ∙ sym c.unpack-w.ensures in
     let k = c.loop-i in
     let a = c.args in
-    past_fit a.speeds a.m a.code a.centred (words_in a.words.now a.places.now) a.count k.stands k.v k.bad k.i k.invariant c.unpack-w.result is
+    past_fit a.speeds a.m a.code a.centred (words_in a.words.now a.places.now) a.count k.v k.bad k.i k.invariant c.unpack-w.result is
     c.loop-i-test.true
     c.use_of-meaning.result
     c.is_unused.result
@@ -87,14 +81,14 @@ pub returns-in-Some-bad : goal.returns-in-Some-bad
 returns-in-Some-bad c =
     let k = c.loop-i in
     let a = c.args in
-    ended_bad a.speeds a.m a.code a.centred (words_in a.words.now a.places.now) a.count k.stands k.v k.bad k.i k.invariant c.in-Some-bad.place c.loop-i-test.false
+    ended_bad a.speeds a.m a.code a.centred (words_in a.words.now a.places.now) a.count k.v k.bad k.i k.invariant c.in-Some-bad.place c.loop-i-test.false
     c.in-Some-bad.is
 
 pub returns-in-None : goal.returns-in-None
 returns-in-None c =
     let k = c.loop-i in
     let a = c.args in
-    ended_fine a.speeds a.m a.code a.centred (words_in a.words.now a.places.now) a.count k.stands k.v k.bad k.i k.invariant c.loop-i-test.false
+    ended_fine a.speeds a.m a.code a.centred (words_in a.words.now a.places.now) a.count k.v k.bad k.i k.invariant c.loop-i-test.false
     c.in-None.is
     c.values_in.result
     c.values_in.ensures

@@ -2,10 +2,10 @@
 use Rattle.settings.specs.CycleWords.{under_by}
 use Rattle.settings.proofs.cycle_words.under_by.Goals as goal
 
-pub returns-then-g : goal.returns-then-g
+pub returns-then-is_some : goal.returns-then-is_some
 unfolding under_by
-returns-then-g c = rw c.if-g.true
+returns-then-is_some c = rw (← c.is_some.ensures, c.if-is_some.true)
 
-pub returns : goal.returns
+pub returns-else-is_some : goal.returns-else-is_some
 unfolding under_by
-returns c = rw c.if-g.false
+returns-else-is_some c = rw (← c.is_some.ensures, c.if-is_some.false)

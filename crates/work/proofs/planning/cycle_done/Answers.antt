@@ -4,4 +4,4 @@ use Rattle.work.proofs.planning.cycle_done.Goals as goal
 
 pub returns : goal.returns
 unfolding cycle_done
-returns c = rw c.end_stands.ensures
+returns c = rw (c.end_stands.ensures, c.is_some.ensures)

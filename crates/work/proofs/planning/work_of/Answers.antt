@@ -1,4 +1,5 @@
 -- `work::planning::work_of` meets its contract: by the code of the block.
+use Rattle.words.specs.Values.{worth}
 use Rattle.terms.proofs.Common.{refl, true, inl, inr}
 use Rattle.records.specs.declared.Record.TheVariants.{DW}
 use Rattle.blocks.specs.Motions.{moves_of}
@@ -15,7 +16,8 @@ returns-in-Calling c =
 
 pub returns-in-Dwelling : goal.returns-in-Dwelling
 unfolding moves_of
-returns-in-Dwelling c = rw c.in-Dwelling.is (makes_one true (DW c.args.v.p.v) c.one_work.ensures refl tt)
+returns-in-Dwelling c =
+    rw c.in-Dwelling.is (makes_one true (DW (worth c.args.v.p)) (rw (c.unwrap_or.ensures, c.zero.ensures.is) at c.one_work.ensures) refl tt)
 
 pub returns-in-Moving : goal.returns-in-Moving
 unfolding moves_of
