@@ -8,8 +8,8 @@ pub returns-in-Calling : goal.returns-in-Calling
 unfolding lacks_parameter
 returns-in-Calling c =
     elim c.in-Calling.is [
-      inl e ↦ rw e (missing_is c.is_none.result c.is_none.ensures)
-    | inr e ↦ rw e (missing_is c.is_none.result c.is_none.ensures)
+      | inl e ↦ rw e (missing_is c.is_none.result c.is_none.ensures)
+      | inr e ↦ rw e (missing_is c.is_none.result c.is_none.ensures)
     ]
 
 pub returns-in-Returning : goal.returns-in-Returning
