@@ -13,6 +13,9 @@ use settings::Modes;
 // first word that may not stand the rest is only looked through for what cannot be read. The words with a value go to the arrays, each packed in one number
 // with its place beside it. What else is kept stands in variables of its own and is put together at the end, so that nothing
 // is copied from word to word.
+// By itself, and not in the middle of the run's loop: there the compiler has too few registers left for these variables, and writes
+// most of them to memory and back at each byte (docs/SPEED.md, "In today's forms").
+#[inline(never)]
 pub fn read_words(
     s: &[u8],
     from: usize,

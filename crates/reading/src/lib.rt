@@ -78,13 +78,15 @@ pub fn item_at(s: &[u8], i: usize) -> Result<Item, Refusal>
     }
 }
 
+// No `matches!`: the other bytes are an arm, which an edit can get wrong.
 fn is_known(b: u8) -> bool
     ensures { result ≡ is_known b }
 {
-    matches!(
-        b,
-        b'F' | b'G' | b'I' | b'J' | b'K' | b'M' | b'N' | b'P' | b'R' | b'S' | b'X' | b'Y' | b'Z'
-    )
+    match b {
+        b'F' | b'G' | b'I' | b'J' | b'K' | b'M' | b'N' | b'P' | b'R' | b'S' | b'X' | b'Y' | b'Z' =>
+            true,
+        _ => false,
+    }
 }
 
 // The place of a capital letter in the alphabet, from 0. It is reckoned and not looked up, so that the letters that stood
