@@ -1,4 +1,4 @@
--- The worst fault: "8: Duplicate Sub-Program Some". Data with two openings of one number, however they are written, is
+-- The worst fault: "8: Duplicate Sub-Program Number". Data with two openings of one number, however they are written, is
 -- refused, and gives no record, under every setup, room and budget.
 -- The table of programs goes by the openings alone: the blocks between them do not count.
 use Rattle.std.specs.Prelude.{Result, Ok, Err, if◌then◌else◌}
